@@ -1,41 +1,40 @@
 -- The conditions that are known to be entailed at each depth.
-use Rattle.fd_solver.proofs.Prelude.{◌≡◌, ℕ, ◌+◌, ◌<◌, ◌≤◌, List, [], ◌∷◌, ◌++◌, length, length-append, sym, ◌∙◌, subst, arith, inl, inr, ◌⊎◌, slice_index_or, slice_set, get_or-set_same, get_or-set_other, cases_lt, length-set, Family, Arc, AreEntailed, Entailed, AreKnown, fixed}
-use Rattle.propagators.proofs.Entailing.{entailed_less}
+use Rattle.fd_solver.proofs.Prelude.{◌≡◌, ℕ, ◌+◌, ◌<◌, ◌≤◌, List, [], ◌∷◌, ◌++◌, length, length-append, sym, ◌∙◌, subst, arith, inl, inr, ◌⊎◌, slice_index_or, slice_set, get_or-set_same, get_or-set_other, cases_lt, length-set, Family, Arc, AreEntailed, Entailed, Plan, AreKnown, fixed}
+use Rattle.propagators.proofs.Entailing.{are_less}
 use Rattle.fd_solver.proofs.Narrowing.{fixed_within}
 
 -- one value was left to a variable
-pub entailed_fixed : (arcs : List Arc) (e : Entailed) (f g : Family) (v x : ℕ) → v < length f → g ≡ fixed f v x → AreEntailed arcs e f → AreEntailed arcs e g
-entailed_fixed arcs e f g v x low is are = subst (AreEntailed arcs e) (sym is)
-    (λ k a below there. entailed_less (slice_index_or arcs k a) f (fixed f v x) (fixed_within f v x low) (length-set f v _) (are k a below there))
+pub entailed_fixed : (arcs : List Arc) (plan : Plan) (e : Entailed) (f g : Family) (v x : ℕ) → v < length f → g ≡ fixed f v x → AreEntailed arcs plan e f → AreEntailed arcs plan e g
+entailed_fixed arcs plan e f g v x low is are = subst (AreEntailed arcs plan e) (sym is) (are_less arcs plan e f (fixed f v x) (fixed_within f v x low) (length-set f v _) are)
 
 -- at each depth down to one they are known, and the next one is written
-module _ (arcs : List Arc) (p : List ℕ) (at : ℕ) (depths : List Family) (a g : Family) (lists : List Entailed) (b e : Entailed) (place : at ≡ length p) (known : AreKnown arcs p depths lists) where
-  pub known_written : AreKnown arcs p (slice_set (slice_set depths (at + 1) a) (at + 1) g) (slice_set (slice_set lists (at + 1) b) (at + 1) e)
+module _ (arcs : List Arc) (plan : Plan) (p : List ℕ) (at : ℕ) (depths : List Family) (a g : Family) (lists : List Entailed) (b e : Entailed) (place : at ≡ length p) (known : AreKnown arcs plan p depths lists) where
+  pub known_written : AreKnown arcs plan p (slice_set (slice_set depths (at + 1) a) (at + 1) g) (slice_set (slice_set lists (at + 1) b) (at + 1) e)
   known_written = λ k d low.
-      subst (λ (h : Family). AreEntailed arcs (slice_index_or (slice_set (slice_set lists (at + 1) b) (at + 1) e) k d) h)
+      subst (λ (h : Family). AreEntailed arcs plan (slice_index_or (slice_set (slice_set lists (at + 1) b) (at + 1) e) k d) h)
       (sym (get_or-set_other (slice_set depths (at + 1) a) (at + 1) k g [] (λ e. omega arith) ∙ get_or-set_other depths (at + 1) k a [] (λ e. omega arith)))
-      (subst (λ (c : Entailed). AreEntailed arcs c (slice_index_or depths k []))
+      (subst (λ (c : Entailed). AreEntailed arcs plan c (slice_index_or depths k []))
       (sym (get_or-set_other (slice_set lists (at + 1) b) (at + 1) k e d (λ e. omega arith) ∙ get_or-set_other lists (at + 1) k b d (λ e. omega arith)))
       (known k d low))
 
-  pub known_deeper : (x : ℕ) → at + 1 < length depths → at + 1 < length lists → AreEntailed arcs e g → AreKnown arcs (p ++ x ∷ []) (slice_set (slice_set depths (at + 1) a) (at + 1) g) (slice_set (slice_set lists (at + 1) b) (at + 1) e)
+  pub known_deeper : (x : ℕ) → at + 1 < length depths → at + 1 < length lists → AreEntailed arcs plan e g → AreKnown arcs plan (p ++ x ∷ []) (slice_set (slice_set depths (at + 1) a) (at + 1) g) (slice_set (slice_set lists (at + 1) b) (at + 1) e)
   known_deeper x deep room new = λ k d low. go k d low (cases_lt k (at + 1))
     where
-      go : (k : ℕ) (d : Entailed) → k ≤ length (p ++ x ∷ []) → (k < at + 1) ⊎ (at + 1 ≤ k) → AreEntailed arcs (slice_index_or (slice_set (slice_set lists (at + 1) b) (at + 1) e) k d) (slice_index_or (slice_set (slice_set depths (at + 1) a) (at + 1) g) k [])
+      go : (k : ℕ) (d : Entailed) → k ≤ length (p ++ x ∷ []) → (k < at + 1) ⊎ (at + 1 ≤ k) → AreEntailed arcs plan (slice_index_or (slice_set (slice_set lists (at + 1) b) (at + 1) e) k d) (slice_index_or (slice_set (slice_set depths (at + 1) a) (at + 1) g) k [])
       go k d low (inl above) = known_written k d (omega arith)
       go k d low (inr here) =
           let same : at + 1 ≡ k = (let size = length-append p (x ∷ []) in omega arith) in
-          subst (λ (j : ℕ). AreEntailed arcs (slice_index_or (slice_set (slice_set lists (at + 1) b) (at + 1) e) j d) (slice_index_or (slice_set (slice_set depths (at + 1) a) (at + 1) g) j [])) same
-          (subst (λ (h : Family). AreEntailed arcs (slice_index_or (slice_set (slice_set lists (at + 1) b) (at + 1) e) (at + 1) d) h)
+          subst (λ (j : ℕ). AreEntailed arcs plan (slice_index_or (slice_set (slice_set lists (at + 1) b) (at + 1) e) j d) (slice_index_or (slice_set (slice_set depths (at + 1) a) (at + 1) g) j [])) same
+          (subst (λ (h : Family). AreEntailed arcs plan (slice_index_or (slice_set (slice_set lists (at + 1) b) (at + 1) e) (at + 1) d) h)
           (sym (get_or-set_same (slice_set depths (at + 1) a) (at + 1) g [] (let size = length-set depths (at + 1) a in omega arith)))
-          (subst (λ (c : Entailed). AreEntailed arcs c g)
+          (subst (λ (c : Entailed). AreEntailed arcs plan c g)
           (sym (get_or-set_same (slice_set lists (at + 1) b) (at + 1) e d (let size = length-set lists (at + 1) b in omega arith))) new))
 
-pub known_up : (arcs : List Arc) (q : List ℕ) (y : ℕ) (depths : List Family) (lists : List Entailed) → AreKnown arcs (q ++ y ∷ []) depths lists → AreKnown arcs q depths lists
-known_up arcs q y depths lists known = λ k d low. known k d (let size = length-append q (y ∷ []) in omega arith)
+pub known_up : (arcs : List Arc) (plan : Plan) (q : List ℕ) (y : ℕ) (depths : List Family) (lists : List Entailed) → AreKnown arcs plan (q ++ y ∷ []) depths lists → AreKnown arcs plan q depths lists
+known_up arcs plan q y depths lists known = λ k d low. known k d (let size = length-append q (y ∷ []) in omega arith)
 
-pub known_first : (arcs : List Arc) (depths : List Family) (lists : List Entailed) → ((d : Entailed) → AreEntailed arcs (slice_index_or lists 0 d) (slice_index_or depths 0 [])) → AreKnown arcs [] depths lists
-known_first arcs depths lists known = λ k d low. subst (λ (j : ℕ). AreEntailed arcs (slice_index_or lists j d) (slice_index_or depths j [])) (let e : 0 ≡ k = omega arith in e) (known d)
+pub known_first : (arcs : List Arc) (plan : Plan) (depths : List Family) (lists : List Entailed) → ((d : Entailed) → AreEntailed arcs plan (slice_index_or lists 0 d) (slice_index_or depths 0 [])) → AreKnown arcs plan [] depths lists
+known_first arcs plan depths lists known = λ k d low. subst (λ (j : ℕ). AreEntailed arcs plan (slice_index_or lists j d) (slice_index_or depths j [])) (let e : 0 ≡ k = omega arith in e) (known d)
 
-pub begun_known : (arcs : List Arc) (depths : List Family) (lists : List Entailed) (f : Family) (none d : Entailed) → 0 < length lists → ((arcs : List Arc) (f : Family) → AreEntailed arcs none f) → AreEntailed arcs (slice_index_or (slice_set lists 0 none) 0 d) (slice_index_or (slice_set depths 0 f) 0 [])
-begun_known arcs depths lists f none d some are = subst (λ (e : Entailed). AreEntailed arcs e (slice_index_or (slice_set depths 0 f) 0 [])) (sym (get_or-set_same lists 0 none d some)) (are arcs (slice_index_or (slice_set depths 0 f) 0 []))
+pub begun_known : (arcs : List Arc) (plan : Plan) (depths : List Family) (lists : List Entailed) (f : Family) (none d : Entailed) → 0 < length lists → ((arcs : List Arc) (plan : Plan) (f : Family) → AreEntailed arcs plan none f) → AreEntailed arcs plan (slice_index_or (slice_set lists 0 none) 0 d) (slice_index_or (slice_set depths 0 f) 0 [])
+begun_known arcs plan depths lists f none d some are = subst (λ (e : Entailed). AreEntailed arcs plan e (slice_index_or (slice_set depths 0 f) 0 [])) (sym (get_or-set_same lists 0 none d some)) (are arcs plan (slice_index_or (slice_set depths 0 f) 0 []))

@@ -32,6 +32,7 @@ pub use Rattle.propagators.specs.Entailed.{AreEntailed}
 pub use Rattle.propagators.specs.Families.{Arc, Family, IsLargest, IsSubfamily, arc_of, arcs_of, domain_of, has_family, is_arc_consistent, is_consistent, is_not_empty, largest, left_by, sets_on}
 pub use Rattle.propagators.specs.Supports.{AreSettled, IsFamilyOf, IsWithin}
 pub use Rattle.propagators.specs.declared.entailed.Entailed.{Entailed}
+pub use Rattle.propagators.specs.declared.plan.Plan.{Plan}
 pub use Rattle.fd_solver.specs.Outcomes.{IsOrder, alive_walk, is_alive, is_alive_in, outcome_by, outcome_from, outcome_of_candidate, search_outcome}
 pub use Rattle.fd_solver.specs.Ready.{AreKnown, AreReady, IsArranged, IsReady, Room, fixed}
 pub use Rattle.fd_solver.specs.declared.outcome.Outcome.TheVariants.{Absent, Found, Spent}

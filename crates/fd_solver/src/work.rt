@@ -62,11 +62,11 @@ fn narrow(
     requires plan { IsPlanOf cons.now.lang.now (arcs_of cons.now.lang.now cons.now.list.now cons.now.against) plan.now }
     requires doms { AreSome cons.now.lang.now doms.old }
     requires consistent { is_arc_consistent (arcs_of cons.now.lang.now cons.now.list.now cons.now.against) doms.old ≡ true }
-    requires entailed { AreEntailed (arcs_of cons.now.lang.now cons.now.list.now cons.now.against) entailed.old doms.old }
+    requires entailed { AreEntailed (arcs_of cons.now.lang.now cons.now.list.now cons.now.against) plan.now entailed.old doms.old }
     requires known { v < variable_count cons.now.lang.now }
     requires there { has (slice_index_or doms.old v []) x ≡ true }
     ensures alive { result ≡ true → IsPropagated cons.now.lang.now (arcs_of cons.now.lang.now cons.now.list.now cons.now.against) (fixed doms.old v x) doms.new }
-    ensures entailed { result ≡ true → AreEntailed (arcs_of cons.now.lang.now cons.now.list.now cons.now.against) entailed.new doms.new }
+    ensures entailed { result ≡ true → AreEntailed (arcs_of cons.now.lang.now cons.now.list.now cons.now.against) plan.now entailed.new doms.new }
     ensures dead { result ≡ false → RunsEmpty (arcs_of cons.now.lang.now cons.now.list.now cons.now.against) (fixed doms.old v x) }
 {
     if let Some(_only) = doms.only(v) {
@@ -149,7 +149,7 @@ impl Work {
         ensures plan { IsPlanOf cons.now.lang.now (arcs_of cons.now.lang.now cons.now.list.now cons.now.against) self.new.plan }
         ensures deep { variable_count cons.now.lang.now < length self.new.depths }
         ensures same { length self.new.entailed ≡ length self.new.depths }
-        ensures entailed { result ≡ true → (e : Entailed) → AreEntailed (arcs_of cons.now.lang.now cons.now.list.now cons.now.against) (slice_index_or self.new.entailed 0 e) (slice_index_or self.new.depths 0 []) }
+        ensures entailed { result ≡ true → (e : Entailed) → AreEntailed (arcs_of cons.now.lang.now cons.now.list.now cons.now.against) self.new.plan (slice_index_or self.new.entailed 0 e) (slice_index_or self.new.depths 0 []) }
         ensures ready { result ≡ true → IsReady cons.now.lang.now cons.now.list.now cons.now.against (replicate (variable_count cons.now.lang.now) None) (slice_index_or self.new.depths 0 []) }
         ensures dead { result ≡ false → has_family cons.now.lang.now cons.now.list.now cons.now.against (replicate (variable_count cons.now.lang.now) None) ≡ false }
     {
@@ -174,7 +174,7 @@ impl Work {
         ensures plan { IsPlanOf cons.now.lang.now (arcs_of cons.now.lang.now cons.now.list.now cons.now.against) self.new.plan }
         ensures deep { variable_count cons.now.lang.now < length self.new.depths }
         ensures same { length self.new.entailed ≡ length self.new.depths }
-        ensures entailed { result ≡ true → (e : Entailed) → AreEntailed (arcs_of cons.now.lang.now cons.now.list.now cons.now.against) (slice_index_or self.new.entailed 0 e) (slice_index_or self.new.depths 0 []) }
+        ensures entailed { result ≡ true → (e : Entailed) → AreEntailed (arcs_of cons.now.lang.now cons.now.list.now cons.now.against) self.new.plan (slice_index_or self.new.entailed 0 e) (slice_index_or self.new.depths 0 []) }
         ensures ready { result ≡ true → IsReady cons.now.lang.now cons.now.list.now cons.now.against (replicate (variable_count cons.now.lang.now) None) (slice_index_or self.new.depths 0 []) }
         ensures dead { result ≡ false → has_family cons.now.lang.now cons.now.list.now cons.now.against (replicate (variable_count cons.now.lang.now) None) ≡ false }
     {

@@ -24,7 +24,7 @@ cut_begin scope masks from = record {
 }
 
 -- members at two places differ
-member_at : (scope : List ℕ) (k : ℕ) → k < length scope → has scope (slice_index_or scope k 0) ≡ true
+pub member_at : (scope : List ℕ) (k : ℕ) → k < length scope → has scope (slice_index_or scope k 0) ≡ true
 member_at [] k low = absurd (omega arith)
 member_at (v ∷ scope) zero low = or_left _ _ (eq-eqb v v refl)
 member_at (v ∷ scope) (suc k) low = or_right _ _ (member_at scope k (omega arith))

@@ -1,8 +1,8 @@
 -- A consistent condition is entailed once all of its variables but one have one value.
-use Rattle.propagators.proofs.Prelude.{◌≡◌, ℕ, suc, ◌+◌, ◌-◌, ◌<◌, ◌≤◌, true, List, [], ◌∷◌, length, length-map, drop, get_or-drop, length-drop, cases_lt, HasOne, sym, ◌∙◌, ap, subst, arith, inl, inr, ◌⊎◌, ◌≢◌, cases_eq, slice_index_or, All, list_all, has, Family, Arc, sets_on, is_not_empty, is_consistent, IsSubfamily, IsThrough, IsWithin, IsRevised, IsEntailed, AreEntailed, is_noted_in, Entailed, IsAlmostFixed}
+use Rattle.propagators.proofs.Prelude.{◌≡◌, ℕ, suc, ◌+◌, ◌-◌, ◌<◌, ◌≤◌, true, List, [], ◌∷◌, length, length-map, drop, get_or-drop, length-drop, cases_lt, HasOne, sym, ◌∙◌, ap, subst, arith, inl, inr, ◌⊎◌, ◌≢◌, cases_eq, slice_index_or, All, list_all, has, Family, Arc, sets_on, is_not_empty, is_consistent, IsSubfamily, IsThrough, IsWithin, IsRevised, IsEntailed, AreEntailed, is_noted_in, Plan, Entailed, IsAlmostFixed}
 use Rattle.propagators.proofs.Pruned.{consistent, supporting}
 use Rattle.propagators.proofs.Replacing.{supported_through, through_supported, set_at, value_within, member_of_some, all_full}
-use Rattle.propagators.proofs.Entailing.{entailed_less}
+use Rattle.propagators.proofs.Entailing.{are_less, entailed_noted}
 
 -- a tuple within some sets is within others, where these have its values
 within_others : (f g : Family) (scope tuple : List ℕ) → ((j : ℕ) → j < length scope → has (slice_index_or f (slice_index_or scope j 0) []) (slice_index_or tuple j 0) ≡ true → has (slice_index_or g (slice_index_or scope j 0) []) (slice_index_or tuple j 0) ≡ true) →
@@ -86,11 +86,14 @@ fixed_but f scope j under before after = record { place = j; low = under; others
         (after (k - (j + 1)) (omega (arith, length-drop (j + 1) scope)))
 
 -- it is taken in
-pub fixed_taken_in : (arcs : List Arc) (e more : Entailed) (i : ℕ) (a : Arc) (f g : Family) → ((b : Arc) → slice_index_or arcs i b ≡ a) → All (λ v. v < length f) a.scope → IsRevised a f g →
-    ((k : ℕ) → is_noted_in more k ≡ true → (is_noted_in e k ≡ true) ⊎ ((k ≡ i) × IsAlmostFixed g a.scope)) → AreEntailed arcs e f → AreEntailed arcs more g
-fixed_taken_in arcs e more i a f g is known to noted are = λ k b low there. go k b low (noted k there)
+pub fixed_taken_in : (arcs : List Arc) (p : Plan) (e more : Entailed) (i : ℕ) (a : Arc) (f g : Family) → ((b : Arc) → slice_index_or arcs i b ≡ a) → All (λ v. v < length f) a.scope → IsRevised a f g →
+    ((k : ℕ) → is_noted_in more k ≡ true → (is_noted_in e k ≡ true) ⊎ ((k ≡ i) × IsAlmostFixed g a.scope)) → more.struck ≡ e.struck → AreEntailed arcs p e f → AreEntailed arcs p more g
+fixed_taken_in arcs p e more i a f g is known to noted same are = entailed_noted arcs p e more g less same (λ k b low there. go k b low (noted k there))
   where
+    less : AreEntailed arcs p e g
+    less = are_less arcs p e f g to.within to.size are
+
     go : (k : ℕ) (b : Arc) → k < length arcs → (is_noted_in e k ≡ true) ⊎ ((k ≡ i) × IsAlmostFixed g a.scope) → IsEntailed (slice_index_or arcs k b) g
-    go k b low (inl old) = entailed_less (slice_index_or arcs k b) f g to.within to.size (are k b low old)
+    go k b low (inl old) = less.noted k b low old
     go k b low (inr new) = subst (λ (c : Arc). IsEntailed c g) (sym (ap (λ j. slice_index_or arcs j b) new.0 ∙ is b))
         (fixed_entailed a g new.1 (subst (λ (n : ℕ). All (λ v. v < n) a.scope) (sym to.size) known) to.consistent)

@@ -1,10 +1,12 @@
 -- What is known of a list of candidates, and of one more condition.
-use Rattle.propagators.proofs.Prelude.{◌≡◌, ℕ, zero, suc, ◌+◌, ◌*◌, ◌/◌, ◌%◌, ◌<◌, ◌≤◌, Bool, true, false, ◌||◌, ◌-◌, List, [], ◌∷◌, ◌++◌, length, map, take, Option, Some, None, refl, sym, ◌∙◌, ap, subst, arith, inl, inr, ◌⊎◌, ◌==◌, slice_index_or, min, list_any, option_map_or, append-nil, length-map, length-append, get_or-take, get_or_append_left, get_or-append_right, length-take-le, take_at, same_lists, length-range_with_len, list_all-append, AllPass-from_list_all, and_parts, or_left, both_ways, cases_lt, eq-eqb, numbers, has, Candidate, Language, IsLanguage, IsCandidate, variable_count, values_of, scope_of, IsNetwork, AreConstraints, ones_of, Family, Arc, arc_of, arcs_of, is_consistent, is_arc_consistent, largest, AreSettled, IsBriefOf, bound_at, AreTakenIn, AreNarrow, IsPlanOf, IsSettledBut, IsPropagated, RunsEmpty, all_values, IsRoot, IsRootBefore, Brief}
+use Rattle.propagators.proofs.Prelude.{◌≡◌, ℕ, zero, suc, ◌+◌, ◌*◌, ◌/◌, ◌%◌, ◌<◌, ◌≤◌, Bool, true, false, ◌-◌, List, [], ◌∷◌, ◌++◌, length, map, take, Option, Some, None, refl, sym, ◌∙◌, ap, subst, arith, inl, inr, ◌⊎◌, slice_index_or, min, list_any, option_map_or, append-nil, length-map, length-append, get_or-take, get_or_append_left, get_or-append_right, length-take-le, take_at, same_lists, length-range_with_len, list_all-append, AllPass-from_list_all, and_parts, or_left, both_ways, cases_lt, eq-eqb, numbers, has, Candidate, Language, IsLanguage, IsCandidate, variable_count, values_of, scope_of, IsNetwork, AreConstraints, ones_of, Family, Arc, arc_of, arcs_of, is_consistent, is_arc_consistent, largest, AreSettled, IsApart, IsApartAt, IsBriefOf, bound_at, AreApart, AreTakenIn, AreNarrow, HasApart, IsParted, IsPlanOf, is_with, IsSettledBut, IsPropagated, RunsEmpty, all_values, IsRoot, IsRootBefore, Brief}
 use Rattle.propagators.specs.declared.plan.Plan.{Plan}
 use Rattle.propagators.proofs.Pruned.{largest_is}
 use Rattle.propagators.proofs.Living.{full_above, largest_long}
 use Rattle.propagators.proofs.Rounds.{sub_sub}
 use Rattle.propagators.proofs.Replacing.{member_place}
+use Rattle.propagators.proofs.Cutting.{member_at}
+use Rattle.propagators.proofs.Parting.{noted_few}
 use Rattle.propagators.proofs.Conditions.{arcs_small}
 
 -- ---- the conditions of a list, and one more
@@ -125,13 +127,15 @@ length_values l = length-map (numbers (variable_count l)) (values_of l) ∙ leng
 -- ---- plans
 
 -- a plan of the first conditions
-pub taken_front : (l : Language) (arcs : List Arc) (from : ℕ) (p : Plan) → from ≤ length arcs → length arcs ≤ length p.briefs.items → IsPlanOf l (take from arcs) p → AreTakenIn l arcs p.briefs.items p.sets.items p.limits.items from
+pub taken_front : (l : Language) (arcs : List Arc) (from : ℕ) (p : Plan) → from ≤ length arcs → length arcs ≤ length p.briefs.items → IsPlanOf l (take from arcs) p → AreTakenIn l arcs p.briefs.items p.sets.items p.limits.items p.aparts.items from
 taken_front l arcs from p some room is = record {
   briefs = λ k a b low. subst (λ (c : Arc). IsBriefOf l c (slice_index_or p.briefs.items k b)) (at k a low) (is.briefs k a b (omega arith) (within k low));
   limits = λ k j a b low below.
       subst (λ (c : Arc). bound_at (slice_index_or p.briefs.items k b) j ≤ slice_index_or p.limits.items (slice_index_or c.scope j 0) 0) (at k a low)
       (is.limits k j a b (omega arith) (within k low) (subst (λ (c : Arc). j < length c.scope) (sym (at k a low)) below));
-  noted = λ k v a low h. is.noted k v a (within k low) (let words = p.room in omega arith) (ap (λ (c : Arc). has c.scope v) (at k a low) ∙ h);
+  noted = λ k v a b low h. noted k b (is.noted k v a b (within k low) (let words = p.room in omega arith) (ap (λ (c : Arc). has c.scope v) (at k a low) ∙ h));
+  parted = λ k b low. is.parted k b (omega arith) (within k low);
+  apart = subst (AreApart p.briefs.items p.aparts.items) (let long = length-take-le from arcs some in omega arith) is.apart;
 }
   where
     at : (k : ℕ) (a : Arc) → k < from → slice_index_or (take from arcs) k a ≡ slice_index_or arcs k a
@@ -140,67 +144,87 @@ taken_front l arcs from p some room is = record {
     within : (k : ℕ) → k < from → k < length (take from arcs)
     within k low = (let long = length-take-le from arcs some in omega arith)
 
-pub taken_fewer : (l : Language) (arcs : List Arc) (bs : List Brief) (sets ls : List ℕ) (i j : ℕ) → j ≤ i → AreTakenIn l arcs bs sets ls i → AreTakenIn l arcs bs sets ls j
-taken_fewer l arcs bs sets ls i j fewer is = record {
-  briefs = λ k a b low. is.briefs k a b (omega arith);
-  limits = λ k j a b low. is.limits k j a b (omega arith);
-  noted = λ k v a low. is.noted k v a (omega arith);
-}
+    noted : {A : Type 0} (k : ℕ) (b : Brief) → A ⊎ ((k < length p.briefs.items) × IsApart (slice_index_or p.briefs.items k b)) → A ⊎ IsApart (slice_index_or p.briefs.items k b)
+    noted k b (inl there) = inl there
+    noted k b (inr apart) = inr apart.1
 
 -- other words may be cleared
-pub taken_cleared : (l : Language) (arcs : List Arc) (bs : List Brief) (sets cleared ls : List ℕ) (from : ℕ) → from ≤ length arcs → AreNarrow arcs →
-    ((k v : ℕ) → k < from → v < 128 → slice_index_or cleared (k / 64 * 128 + v) 0 ≡ slice_index_or sets (k / 64 * 128 + v) 0) → AreTakenIn l arcs bs sets ls from → AreTakenIn l arcs bs cleared ls from
-taken_cleared l arcs bs sets cleared ls from some narrow same is = record {
+pub taken_cleared : (l : Language) (arcs : List Arc) (bs : List Brief) (sets cleared ls aps : List ℕ) (from : ℕ) → from ≤ length arcs → AreNarrow arcs →
+    ((k v : ℕ) → k < from → v < 128 → slice_index_or cleared (k / 64 * 128 + v) 0 ≡ slice_index_or sets (k / 64 * 128 + v) 0) → AreTakenIn l arcs bs sets ls aps from → AreTakenIn l arcs bs cleared ls aps from
+taken_cleared l arcs bs sets cleared ls aps from some narrow same is = record {
   briefs = is.briefs;
   limits = is.limits;
-  noted = λ k v a low h. ap (λ (word : ℕ). has (ones_of word) (k % 64)) (same k v low (narrow k v a (omega arith) h)) ∙ is.noted k v a low h;
+  noted = λ k v a b low h. noted k v b (same k v low (narrow k v a (omega arith) h)) (is.noted k v a b low h);
+  parted = is.parted;
+  apart = is.apart;
 }
+  where
+    noted : (k v : ℕ) (b : Brief) → slice_index_or cleared (k / 64 * 128 + v) 0 ≡ slice_index_or sets (k / 64 * 128 + v) 0 → (is_with sets v k ≡ true) ⊎ IsApart (slice_index_or bs k b) → (is_with cleared v k ≡ true) ⊎ IsApart (slice_index_or bs k b)
+    noted k v b word (inl there) = inl (ap (λ (m : ℕ). has (ones_of m) (k % 64)) word ∙ there)
+    noted k v b word (inr apart) = inr apart
 
-pub taken_none : (l : Language) (arcs : List Arc) (bs : List Brief) (sets ls : List ℕ) → AreTakenIn l arcs bs sets ls 0
-taken_none l arcs bs sets ls = record {
+-- none is taken in, and no variable is with another one
+pub taken_none : (l : Language) (arcs : List Arc) (bs : List Brief) (sets ls aps : List ℕ) → ((v u : ℕ) → is_with aps v u ≡ true → ⊥) → AreTakenIn l arcs bs sets ls aps 0
+taken_none l arcs bs sets ls aps none = record {
   briefs = λ k a b low. absurd (omega arith);
   limits = λ k j a b low. absurd (omega arith);
-  noted = λ k v a low. absurd (omega arith);
+  noted = λ k v a b low. absurd (omega arith);
+  parted = λ k b low. absurd (omega arith);
+  apart = λ v u few h. absurd (none v u h);
 }
 
-pub taken_as : (l : Language) (arcs : List Arc) (bs bs_too : List Brief) (sets sets_too ls ls_too : List ℕ) (i : ℕ) → bs_too ≡ bs → sets_too ≡ sets → ls_too ≡ ls → AreTakenIn l arcs bs sets ls i → AreTakenIn l arcs bs_too sets_too ls_too i
-taken_as l arcs bs bs_too sets sets_too ls ls_too i briefs_is sets_is limits_is is =
-    subst (λ (xs : List Brief). AreTakenIn l arcs xs sets_too ls_too i) (sym briefs_is)
-    (subst (λ (xs : List ℕ). AreTakenIn l arcs bs xs ls_too i) (sym sets_is)
-    (subst (λ (xs : List ℕ). AreTakenIn l arcs bs sets xs i) (sym limits_is) is))
+pub taken_as : (l : Language) (arcs : List Arc) (bs bs_too : List Brief) (sets sets_too ls ls_too aps aps_too : List ℕ) (i : ℕ) → bs_too ≡ bs → sets_too ≡ sets → ls_too ≡ ls → aps_too ≡ aps → AreTakenIn l arcs bs sets ls aps i → AreTakenIn l arcs bs_too sets_too ls_too aps_too i
+taken_as l arcs bs bs_too sets sets_too ls ls_too aps aps_too i briefs_is sets_is limits_is aparts_is is =
+    subst (λ (xs : List Brief). AreTakenIn l arcs xs sets_too ls_too aps_too i) (sym briefs_is)
+    (subst (λ (xs : List ℕ). AreTakenIn l arcs bs xs ls_too aps_too i) (sym sets_is)
+    (subst (λ (xs : List ℕ). AreTakenIn l arcs bs sets xs aps_too i) (sym limits_is)
+    (subst (λ (xs : List ℕ). AreTakenIn l arcs bs sets ls xs i) (sym aparts_is) is)))
 
 -- a plan of all conditions
-pub plan_taken : (l : Language) (arcs : List Arc) (p : Plan) → length arcs ≤ length p.briefs.items → AreTakenIn l arcs p.briefs.items p.sets.items p.limits.items (min (length p.briefs.items) (length arcs)) → IsPlanOf l arcs p
+pub plan_taken : (l : Language) (arcs : List Arc) (p : Plan) → length arcs ≤ length p.briefs.items → AreTakenIn l arcs p.briefs.items p.sets.items p.limits.items p.aparts.items (min (length p.briefs.items) (length arcs)) → IsPlanOf l arcs p
 plan_taken l arcs p room is = record {
   briefs = λ k a b low below. is.briefs k a b (omega arith);
-  noted = λ k v a low below h. is.noted k v a (omega arith) h;
+  noted = λ k v a b low below h. noted_few p.briefs.items p.sets.items k v b (omega arith) (is.noted k v a b (omega arith) h);
   limits = λ k j a b low below inside. is.limits k j a b (omega arith) inside;
+  parted = λ k b low below. is.parted k b (omega arith);
+  apart = is.apart;
 }
 
 -- a copy of a plan, as far as it goes
-pub plan_copied : (l : Language) (arcs : List Arc) (p q : Plan) (count : ℕ) → length arcs ≤ count → count ≤ length p.briefs.items → AreNarrow arcs → q.words ≡ p.words →
+pub plan_copied : (l : Language) (arcs : List Arc) (p q : Plan) (count : ℕ) → length arcs ≤ count → count ≤ length p.briefs.items → count ≤ length q.briefs.items → AreNarrow arcs → q.words ≡ p.words →
     ((k : ℕ) (b : Brief) → k < count → slice_index_or q.briefs.items k b ≡ slice_index_or p.briefs.items k b) →
     ((i : ℕ) → i < 128 * (min (count / 64 + min 1 (count % 64)) p.words) → slice_index_or q.sets.items i 0 ≡ slice_index_or p.sets.items i 0) →
-    ((v : ℕ) → v < 128 → slice_index_or q.limits.items v 0 ≡ slice_index_or p.limits.items v 0) → IsPlanOf l arcs p → IsPlanOf l arcs q
-plan_copied l arcs p q count few room narrow words briefs sets limits is = record {
+    ((v : ℕ) → v < 128 → slice_index_or q.limits.items v 0 ≡ slice_index_or p.limits.items v 0) → ((i d : ℕ) → i < 128 * 2 → slice_index_or q.aparts.items i d ≡ slice_index_or p.aparts.items i d) → IsPlanOf l arcs p → IsPlanOf l arcs q
+plan_copied l arcs p q count few room there narrow words briefs sets limits aparts is = record {
   briefs = λ k a b low below. subst (IsBriefOf l (slice_index_or arcs k a)) (sym (briefs k b (omega arith))) (is.briefs k a b (omega arith) below);
-  noted = λ k v a low below h.
-      ap (λ (word : ℕ). has (ones_of word) (k % 64)) (sets (k / 64 * 128 + v) (let small = narrow k v a low h in let fits = p.room in omega arith)) ∙ is.noted k v a low (omega arith) h;
+  noted = λ k v a b low below h.
+      noted k v b (omega arith) (sets (k / 64 * 128 + v) (let small = narrow k v a low h in let fits = p.room in omega arith)) (briefs k b (omega arith)) (is.noted k v a b low (omega arith) h);
   limits = λ k j a b low below inside.
       let small : slice_index_or (slice_index_or arcs k a).scope j 0 < 128 = narrow k (slice_index_or (slice_index_or arcs k a).scope j 0) a below (member_at (slice_index_or arcs k a).scope j inside) in
       let old = is.limits k j a b (omega arith) below inside in
       let same = limits (slice_index_or (slice_index_or arcs k a).scope j 0) small in
       subst (λ (c : Brief). bound_at c j ≤ slice_index_or q.limits.items (slice_index_or (slice_index_or arcs k a).scope j 0) 0) (sym (briefs k b (omega arith))) (omega arith);
+  parted = λ k b low below.
+      subst (λ (xs : List ℕ). IsParted xs (slice_index_or q.briefs.items k b)) (sym beside) (subst (IsParted p.aparts.items) (sym (briefs k b (omega arith))) (is.parted k b (omega arith) below));
+  apart = λ v u small h. apart v u (is.apart v u small (ap (λ (xs : List ℕ). is_with xs v u) (sym beside) ∙ h));
 }
   where
-    member_at : (xs : List ℕ) (j : ℕ) → j < length xs → has xs (slice_index_or xs j 0) ≡ true
-    member_at [] j low = absurd (omega arith)
-    member_at (x ∷ xs) zero low = or_left _ _ (eq-eqb x x refl)
-    member_at (x ∷ xs) (suc j) low = later (x == slice_index_or xs j 0) (member_at xs j (omega arith))
-      where
-        later : (b : Bool) → has xs (slice_index_or xs j 0) ≡ true → (b || has xs (slice_index_or xs j 0)) ≡ true
-        later true h = refl
-        later false h = h
+    beside : q.aparts.items ≡ p.aparts.items
+    beside = same_lists q.aparts.items p.aparts.items (q.aparts_long ∙ sym p.aparts_long) (λ k d low. aparts k d (let long = q.aparts_long in omega arith))
+
+    noted : (k v : ℕ) (b : Brief) → k < length q.briefs.items → slice_index_or q.sets.items (k / 64 * 128 + v) 0 ≡ slice_index_or p.sets.items (k / 64 * 128 + v) 0 → slice_index_or q.briefs.items k b ≡ slice_index_or p.briefs.items k b →
+        (is_with p.sets.items v k ≡ true) ⊎ ((k < length p.briefs.items) × IsApart (slice_index_or p.briefs.items k b)) → (is_with q.sets.items v k ≡ true) ⊎ ((k < length q.briefs.items) × IsApart (slice_index_or q.briefs.items k b))
+    noted k v b low word brief (inl there) = inl (ap (λ (m : ℕ). has (ones_of m) (k % 64)) word ∙ there)
+    noted k v b low word brief (inr apart) = inr (low, subst IsApart (sym brief) apart.1)
+
+    apart : (v u : ℕ) → HasApart p.briefs.items (min (length p.briefs.items) (length arcs)) v u → HasApart q.briefs.items (min (length q.briefs.items) (length arcs)) v u
+    apart v u has_one =
+        let low = has_one.low in
+        record {
+          place = has_one.place;
+          low = omega arith;
+          is = λ b. subst (λ (c : Brief). IsApartAt c v u) (sym (briefs has_one.place b (omega arith))) (has_one.is b);
+        }
 
 -- ---- the list of an index
 

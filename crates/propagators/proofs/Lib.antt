@@ -17,6 +17,9 @@ pub mod Lazy
 pub mod Chains
 pub mod ByMasks
 pub mod Standing
+pub mod Striking
+pub mod Neighbours
+pub mod Parting
 pub mod Indexed
 pub mod Single
 pub mod Entailing

@@ -1,9 +1,10 @@
 -- The masks and the bounds of conditions on two variables, and the briefs that rest on them.
-use Rattle.propagators.proofs.Prelude.{◌≡◌, ℕ, ◌+◌, ◌*◌, ◌<◌, ◌≤◌, Bool, true, false, List, [], ◌∷◌, length, sym, ◌∙◌, ap, subst, arith, inl, inr, ◌⊎◌, ◌==◌, ◌≢◌, slice_index_or, slice_set, bit_at, get_or-set_same, get_or-set_other, cases_eq, and_parts, Relation, Language, go_together, rejected_of, first_bound, second_bound, is_running, is_chain, AreMasksOf, PairBounds, Arc, is_wanted, IsChain, IsBounded, by_table, AreSides, IsBriefOf, Brief}
+use Rattle.propagators.proofs.Prelude.{◌≡◌, ℕ, ◌+◌, ◌*◌, ◌<◌, ◌≤◌, Bool, true, false, not, ◌&&◌, List, [], ◌∷◌, length, refl, sym, ◌∙◌, ap, subst, arith, inl, inr, ◌⊎◌, ◌==◌, ◌≢◌, slice_index_or, slice_set, bit_at, get_or-set_same, get_or-set_other, cases_eq, eq-eqb, and_parts, filter, numbers, has, any_number, ones_of, Relation, Language, go_together, rejected_of, first_bound, second_bound, is_running, is_chain, AreMasksOf, PairBounds, Arc, is_wanted, IsChain, IsBounded, by_table, AreSides, IsBriefOf, Brief}
 use Rattle.language.proofs.PairMasking.{most_bound}
 use Rattle.language.proofs.Running.{running_between}
 use Rattle.propagators.proofs.Chains.{running_wanted}
 use Rattle.propagators.proofs.Loose.{rejected_same}
+use Rattle.propagators.proofs.Ones.{has-filter, has-ones_of}
 
 module _ (l : Language) (pairs : List Relation) (t : ℕ) (holding : Bool) where
   abbrev d : ℕ
@@ -76,3 +77,19 @@ briefs_next l arcs briefs i new here low is told old k a b below = go (cases_eq 
         (subst (λ (brief : Brief). IsBriefOf l here brief) (sym (get_or-set_same briefs i new b low)) told))
     go (inr other) =
         subst (λ (brief : Brief). IsBriefOf l (slice_index_or arcs k a) brief) (sym (get_or-set_other briefs i k new b other)) (old k a b (omega arith))
+
+-- ---- pairs of different values
+
+-- of the values those that go with x are the ones other than x
+pub tells_row : (d x all row only kept others : ℕ) (holding : Bool) → d ≤ 64 → ones_of all ≡ numbers d → ones_of only ≡ filter (λ y. x == y) (ones_of all) →
+    ((y : ℕ) → has (ones_of kept) y ≡ (has (ones_of all) y && is_wanted holding (bit_at row y == 1))) → ((y : ℕ) → has (ones_of others) y ≡ (has (ones_of all) y && is_wanted false (bit_at only y == 1))) →
+    kept ≡ others → (y : ℕ) → y < d → is_wanted holding (bit_at row y == 1) ≡ not (x == y)
+tells_row d x all row only kept others holding few all_is only_is kept_is others_is same y low =
+    sym (ap (λ b. b && is_wanted holding (bit_at row y == 1)) there) ∙ sym (kept_is y) ∙ ap (λ m. has (ones_of m) y) same ∙ others_is y
+    ∙ ap (λ b. b && not (bit_at only y == 1)) there ∙ ap not one
+  where
+    there : has (ones_of all) y ≡ true
+    there = ap (λ xs. has xs y) all_is ∙ any_number (λ z. z == y) d y low (eq-eqb y y refl)
+
+    one : (bit_at only y == 1) ≡ (x == y)
+    one = sym (has-ones_of only y (omega arith)) ∙ ap (λ xs. has xs y) only_is ∙ has-filter (λ z. x == z) (ones_of all) y ∙ ap (λ b. b && (x == y)) there

@@ -14,7 +14,7 @@ pub use Rattle.std.specs.Int.{bit_at, bit_not, w64}
 pub use Rattle.std.specs.Int.Count.{count_leading_zeros}
 pub use Rattle.std.specs.List.{filter, flat_map, fold, list_all, list_any, range_with_len}
 pub use Rattle.std.specs.Option.{option_map_or}
-pub use Rattle.std.specs.Prelude.{All, IfSome, bit_and, bit_or, count_ones, min, nat_le, nat_lt, slice_index, slice_index_or, slice_set, ◌==◌, ◌≢◌}
+pub use Rattle.std.specs.Prelude.{All, IfSome, IsSome, bit_and, bit_or, count_ones, min, nat_le, nat_lt, slice_index, slice_index_or, slice_set, ◌==◌, ◌≢◌}
 pub use Rattle.std.specs.Vec.{with_items}
 pub use Rattle.assign.proofs.Masks.{canonical, lacks, length-members_of, members_of-ones, rises_filter, rises_lower}
 pub use Rattle.assign.specs.SetLemmas.{filter_agree_from, has-members_of, has-set_where, has-set_where_above, is_one, is_one-or, is_one-pow, set_where-same}
@@ -30,15 +30,15 @@ pub use Rattle.language.specs.declared.masks.PairBounds.{PairBounds}
 pub use Rattle.rel_table.specs.Relation.{Relation, holds}
 pub use Rattle.rel_table.specs.Table.{TruthTable, truth_at}
 pub use Rattle.propagators.specs.Allowed.{AreConstraints}
-pub use Rattle.propagators.specs.Briefs.{AreBriefs, IsBriefOf, IsPairOf, arc_by, at_place, bound_at, by_pair}
+pub use Rattle.propagators.specs.Briefs.{AreBothOf, AreBriefs, IsApart, IsApartAt, IsApartOf, IsBriefOf, IsPairOf, TellsApart, arc_by, at_place, bound_at, by_pair}
 pub use Rattle.propagators.specs.Chains.{AreEnds, IsChain, IsRunning}
-pub use Rattle.propagators.specs.Entailed.{AreEntailed, HasOne, IsAlmostFixed, IsEntailed, is_noted_in}
+pub use Rattle.propagators.specs.Entailed.{AreEntailed, HasOne, IsAlmostFixed, IsEntailed, is_noted_in, is_struck}
 pub use Rattle.propagators.specs.Families.{Arc, Family, IsLargest, IsSubfamily, arc_of, arcs_of, families_within, has_support, is_arc_consistent, is_consistent, is_not_empty, is_supported, is_wanted, largest, left_by, prune, prune_from, pruned, selections, sets_on, size_of, subsets}
 pub use Rattle.propagators.specs.Indexes.{IsIndexOf, IsRoot, IsRootBefore, all_values, list_in}
 pub use Rattle.propagators.specs.Laws.{LargestAgain, LargestIs, LargestIsOne, LargestTells}
 pub use Rattle.propagators.specs.Loose.{HasMore, HasTwo, IsBounded}
 pub use Rattle.propagators.specs.Pairs.{AgreeInside, AreSides, IsBeside, IsNarrowed, IsOnly, IsValueOf, by_table, goes_by}
-pub use Rattle.propagators.specs.Plans.{AreLeft, AreLimits, AreNarrow, AreNoted, AreTakenIn, IsLooked, IsPlanOf}
+pub use Rattle.propagators.specs.Plans.{AreApart, AreLeft, AreLimits, AreLooked, AreNarrow, AreNoted, AreTakenIn, HasApart, IsLooked, IsParted, IsPlanOf, is_with}
 pub use Rattle.propagators.specs.Propagated.{IsPropagated, IsSettledBut, RunsEmpty}
 pub use Rattle.propagators.specs.Supports.{AreBelow, AreDifferent, AreFewer, AreSettled, AreSupported, AreSupportedBeside, DifferAt, HasNoTuple, HasTuple, IsCut, IsDead, IsFamilyOf, IsRevised, IsThrough, IsUnderway, IsWithin, continues, replaced}
 pub use Rattle.propagators.specs.ValueLemmas.{filter_front, mask_of-ones_of, ones_of-members_of}
@@ -46,3 +46,4 @@ unfoldable pub use Rattle.propagators.specs.Values.{ones_of}
 pub use Rattle.propagators.specs.declared.briefs.Brief.{Brief}
 pub use Rattle.propagators.specs.declared.briefs.Pair.{Pair}
 pub use Rattle.propagators.specs.declared.entailed.Entailed.{Entailed}
+pub use Rattle.propagators.specs.declared.plan.Plan.{Plan}

@@ -1,8 +1,8 @@
 -- Looking at the conditions of changed variables.
-use Rattle.propagators.proofs.Prelude.{◌≡◌, ℕ, ◌+◌, ◌-◌, ◌*◌, ◌/◌, ◌%◌, ◌<◌, ◌≤◌, Bool, true, false, ◌&&◌, ◌||◌, not, List, [], ◌∷◌, length, Some, refl, sym, ◌∙◌, ap, subst, arith, inl, inr, ◌⊎◌, ◌==◌, ◌≢◌, slice_index_or, slice_set, All, min, list_any, list_all, All-head, All-tail, get_or-set_same, get_or-set_other, or_left, or_right, both_ways, cases_eq, cases_lt, eq-eqb, eqb-true, ne_eqb, div-mul-add, mod-mul-add, has, union, without, least_of, Rises, IsSet, has-set_where, set_where-same, canonical, rises_lower, lacks, ones_of, bit_at, Family, Arc, is_consistent, is_not_empty, is_wanted, size_of, AreEntailed, Entailed, IsRevised, AreSettled, AreFewer, IsCut, IsUnderway, AreNoted, AreLeft, IsLooked}
+use Rattle.propagators.proofs.Prelude.{◌≡◌, ℕ, zero, suc, ◌+◌, ◌-◌, ◌*◌, ◌/◌, ◌%◌, ◌<◌, ◌≤◌, Bool, true, false, ◌&&◌, ◌||◌, not, List, [], ◌∷◌, length, Some, refl, sym, ◌∙◌, ap, subst, arith, inl, inr, ◌⊎◌, ◌==◌, ◌≢◌, slice_index_or, All, min, list_any, list_all, All-head, All-tail, both_ways, cases_eq, cases_lt, eq-eqb, eqb-true, ne_eqb, div-mul-add, mod-mul-add, has, union, without, least_of, Rises, IsSet, has-set_where, set_where-same, canonical, rises_lower, lacks, ones_of, bit_at, Family, Arc, is_consistent, is_not_empty, is_wanted, size_of, AreEntailed, Entailed, IsRevised, AreSettled, AreFewer, IsCut, IsUnderway, AreNoted, AreLeft, IsLooked, AreLooked, IsApart, is_with, Brief, Plan}
+use Rattle.propagators.specs.declared.briefs.Brief.TheVariants.{Other}
 use Rattle.propagators.proofs.Ones.{ones_of-zero, has-ones_of}
 use Rattle.propagators.proofs.Entailing.{entailed_now}
-use Rattle.propagators.proofs.Replacing.{member_place}
 use Rattle.propagators.proofs.Rounds.{stays_consistent, touch_union, underway_begin, underway_step, underway_more, AreSmall, no_members}
 
 none : Arc
@@ -79,16 +79,32 @@ pub record IsVisiting (arcs : List Arc) (begun : List ℕ) (from : Family) (done
 abbrev pub Lacks : List Arc → ℕ → ℕ → Type 0
 Lacks arcs v k = (a : Arc) → has (slice_index_or arcs k a).scope v ≡ false
 
+-- or it says that two variables differ
+abbrev pub IsAside : List Arc → List Brief → ℕ → ℕ → Type 0
+IsAside arcs briefs v k = Lacks arcs v k ⊎ ((b : Brief) → IsApart (slice_index_or briefs k b))
+
 -- the words before w are looked at
-abbrev pub IsBefore : List Arc → ℕ → ℕ → ℕ → Type 0
-IsBefore arcs v w k = (k < w * 64) ⊎ Lacks arcs v k
+abbrev pub IsBefore : List Arc → List Brief → ℕ → ℕ → ℕ → Type 0
+IsBefore arcs briefs v w k = (k < w * 64) ⊎ IsAside arcs briefs v k
 
 -- and word w, but for what is left of it
 abbrev pub IsGone : ℕ → ℕ → ℕ → Type 0
 IsGone w rest k = (b : ℕ) × (b < 64) × (k ≡ w * 64 + b) × (has (ones_of rest) b ≡ false)
 
-abbrev pub IsWithout : List Arc → ℕ → ℕ → ℕ → ℕ → Type 0
-IsWithout arcs v w rest k = IsBefore arcs v w k ⊎ IsGone w rest k
+abbrev pub IsWithout : List Arc → List Brief → ℕ → ℕ → ℕ → ℕ → Type 0
+IsWithout arcs briefs v w rest k = IsBefore arcs briefs v w k ⊎ IsGone w rest k
+
+-- an item of a list is the same, whatever stands for others
+pub same_item : {A : Type 0} (xs : List A) (k : ℕ) (a b : A) → k < length xs → slice_index_or xs k a ≡ slice_index_or xs k b
+same_item [] k a b low = absurd (omega arith)
+same_item (x ∷ xs) zero a b low = refl
+same_item (x ∷ xs) (suc k) a b low = same_item xs k a b (omega arith)
+
+pub left_more : (begun waiting next : List ℕ) (from f g : Family) → AreLeft begun waiting from f → AreLeft waiting next f g → AreLeft begun next from g
+left_more begun waiting next from f g (inl one) (inl two) = inl (two.0 ∙ one.0, two.1 ∙ one.1)
+left_more begun waiting next from f g (inl one) (inr two) = inr (let same = ap size_of one.1 in omega arith)
+left_more begun waiting next from f g (inr one) (inl two) = inr (let same = ap size_of two.1 in omega arith)
+left_more begun waiting next from f g (inr one) (inr two) = inr (omega arith)
 
 touch_without : (changed : List ℕ) (v : ℕ) (scope : List ℕ) → All (λ u. u < 128) scope → has scope v ≡ false → list_any (has (without changed v)) scope ≡ false → list_any (has changed) scope ≡ false
 touch_without changed v [] small lacking h = refl
@@ -111,22 +127,38 @@ touch_without changed v (u ∷ scope) small lacking h =
     keep true false e h = h
     keep false b e h = refl
 
-pub visit_begin : (arcs : List Arc) (changed : List ℕ) (v : ℕ) (f : Family) → AreSmall arcs → list_all is_not_empty f ≡ true → AreSettled arcs changed f → IsVisiting arcs (without changed v) f (IsBefore arcs v 0) (without changed v) f
+pub visit_begin : (arcs : List Arc) (changed : List ℕ) (v : ℕ) (f : Family) → AreSmall arcs → list_all is_not_empty f ≡ true → AreSettled arcs changed f → IsVisiting arcs (without changed v) f (Lacks arcs v) (without changed v) f
 visit_begin arcs changed v f small full settled = record {
   underway = underway_begin arcs f full;
   left = inl (refl, refl);
-  settled = λ k a low h is. go k a low h is;
+  settled = λ k a low h lacking. settled k a low (touch_without changed v (slice_index_or arcs k a).scope (small k a low) (lacking a) h);
+}
+
+-- what says that the variable differs from others was looked at
+pub visit_apart : (arcs : List Arc) (p : Plan) (v : ℕ) (begun waiting next : List ℕ) (from f g : Family) → IsVisiting arcs begun from (Lacks arcs v) waiting f → AreLooked arcs p v waiting next f g → IsVisiting arcs begun from (IsBefore arcs p.briefs.items v 0) next g
+visit_apart arcs p v begun waiting next from f g is to = record {
+  underway = underway_more arcs from f g is.underway to.underway;
+  left = left_more begun waiting next from f g is.left to.left;
+  settled = λ k a low h done. go k a low h done;
 }
   where
-    go : (k : ℕ) (a : Arc) → k < length arcs → list_any (has (without changed v)) (slice_index_or arcs k a).scope ≡ false → IsBefore arcs v 0 k → is_consistent f (slice_index_or arcs k a).scope (slice_index_or arcs k a).accepted ≡ true
-    go k a low h (inl never) = absurd (omega arith)
-    go k a low h (inr lacking) = settled k a low (touch_without changed v (slice_index_or arcs k a).scope (small k a low) (lacking a) h)
+    lacks : (k : ℕ) (a : Arc) → k < length arcs → list_any (has next) (slice_index_or arcs k a).scope ≡ false → Lacks arcs v k → is_consistent g (slice_index_or arcs k a).scope (slice_index_or arcs k a).accepted ≡ true
+    lacks k a low h lacking = to.stays k a low h (is.settled k a low (to.before k a low h) lacking)
 
--- what isn't in the word of the variable lacks it, but for what is entailed
-pub visit_word : (arcs : List Arc) (words v w : ℕ) (sets begun : List ℕ) (from : Family) (waiting : List ℕ) (f : Family) (noted known word : ℕ) (e : Entailed) → AreNoted arcs words sets → w < words → noted ≡ slice_index_or sets (w * 128 + v) 0 →
-    known ≡ slice_index_or e.words w 0 → ((y : ℕ) → has (ones_of word) y ≡ (has (ones_of noted) y && is_wanted false (bit_at known y == 1))) → AreEntailed arcs e f →
-    IsVisiting arcs begun from (IsBefore arcs v w) waiting f → IsVisiting arcs begun from (IsWithout arcs v w word) waiting f
-visit_word arcs words v w sets begun from waiting f noted known word e are_noted room at known_at goes are is = record {
+    go : (k : ℕ) (a : Arc) → k < length arcs → list_any (has next) (slice_index_or arcs k a).scope ≡ false → IsBefore arcs p.briefs.items v 0 k → is_consistent g (slice_index_or arcs k a).scope (slice_index_or arcs k a).accepted ≡ true
+    go k a low h (inl never) = absurd (omega arith)
+    go k a low h (inr (inl lacking)) = lacks k a low h lacking
+    go k a low h (inr (inr apart)) = pick (has (slice_index_or arcs k a).scope v) refl
+      where
+        pick : (q : Bool) → has (slice_index_or arcs k a).scope v ≡ q → is_consistent g (slice_index_or arcs k a).scope (slice_index_or arcs k a).accepted ≡ true
+        pick true e = to.here k a Other low e (apart Other) h
+        pick false e = lacks k a low h (λ b. ap (λ (c : Arc). has c.scope v) (same_item arcs k b a low) ∙ e)
+
+-- what isn't in the word of the variable lacks it, or says that two differ, but for what is entailed
+pub visit_word : (arcs : List Arc) (briefs : List Brief) (words v w : ℕ) (sets begun : List ℕ) (from : Family) (waiting : List ℕ) (f : Family) (noted known word : ℕ) (p : Plan) (e : Entailed) → AreNoted arcs briefs words sets → w < words → noted ≡ slice_index_or sets (w * 128 + v) 0 →
+    known ≡ slice_index_or e.words w 0 → ((y : ℕ) → has (ones_of word) y ≡ (has (ones_of noted) y && is_wanted false (bit_at known y == 1))) → AreEntailed arcs p e f →
+    IsVisiting arcs begun from (IsBefore arcs briefs v w) waiting f → IsVisiting arcs begun from (IsWithout arcs briefs v w word) waiting f
+visit_word arcs briefs words v w sets begun from waiting f noted known word p e are_noted room at known_at goes are is = record {
   underway = is.underway;
   left = is.left;
   settled = λ k a low h done. go k a low h done;
@@ -138,7 +170,7 @@ visit_word arcs words v w sets begun from waiting f noted known word e are_noted
     open_there true false false none same h = h
     open_there false q r none same h = refl
 
-    go : (k : ℕ) (a : Arc) → k < length arcs → list_any (has waiting) (slice_index_or arcs k a).scope ≡ false → IsWithout arcs v w word k → is_consistent f (slice_index_or arcs k a).scope (slice_index_or arcs k a).accepted ≡ true
+    go : (k : ℕ) (a : Arc) → k < length arcs → list_any (has waiting) (slice_index_or arcs k a).scope ≡ false → IsWithout arcs briefs v w word k → is_consistent f (slice_index_or arcs k a).scope (slice_index_or arcs k a).accepted ≡ true
     go k a low h (inl before) = is.settled k a low h before
     go k a low h (inr gone) = pick (has (ones_of known) gone.0) refl
       where
@@ -154,37 +186,35 @@ visit_word arcs words v w sets begun from waiting f noted known word e are_noted
         within : k < words * 64
         within = (let is = gone.2 in let b = gone.1 in omega arith)
 
-        lacking : has (ones_of noted) gone.0 ≡ false → (b : Arc) (q : Bool) → has (slice_index_or arcs k b).scope v ≡ q → q ≡ false
-        lacking none b false at_b = refl
-        lacking none b true at_b = absurd (both_ways _ none (ap (λ j. has (ones_of noted) j) (sym bit) ∙ ap (λ m. has (ones_of m) (k % 64)) (sym where_) ∙ are_noted k v b low within at_b))
+        apart : has (ones_of noted) gone.0 ≡ false → (b : Brief) → (is_with sets v k ≡ true) ⊎ ((k < length briefs) × IsApart (slice_index_or briefs k b)) → IsApart (slice_index_or briefs k b)
+        apart none b (inl there) = absurd (both_ways _ none (ap (λ j. has (ones_of noted) j) (sym bit) ∙ ap (λ m. has (ones_of m) (k % 64)) (sym where_) ∙ there))
+        apart none b (inr is) = is.1
+
+        aside : has (ones_of noted) gone.0 ≡ false → (q : Bool) → has (slice_index_or arcs k a).scope v ≡ q → IsAside arcs briefs v k
+        aside none false e = inl (λ b. ap (λ (c : Arc). has c.scope v) (same_item arcs k b a low) ∙ e)
+        aside none true e = inr (λ b. apart none b (are_noted k v a b low within e))
 
         pick : (q : Bool) → has (ones_of known) gone.0 ≡ q → is_consistent f (slice_index_or arcs k a).scope (slice_index_or arcs k a).accepted ≡ true
-        pick true there = entailed_now (slice_index_or arcs k a) f is.underway.full (are k a low
+        pick true there = entailed_now (slice_index_or arcs k a) f is.underway.full (are.noted k a low
             (ap (λ j. has (ones_of (slice_index_or e.words j 0)) (k % 64)) row ∙ ap (λ j. has (ones_of (slice_index_or e.words w 0)) j) bit ∙ ap (λ m. has (ones_of m) gone.0) (sym known_at) ∙ there))
-        pick false other = is.settled k a low h (inr (λ b. lacking
+        pick false other = is.settled k a low h (inr (aside
             (open_there (has (ones_of noted) gone.0) (has (ones_of known) gone.0) (bit_at known gone.0 == 1) other (sym (has-ones_of known gone.0 gone.1)) (sym (goes gone.0) ∙ gone.3))
-            b (has (slice_index_or arcs k b).scope v) refl))
+            (has (slice_index_or arcs k a).scope v) refl))
 
 -- one look more
-pub visit_look : (arcs : List Arc) (v w : ℕ) (begun : List ℕ) (from : Family) (rest later b i : ℕ) (waiting next : List ℕ) (f g : Family) →
+pub visit_look : (arcs : List Arc) (briefs : List Brief) (v w : ℕ) (begun : List ℕ) (from : Family) (rest later b i : ℕ) (waiting next : List ℕ) (f g : Family) →
     b < 64 → ((y : ℕ) → has (ones_of later) y ≡ (has (ones_of rest) y && not (b == y))) → i ≡ w * 64 + b →
-    IsVisiting arcs begun from (IsWithout arcs v w rest) waiting f → IsLooked arcs i waiting next f g → IsVisiting arcs begun from (IsWithout arcs v w later) next g
-visit_look arcs v w begun from rest later b i waiting next f g small goes at is to = record {
+    IsVisiting arcs begun from (IsWithout arcs briefs v w rest) waiting f → IsLooked arcs i waiting next f g → IsVisiting arcs begun from (IsWithout arcs briefs v w later) next g
+visit_look arcs briefs v w begun from rest later b i waiting next f g small goes at is to = record {
   underway = underway_more arcs from f g is.underway to.underway;
-  left = left is.left to.left;
+  left = left_more begun waiting next from f g is.left to.left;
   settled = λ k a low h done. go k a low h done;
 }
   where
-    left : AreLeft begun waiting from f → AreLeft waiting next f g → AreLeft begun next from g
-    left (inl one) (inl two) = inl (two.0 ∙ one.0, two.1 ∙ one.1)
-    left (inl one) (inr two) = inr (let same = ap size_of one.1 in omega arith)
-    left (inr one) (inl two) = inr (let same = ap size_of two.1 in omega arith)
-    left (inr one) (inr two) = inr (omega arith)
-
-    old : (k : ℕ) (a : Arc) → k < length arcs → list_any (has next) (slice_index_or arcs k a).scope ≡ false → IsWithout arcs v w rest k → is_consistent g (slice_index_or arcs k a).scope (slice_index_or arcs k a).accepted ≡ true
+    old : (k : ℕ) (a : Arc) → k < length arcs → list_any (has next) (slice_index_or arcs k a).scope ≡ false → IsWithout arcs briefs v w rest k → is_consistent g (slice_index_or arcs k a).scope (slice_index_or arcs k a).accepted ≡ true
     old k a low h done = to.stays k a low h (is.settled k a low (to.before k a low h) done)
 
-    go : (k : ℕ) (a : Arc) → k < length arcs → list_any (has next) (slice_index_or arcs k a).scope ≡ false → IsWithout arcs v w later k → is_consistent g (slice_index_or arcs k a).scope (slice_index_or arcs k a).accepted ≡ true
+    go : (k : ℕ) (a : Arc) → k < length arcs → list_any (has next) (slice_index_or arcs k a).scope ≡ false → IsWithout arcs briefs v w later k → is_consistent g (slice_index_or arcs k a).scope (slice_index_or arcs k a).accepted ≡ true
     go k a low h (inl before) = old k a low h (inl before)
     go k a low h (inr gone) = pick (cases_eq k i)
       where
@@ -203,15 +233,15 @@ visit_look arcs v w begun from rest later b i waiting next f g small goes at is 
         ))
 
 -- nothing is left of the word
-pub visit_next : (arcs : List Arc) (v w : ℕ) (begun : List ℕ) (from : Family) (rest : ℕ) (waiting : List ℕ) (f : Family) → rest ≡ 0 →
-    IsVisiting arcs begun from (IsWithout arcs v w rest) waiting f → IsVisiting arcs begun from (IsBefore arcs v (w + 1)) waiting f
-visit_next arcs v w begun from rest waiting f over is = record {
+pub visit_next : (arcs : List Arc) (briefs : List Brief) (v w : ℕ) (begun : List ℕ) (from : Family) (rest : ℕ) (waiting : List ℕ) (f : Family) → rest ≡ 0 →
+    IsVisiting arcs begun from (IsWithout arcs briefs v w rest) waiting f → IsVisiting arcs begun from (IsBefore arcs briefs v (w + 1)) waiting f
+visit_next arcs briefs v w begun from rest waiting f over is = record {
   underway = is.underway;
   left = is.left;
   settled = λ k a low h done. go k a low h done;
 }
   where
-    go : (k : ℕ) (a : Arc) → k < length arcs → list_any (has waiting) (slice_index_or arcs k a).scope ≡ false → IsBefore arcs v (w + 1) k → is_consistent f (slice_index_or arcs k a).scope (slice_index_or arcs k a).accepted ≡ true
+    go : (k : ℕ) (a : Arc) → k < length arcs → list_any (has waiting) (slice_index_or arcs k a).scope ≡ false → IsBefore arcs briefs v (w + 1) k → is_consistent f (slice_index_or arcs k a).scope (slice_index_or arcs k a).accepted ≡ true
     go k a low h (inr lacking) = is.settled k a low h (inl (inr lacking))
     go k a low h (inl before) = pick (cases_lt k (w * 64))
       where
@@ -219,8 +249,8 @@ visit_next arcs v w begun from rest waiting f over is = record {
         pick (inl earlier) = is.settled k a low h (inl (inl earlier))
         pick (inr late) = is.settled k a low h (inr (k - w * 64, omega arith, omega arith, ap (λ m. has (ones_of m) (k - w * 64)) over ∙ ap (λ xs. has xs (k - w * 64)) ones_of-zero))
 
-pub visit_end : (arcs : List Arc) (v w : ℕ) (begun : List ℕ) (from : Family) (waiting : List ℕ) (f : Family) → length arcs ≤ w * 64 → IsVisiting arcs begun from (IsBefore arcs v w) waiting f → AreSettled arcs waiting f
-visit_end arcs v w begun from waiting f all is = λ k a low h. is.settled k a low h (inl (omega arith))
+pub visit_end : (arcs : List Arc) (briefs : List Brief) (v w : ℕ) (begun : List ℕ) (from : Family) (waiting : List ℕ) (f : Family) → length arcs ≤ w * 64 → IsVisiting arcs begun from (IsBefore arcs briefs v w) waiting f → AreSettled arcs waiting f
+visit_end arcs briefs v w begun from waiting f all is = λ k a low h. is.settled k a low h (inl (omega arith))
 
 -- ---- all changed variables
 
@@ -252,38 +282,3 @@ visits_fall f g (u ∷ rest) next v few set least to = go to
     go : AreLeft (without (u ∷ rest) v) next f g → visits_left g next < visits_left f (u ∷ rest)
     go (inl is) = (let size = ap size_of is.1 in let long : length next ≡ length rest = ap length is.0 ∙ fewer in omega arith)
     go (inr less) = omega arith
-
--- ---- noting a condition
-
-pub set_grows : (sets : List ℕ) (at m x : ℕ) → at < length sets → ((y : ℕ) → has (ones_of m) y ≡ (has (ones_of (slice_index_or sets at 0)) y || (x == y))) → (q b : ℕ) → has (ones_of (slice_index_or sets q 0)) b ≡ true → has (ones_of (slice_index_or (slice_set sets at m) q 0)) b ≡ true
-set_grows sets at m x low is q b h = go (cases_eq q at)
-  where
-    go : (q ≡ at) ⊎ (q ≢ at) → has (ones_of (slice_index_or (slice_set sets at m) q 0)) b ≡ true
-    go (inl same) = ap (λ k. has (ones_of (slice_index_or (slice_set sets at m) k 0)) b) same ∙ ap (λ k. has (ones_of k) b) (get_or-set_same sets at m 0 low) ∙ is b ∙ or_left _ _ (ap (λ k. has (ones_of (slice_index_or sets k 0)) b) (sym same) ∙ h)
-    go (inr other) = ap (λ k. has (ones_of k) b) (get_or-set_other sets at q m 0 other) ∙ h
-
-pub set_there : (sets : List ℕ) (at m x : ℕ) → at < length sets → ((y : ℕ) → has (ones_of m) y ≡ (has (ones_of (slice_index_or sets at 0)) y || (x == y))) → has (ones_of (slice_index_or (slice_set sets at m) at 0)) x ≡ true
-set_there sets at m x low is = ap (λ k. has (ones_of k) x) (get_or-set_same sets at m 0 low) ∙ is x ∙ or_right _ _ (eq-eqb x x refl)
-
-pub noted_more : (scope : List ℕ) (words i index : ℕ) (sets : List ℕ) (at m v : ℕ) → at ≡ i / 64 * 128 + v → v ≡ slice_index_or scope index 0 → at < length sets →
-    ((y : ℕ) → has (ones_of m) y ≡ (has (ones_of (slice_index_or sets at 0)) y || (i % 64 == y))) →
-    ((j : ℕ) → j < index → has (ones_of (slice_index_or sets (i / 64 * 128 + slice_index_or scope j 0) 0)) (i % 64) ≡ true) →
-    (j : ℕ) → j < index + 1 → has (ones_of (slice_index_or (slice_set sets at m) (i / 64 * 128 + slice_index_or scope j 0) 0)) (i % 64) ≡ true
-noted_more scope words i index sets at m v place var low is old j below = go (cases_eq j index)
-  where
-    go : (j ≡ index) ⊎ (j ≢ index) → has (ones_of (slice_index_or (slice_set sets at m) (i / 64 * 128 + slice_index_or scope j 0) 0)) (i % 64) ≡ true
-    go (inl same) = ap (λ k. has (ones_of (slice_index_or (slice_set sets at m) k 0)) (i % 64)) (sym (place ∙ ap (λ u. i / 64 * 128 + u) (var ∙ ap (λ k. slice_index_or scope k 0) (sym same)))) ∙ set_there sets at m (i % 64) low is
-    go (inr other) = set_grows sets at m (i % 64) low is (i / 64 * 128 + slice_index_or scope j 0) (i % 64) (old j (omega arith))
-
-pub noted_next : (arcs : List Arc) (words i : ℕ) (scope sets more : List ℕ) → ((a : Arc) → (slice_index_or arcs i a).scope ≡ scope) →
-    ((q b : ℕ) → has (ones_of (slice_index_or sets q 0)) b ≡ true → has (ones_of (slice_index_or more q 0)) b ≡ true) →
-    ((j : ℕ) → j < length scope → has (ones_of (slice_index_or more (i / 64 * 128 + slice_index_or scope j 0) 0)) (i % 64) ≡ true) →
-    ((k v : ℕ) (a : Arc) → k < i → has (slice_index_or arcs k a).scope v ≡ true → has (ones_of (slice_index_or sets (k / 64 * 128 + v) 0)) (k % 64) ≡ true) →
-    (k v : ℕ) (a : Arc) → k < i + 1 → has (slice_index_or arcs k a).scope v ≡ true → has (ones_of (slice_index_or more (k / 64 * 128 + v) 0)) (k % 64) ≡ true
-noted_next arcs words i scope sets more is grows there old k v a low h = go (cases_eq k i)
-  where
-    go : (k ≡ i) ⊎ (k ≢ i) → has (ones_of (slice_index_or more (k / 64 * 128 + v) 0)) (k % 64) ≡ true
-    go (inr other) = grows (k / 64 * 128 + v) (k % 64) (old k v a (omega arith) h)
-    go (inl same) =
-        let at = member_place scope v (ap (λ (xs : List ℕ). has xs v) (sym (is a)) ∙ ap (λ j. has (slice_index_or arcs j a).scope v) (sym same) ∙ h) in
-        ap (λ j. has (ones_of (slice_index_or more (j / 64 * 128 + v) 0)) (j % 64)) same ∙ ap (λ u. has (ones_of (slice_index_or more (i / 64 * 128 + u) 0)) (i % 64)) (sym at.2) ∙ there at.0 at.1

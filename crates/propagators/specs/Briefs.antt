@@ -1,5 +1,5 @@
 -- What is known of a condition before the search.
-use Rattle.std.specs.Prelude.{ℕ, zero, suc, ◌≡◌, ◌<◌, Bool, List, [], ◌∷◌, length, slice_index_or}
+use Rattle.std.specs.Prelude.{ℕ, zero, suc, ◌≡◌, ◌<◌, ◌==◌, ◌⊎◌, Bool, not, List, [], ◌∷◌, length, slice_index_or}
 use Rattle.rel_table.specs.Relation.{Relation}
 use Rattle.language.specs.Language.{Language}
 use Rattle.language.specs.Pairs.{ArePairTables, IsPairTable}
@@ -9,7 +9,7 @@ use Rattle.propagators.specs.Loose.{IsBounded}
 use Rattle.propagators.specs.Pairs.{by_table, AgreeInside}
 use Rattle.propagators.specs.declared.briefs.Pair.{Pair}
 use Rattle.propagators.specs.declared.briefs.Brief.{Brief}
-use Rattle.propagators.specs.declared.briefs.Brief.TheVariants.{Two, Other}
+use Rattle.propagators.specs.declared.briefs.Brief.TheVariants.{Two, Apart, Other}
 
 -- what a pair says of two values by its table
 abbrev pub by_pair : Language → List Relation → Pair → List ℕ → Bool
@@ -28,8 +28,18 @@ pub record IsPairOf (l : Language) (a : Arc) (p : Pair) : Type 0 where
   pub agree : AgreeInside l a.scope (by_pair l pairs p) a.accepted
   pub bounds : IsBounded l.value_count (by_pair l pairs p) p.bounds
 
+-- a test of two values below d says that they differ
+abbrev pub TellsApart : ℕ → (List ℕ → Bool) → Type 0
+TellsApart d accepted = (x y : ℕ) → x < d → y < d → accepted (x ∷ y ∷ []) ≡ not (x == y)
+
+-- a condition that two variables differ
+pub record IsApartOf (l : Language) (a : Arc) (p : Pair) : Type 0 where
+  pub pair : IsPairOf l a p
+  pub apart : (pairs : List Relation) → ArePairTables l pairs → TellsApart l.value_count (by_pair l pairs p)
+
 abbrev pub IsBriefOf : Language → Arc → Brief → Type 0
 IsBriefOf l a (Two p) = IsPairOf l a p
+IsBriefOf l a (Apart p) = IsApartOf l a p
 IsBriefOf l a Other = Unit {0}
 
 -- the first conditions have theirs, as far as these go
@@ -44,9 +54,29 @@ at_place b (suc j) = b.second
 -- the same by a brief. What isn't known of another condition is as many as there may be.
 abbrev pub bound_at : Brief → ℕ → ℕ
 bound_at (Two p) j = at_place p.bounds j
+bound_at (Apart p) j = at_place p.bounds j
 bound_at Other j = 64
 
 -- a brief of two variables is one of this scope
 abbrev pub IsBriefOn : List ℕ → Brief → Type 0
 IsBriefOn scope (Two p) = scope ≡ p.first ∷ p.second ∷ []
+IsBriefOn scope (Apart p) = scope ≡ p.first ∷ p.second ∷ []
 IsBriefOn scope Other = Unit {0}
+
+-- ---- Conditions that two variables differ
+
+-- these are the two variables of a pair
+abbrev pub AreBothOf : Pair → ℕ → ℕ → Type 0
+AreBothOf p v u = ((v ≡ p.first) × (u ≡ p.second)) ⊎ ((v ≡ p.second) × (u ≡ p.first))
+
+-- the brief of such a condition
+abbrev pub IsApart : Brief → Type 0
+IsApart (Two p) = ⊥
+IsApart (Apart p) = Unit {0}
+IsApart Other = ⊥
+
+-- that of one on these two variables
+abbrev pub IsApartAt : Brief → ℕ → ℕ → Type 0
+IsApartAt (Two p) v u = ⊥
+IsApartAt (Apart p) v u = AreBothOf p v u
+IsApartAt Other v u = ⊥

@@ -5,6 +5,9 @@ use Rattle.assign.specs.Sets.{has}
 use Rattle.propagators.specs.Values.{ones_of}
 use Rattle.propagators.specs.Families.{Family, Arc, is_consistent, is_not_empty, IsSubfamily}
 use Rattle.propagators.specs.Pairs.{IsOnly}
+use Rattle.propagators.specs.Briefs.{IsApart}
+use Rattle.propagators.specs.declared.briefs.Brief.{Brief}
+use Rattle.propagators.specs.declared.plan.Plan.{Plan}
 use Rattle.propagators.specs.declared.entailed.Entailed.{Entailed}
 
 -- it is consistent whatever values of theirs the variables lose, where each keeps one
@@ -15,9 +18,14 @@ IsEntailed a f = (g : Family) → IsSubfamily g f → length g ≡ length f → 
 abbrev pub is_noted_in : Entailed → ℕ → Bool
 is_noted_in e k = has (ones_of (slice_index_or e.words (k / 64) 0)) (k % 64)
 
--- each that is among them is entailed
-abbrev pub AreEntailed : List Arc → Entailed → Family → Type 0
-AreEntailed arcs e f = (k : ℕ) (a : Arc) → k < length arcs → is_noted_in e k ≡ true → IsEntailed (slice_index_or arcs k a) f
+-- the variable is among those that are struck
+abbrev pub is_struck : Entailed → ℕ → Bool
+is_struck e v = has (ones_of (slice_index_or e.struck (v / 64) 0)) (v % 64)
+
+-- each condition that is among them is entailed, and so is each that says that a struck variable differs from another one
+pub record AreEntailed (arcs : List Arc) (p : Plan) (e : Entailed) (f : Family) : Type 0 where
+  pub noted : (k : ℕ) (a : Arc) → k < length arcs → is_noted_in e k ≡ true → IsEntailed (slice_index_or arcs k a) f
+  pub struck : (k v : ℕ) (a : Arc) (b : Brief) → k < length arcs → k < length p.briefs.items → is_struck e v ≡ true → has (slice_index_or arcs k a).scope v ≡ true → IsApart (slice_index_or p.briefs.items k b) → IsEntailed (slice_index_or arcs k a) f
 
 -- one member alone
 pub record HasOne (xs : List ℕ) : Type 0 where

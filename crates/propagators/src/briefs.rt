@@ -5,7 +5,7 @@ ghost use Rattle.language.specs.Language.{IsLanguage, IsCandidate, scope_of};
 ghost use Rattle.propagators.specs.Families.{arc_of};
 ghost use Rattle.propagators.specs.Briefs.{IsBriefOf, IsBriefOn, bound_at};
 
-use crate::pairs::bounds_of;
+use crate::pairs::{bounds_of, tells_apart};
 use language::{Candidate, Language, PairBounds};
 
 /// A condition on two variables.
@@ -27,6 +27,8 @@ pub struct Pair {
 pub enum Brief {
     /// It has two variables.
     Two(Pair),
+    /// It has two, and says that they differ.
+    Apart(Pair),
     /// It is another one.
     Other,
 }
@@ -43,13 +45,18 @@ pub(crate) fn brief_of(lang: &Language, c: Candidate, scope: &[u8], holding: boo
         return Brief::Other;
     }
     let table = lang.pair_table(c.scope, c.rel);
-    Brief::Two(Pair {
+    let pair = Pair {
         first: scope[0],
         second: scope[1],
         table,
         holding,
         bounds: bounds_of(lang, table, holding),
-    })
+    };
+    if tells_apart(lang, table, holding) {
+        Brief::Apart(pair)
+    } else {
+        Brief::Two(pair)
+    }
 }
 
 /// Raises a variable's limit to a bound.
@@ -71,6 +78,10 @@ pub(crate) fn raise_all(limits: &mut [u8], scope: &[u8], brief: Brief)
 {
     match brief {
         Brief::Two(pair) => {
+            raise(limits, pair.first, pair.bounds.first);
+            raise(limits, pair.second, pair.bounds.second);
+        }
+        Brief::Apart(pair) => {
             raise(limits, pair.first, pair.bounds.first);
             raise(limits, pair.second, pair.bounds.second);
         }

@@ -10,7 +10,7 @@ ghost use Rattle.propagators.specs.Loose.{HasTwo, HasMore};
 ghost use Rattle.propagators.specs.Pairs.{IsOnly};
 
 use crate::values::{
-    are_more, has_value, least_from, only_member, only_value, passing, values_between,
+    are_more, has_value, least_from, only_member, only_value, others, passing, values_between,
 };
 use language::Language;
 use std::marker::Model;
@@ -138,6 +138,16 @@ impl Domains {
         ensures { (x : ℕ) → has (ones_of result) x ≡ (has (slice_index_or self.now v []) x && is_wanted holding (bit_at row x == 1)) }
     {
         passing(self.sets[v as usize], row, holding)
+    }
+
+    /// The variable's values other than x.
+    #[inline]
+    pub(crate) fn others(&self, v: u8, x: u8) -> u64
+        requires known { v < length self.now }
+        requires small { x < 64 }
+        ensures { (y : ℕ) → has (ones_of result) y ≡ (has (slice_index_or self.now v []) y && not (x == y)) }
+    {
+        others(self.sets[v as usize], x)
     }
 
     /// The sets of a scope's variables.

@@ -2,7 +2,8 @@
 
 ghost use Rattle.std.specs.Prelude.{◌≡◌, ◌<◌, ◌⊎◌, ℕ, List, [], true, All, length, slice_index_or};
 ghost use Rattle.propagators.specs.Families.{Family, Arc};
-ghost use Rattle.propagators.specs.Entailed.{is_noted_in, AreEntailed, HasOne, IsAlmostFixed};
+ghost use Rattle.propagators.specs.declared.plan.Plan.{Plan};
+ghost use Rattle.propagators.specs.Entailed.{is_noted_in, is_struck, AreEntailed, HasOne, IsAlmostFixed};
 
 use crate::domains::Domains;
 use crate::values::add_value;
@@ -16,6 +17,8 @@ const WORDS: usize = 16;
 pub struct Entailed {
     /// Condition i is bit i % 64 of word i / 64.
     pub(crate) words: [u64; WORDS],
+    /// The variables whose one value is taken away from those that have to differ from them: variable v is bit v % 64 of word v / 64.
+    pub(crate) struck: [u64; 2],
 }
 
 /// Whether each variable of a scope has one value alone.
@@ -48,9 +51,12 @@ fn is_almost_fixed(doms: &Domains, scope: &[u8]) -> bool
 impl Entailed {
     /// No condition.
     pub fn none() -> Entailed
-        ensures { (arcs : List Arc) (f : Family) → AreEntailed arcs result f }
+        ensures { (arcs : List Arc) (p : Plan) (f : Family) → AreEntailed arcs p result f }
     {
-        Entailed { words: [0; WORDS] }
+        Entailed {
+            words: [0; WORDS],
+            struck: [0; 2],
+        }
     }
 
     /// Which of the 64 conditions from 64 w on are among them.
@@ -61,10 +67,31 @@ impl Entailed {
         if w < WORDS { self.words[w] } else { 0 }
     }
 
+    /// Which of the 64 variables from 64 h on are struck.
+    #[inline]
+    pub(crate) fn struck(&self, h: usize) -> u64
+        requires { h < 2 }
+        ensures { result ≡ slice_index_or self.now.struck h 0 }
+    {
+        self.struck[h]
+    }
+
+    /// Takes in a variable that is struck.
+    #[inline]
+    pub(crate) fn strike(&mut self, v: u8)
+        requires { v < 128 }
+        ensures noted { (k : ℕ) → is_noted_in self.new k ≡ is_noted_in self.old k }
+        ensures struck { (u : ℕ) → is_struck self.new u ≡ true → (is_struck self.old u ≡ true) ⊎ (u ≡ v) }
+    {
+        let h = usize::from(v / 64);
+        self.struck[h] = add_value(self.struck[h], v % 64);
+    }
+
     /// Takes in a condition, where there is room for it.
     #[inline]
     pub(crate) fn add(&mut self, i: usize)
-        ensures { (k : ℕ) → is_noted_in self.new k ≡ true → (is_noted_in self.old k ≡ true) ⊎ (k ≡ i) }
+        ensures noted { (k : ℕ) → is_noted_in self.new k ≡ true → (is_noted_in self.old k ≡ true) ⊎ (k ≡ i) }
+        ensures struck { self.new.struck ≡ self.old.struck }
     {
         let w = i / 64;
         if w < WORDS {
@@ -76,7 +103,8 @@ impl Entailed {
     pub(crate) fn add_fixed(&mut self, i: usize, doms: &Domains, scope: &[u8])
         requires known { All (λ v. v < length doms.now) scope.now }
         requires some { 0 < length scope.now }
-        ensures { (k : ℕ) → is_noted_in self.new k ≡ true → (is_noted_in self.old k ≡ true) ⊎ ((k ≡ i) × IsAlmostFixed doms.now scope.now) }
+        ensures noted { (k : ℕ) → is_noted_in self.new k ≡ true → (is_noted_in self.old k ≡ true) ⊎ ((k ≡ i) × IsAlmostFixed doms.now scope.now) }
+        ensures struck { self.new.struck ≡ self.old.struck }
     {
         if is_almost_fixed(doms, scope) {
             self.add(i);

@@ -14,7 +14,10 @@ pub struct Plan {
     /// So many words for each variable, the first ones of all variables, then the second ones and so on. Condition i is bit i % 64 of
     /// word i / 64 of each of its variables; words past the last condition's mean nothing.
     pub(crate) sets: Vec<u64>,
+    /// For each variable two words, laid out as in `sets`: the variables that have to differ from it. What says so stands in no set.
+    pub(crate) aparts: Vec<u64>,
     ghost long: { length sets.items ≡ 128 * words },
     ghost room: { length briefs.items ≤ words * 64 },
+    ghost aparts_long: { length aparts.items ≡ 128 * 2 },
     ghost limits_long: { length limits.items ≡ 128 },
 }

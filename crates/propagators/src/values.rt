@@ -86,6 +86,15 @@ pub(crate) fn without_value(values: u64, x: u8) -> u64
     values & !(1 << x)
 }
 
+/// The members other than x, which needn't be one.
+#[inline]
+pub(crate) fn others(values: u64, x: u8) -> u64
+    requires { x < 64 }
+    ensures { (y : ℕ) → has (ones_of result) y ≡ (has (ones_of values) y && not (x == y)) }
+{
+    values & !(1 << x)
+}
+
 /// No member but x.
 #[inline]
 pub(crate) fn only_value(values: u64, x: u8) -> u64

@@ -1,6 +1,6 @@
 //! Propagation with a plan: only the conditions of a changed variable are looked at.
 
-ghost use Rattle.std.specs.Prelude.{◌≡◌, ◌<◌, ◌≤◌, ◌+◌, ◌*◌, ◌/◌, ◌%◌, ◌==◌, ◌⊎◌, ℕ, List, [], true, false, All, IfSome, IfOk, None, length, min, take, slice_index_or};
+ghost use Rattle.std.specs.Prelude.{◌≡◌, ◌<◌, ◌≤◌, ◌+◌, ◌*◌, ◌/◌, ◌%◌, ◌==◌, ◌⊎◌, ℕ, List, [], true, false, All, IfSome, IfOk, IsSome, None, length, min, take, slice_index_or};
 ghost use Rattle.std.specs.Int.{bit_at};
 ghost use Rattle.std.specs.List.{list_all};
 ghost use Rattle.assign.specs.Sets.{has, without};
@@ -11,11 +11,12 @@ ghost use Rattle.propagators.specs.Families.{Family, Arc, arcs_of, is_not_empty,
 ghost use Rattle.propagators.specs.Supports.{AreBelow, IsFamilyOf};
 ghost use Rattle.propagators.specs.Loose.{HasTwo, HasMore};
 ghost use Rattle.propagators.specs.Pairs.{IsOnly, IsValueOf, IsBeside};
-ghost use Rattle.propagators.specs.Briefs.{IsPairOf, AreBriefs, arc_by};
+ghost use Rattle.propagators.specs.Briefs.{IsPairOf, AreBriefs, arc_by, AreBothOf, IsApart, IsApartAt};
 ghost use Rattle.rel_table.specs.Relation.{Relation};
 ghost use Rattle.language.specs.Pairs.{ArePairTables, IsPairTable};
-ghost use Rattle.propagators.specs.Entailed.{AreEntailed};
-ghost use Rattle.propagators.specs.Plans.{IsPlanOf, AreNoted, AreLimits, AreTakenIn, AreNarrow, IsLooked};
+ghost use Rattle.propagators.specs.declared.plan.Plan.{Plan};
+ghost use Rattle.propagators.specs.Entailed.{AreEntailed, IsEntailed, is_noted_in, is_struck};
+ghost use Rattle.propagators.specs.Plans.{IsPlanOf, is_with, IsParted, AreApart, AreLooked, AreNoted, AreLimits, AreTakenIn, AreNarrow, IsLooked};
 ghost use Rattle.propagators.specs.Propagated.{AreSome, IsSettledBut, IsPropagated, RunsEmpty, IsWholePlanOf, IsVisited};
 
 use crate::briefs::{Brief, Pair, brief_of, raise_all};
@@ -29,13 +30,14 @@ use assign::VarSet;
 use language::Language;
 use std::alloc::{AllocError, Global};
 
-/// Notes a condition with the variables of its scope.
+/// Notes a condition, or a variable, with the variables of a scope.
 fn note(sets: &mut [u64], words: usize, scope: &[u8], i: usize)
     requires long { length sets.old ≡ 128 * words }
     requires low { i < words * 64 }
     requires known { All (λ v. v < 128) scope.now }
     ensures grows { (q b : ℕ) → has (ones_of (slice_index_or sets.old q 0)) b ≡ true → has (ones_of (slice_index_or sets.new q 0)) b ≡ true }
-    ensures there { (j : ℕ) → j < length scope.now → has (ones_of (slice_index_or sets.new (i / 64 * 128 + slice_index_or scope.now j 0) 0)) (i % 64) ≡ true }
+    ensures there { (j : ℕ) → j < length scope.now → is_with sets.new (slice_index_or scope.now j 0) i ≡ true }
+    ensures only { (v k : ℕ) → v < 128 → is_with sets.new v k ≡ true → (is_with sets.old v k ≡ true) ⊎ ((k ≡ i) × (has scope.now v ≡ true)) }
 {
     for v in scope {
         let at = i / 64 * 128 + usize::from(*v);
@@ -58,12 +60,12 @@ fn clear_sets(sets: &mut [u64], words: usize, from: usize, count: usize, n: u8)
 }
 
 /// Notes the conditions from one on with their variables, as far as there is room.
-fn note_rest(cons: &Constraints, sets: &mut [u64], words: usize, from: usize)
+fn note_rest(cons: &Constraints, briefs: &[Brief], sets: &mut [u64], words: usize, from: usize)
     requires lawful { IsLanguage cons.now.lang.now }
     requires constraints { AreConstraints cons.now.lang.now cons.now.list.now cons.now.against }
     requires long { length sets.old ≡ 128 * words }
-    requires first { (k v : ℕ) (a : Arc) → k < from → has (slice_index_or (arcs_of cons.now.lang.now cons.now.list.now cons.now.against) k a).scope v ≡ true → has (ones_of (slice_index_or sets.old (k / 64 * 128 + v) 0)) (k % 64) ≡ true }
-    ensures { AreNoted (arcs_of cons.now.lang.now cons.now.list.now cons.now.against) words sets.new }
+    requires first { (k v : ℕ) (a : Arc) (b : Brief) → k < from → has (slice_index_or (arcs_of cons.now.lang.now cons.now.list.now cons.now.against) k a).scope v ≡ true → (is_with sets.old v k ≡ true) ⊎ ((k < length briefs.now) × IsApart (slice_index_or briefs.now k b)) }
+    ensures { AreNoted (arcs_of cons.now.lang.now cons.now.list.now cons.now.against) briefs.now words sets.new }
 {
     for i in from..cons.count().min(words * 64) {
         let (c, _holding) = cons.condition(i);
@@ -71,14 +73,28 @@ fn note_rest(cons: &Constraints, sets: &mut [u64], words: usize, from: usize)
     }
 }
 
-/// Takes in the conditions from one on, as many as there is room for: each has its brief, is noted with its variables, and raises
-/// their limits to its bounds.
+/// Notes that two variables have to differ.
+fn part(aparts: &mut [u64], pair: Pair)
+    requires long { length aparts.old ≡ 128 * 2 }
+    requires first { pair.first < 128 }
+    requires second { pair.second < 128 }
+    ensures grows { (q b : ℕ) → has (ones_of (slice_index_or aparts.old q 0)) b ≡ true → has (ones_of (slice_index_or aparts.new q 0)) b ≡ true }
+    ensures there { (is_with aparts.new pair.first pair.second ≡ true) × (is_with aparts.new pair.second pair.first ≡ true) }
+    ensures only { (v u : ℕ) → v < 128 → is_with aparts.new v u ≡ true → (is_with aparts.old v u ≡ true) ⊎ AreBothOf pair v u }
+{
+    note(aparts, 2, &[pair.first], usize::from(pair.second));
+    note(aparts, 2, &[pair.second], usize::from(pair.first));
+}
+
+/// Takes in the conditions from one on, as many as there is room for: each has its brief, and raises the limits of its variables to
+/// its bounds. One that says that two variables differ is noted with these, the others in the sets.
 fn take_in(
     cons: &Constraints,
     briefs: &mut [Brief],
     sets: &mut [u64],
     words: usize,
     limits: &mut [u8],
+    aparts: &mut [u64],
     from: usize,
 )
     requires lawful { IsLanguage cons.now.lang.now }
@@ -86,15 +102,20 @@ fn take_in(
     requires long { length sets.old ≡ 128 * words }
     requires room { length briefs.old ≤ words * 64 }
     requires wide { length limits.old ≡ 128 }
-    requires front { AreTakenIn cons.now.lang.now (arcs_of cons.now.lang.now cons.now.list.now cons.now.against) briefs.old sets.old limits.old from }
-    ensures { AreTakenIn cons.now.lang.now (arcs_of cons.now.lang.now cons.now.list.now cons.now.against) briefs.new sets.new limits.new (min (length briefs.new) (length (arcs_of cons.now.lang.now cons.now.list.now cons.now.against))) }
+    requires two { length aparts.old ≡ 128 * 2 }
+    requires some { from ≤ min (length briefs.old) (length (arcs_of cons.now.lang.now cons.now.list.now cons.now.against)) }
+    requires front { AreTakenIn cons.now.lang.now (arcs_of cons.now.lang.now cons.now.list.now cons.now.against) briefs.old sets.old limits.old aparts.old from }
+    ensures { AreTakenIn cons.now.lang.now (arcs_of cons.now.lang.now cons.now.list.now cons.now.against) briefs.new sets.new limits.new aparts.new (min (length briefs.new) (length (arcs_of cons.now.lang.now cons.now.list.now cons.now.against))) }
 {
     let end = briefs.len().min(cons.count());
     for i in from..end {
         let (c, holding) = cons.condition(i);
         let scope = cons.lang.scope(c.scope);
-        note(sets, words, scope, i);
         let brief = brief_of(cons.lang, c, scope, holding);
+        match brief {
+            Brief::Apart(pair) => part(aparts, pair),
+            _ => note(sets, words, scope, i),
+        }
         briefs[i] = brief;
         raise_all(limits, scope, brief);
     }
@@ -108,21 +129,26 @@ fn arrange_all(
     sets: &mut [u64],
     words: usize,
     limits: &mut [u8],
+    aparts: &mut [u64],
 )
     requires lawful { IsLanguage cons.now.lang.now }
     requires constraints { AreConstraints cons.now.lang.now cons.now.list.now cons.now.against }
     requires long { length sets.old ≡ 128 * words }
     requires room { length briefs.old ≤ words * 64 }
     requires wide { length limits.old ≡ 128 }
+    requires two { length aparts.old ≡ 128 * 2 }
     ensures briefs { AreBriefs cons.now.lang.now (arcs_of cons.now.lang.now cons.now.list.now cons.now.against) briefs.new }
     ensures limits { AreLimits (arcs_of cons.now.lang.now cons.now.list.now cons.now.against) briefs.new limits.new }
-    ensures noted { AreNoted (arcs_of cons.now.lang.now cons.now.list.now cons.now.against) words sets.new }
+    ensures noted { AreNoted (arcs_of cons.now.lang.now cons.now.list.now cons.now.against) briefs.new words sets.new }
+    ensures parted { (k : ℕ) (b : Brief) → k < length briefs.new → k < length (arcs_of cons.now.lang.now cons.now.list.now cons.now.against) → IsParted aparts.new (slice_index_or briefs.new k b) }
+    ensures apart { AreApart briefs.new aparts.new (min (length briefs.new) (length (arcs_of cons.now.lang.now cons.now.list.now cons.now.against))) }
 {
     clear_sets(sets, words, 0, cons.count(), cons.lang.n());
     limits.fill(0);
-    take_in(cons, briefs, sets, words, limits, 0);
+    aparts.fill(0);
+    take_in(cons, briefs, sets, words, limits, aparts, 0);
     let end = briefs.len().min(cons.count());
-    note_rest(cons, sets, words, end);
+    note_rest(cons, briefs, sets, words, end);
 }
 
 /// Takes over the first items of another list, so many.
@@ -146,6 +172,7 @@ impl Plan {
             limits: vec![in alloc; 0; 128]?,
             words,
             sets: vec![in alloc; 0; 128 * words]?,
+            aparts: vec![in alloc; 0; 128 * 2]?,
         })
     }
 
@@ -161,6 +188,7 @@ impl Plan {
             &mut self.sets,
             self.words,
             &mut self.limits,
+            &mut self.aparts,
         );
     }
 }
@@ -189,6 +217,7 @@ impl Plan {
             &mut self.sets,
             self.words,
             &mut self.limits,
+            &mut self.aparts,
             from,
         );
     }
@@ -205,6 +234,7 @@ impl Plan {
         copy_front(&mut self.briefs, &other.briefs, count);
         copy_front(&mut self.sets, &other.sets, 128 * used);
         copy_front(&mut self.limits, &other.limits, 128);
+        copy_front(&mut self.aparts, &other.aparts, 128 * 2);
     }
 
     /// Makes the plan one of these conditions, where another one is one of those of the list.
@@ -292,7 +322,7 @@ fn look_at_other(
     requires low { i < length (arcs_of cons.now.lang.now cons.now.list.now cons.now.against) }
     requires doms { AreSome cons.now.lang.now doms.old }
     ensures looked { result ≡ Alive.Yes → IsLooked (arcs_of cons.now.lang.now cons.now.list.now cons.now.against) i waiting.old waiting.new doms.old doms.new }
-    ensures entailed { result ≡ Alive.Yes → AreEntailed (arcs_of cons.now.lang.now cons.now.list.now cons.now.against) entailed.old doms.old → AreEntailed (arcs_of cons.now.lang.now cons.now.list.now cons.now.against) entailed.new doms.new }
+    ensures entailed { result ≡ Alive.Yes → (p : Plan) → AreEntailed (arcs_of cons.now.lang.now cons.now.list.now cons.now.against) p entailed.old doms.old → AreEntailed (arcs_of cons.now.lang.now cons.now.list.now cons.now.against) p entailed.new doms.new }
     ensures dead { result ≡ Alive.No → RunsEmpty (arcs_of cons.now.lang.now cons.now.list.now cons.now.against) doms.old }
 {
     let (c, holding) = cons.condition(i);
@@ -360,7 +390,7 @@ fn look_at_pair(
     requires low { i < length (arcs_of cons.now.lang.now cons.now.list.now cons.now.against) }
     requires doms { AreSome cons.now.lang.now doms.old }
     ensures looked { result ≡ Alive.Yes → IsLooked (arcs_of cons.now.lang.now cons.now.list.now cons.now.against) i waiting.old waiting.new doms.old doms.new }
-    ensures entailed { result ≡ Alive.Yes → AreEntailed (arcs_of cons.now.lang.now cons.now.list.now cons.now.against) entailed.old doms.old → AreEntailed (arcs_of cons.now.lang.now cons.now.list.now cons.now.against) entailed.new doms.new }
+    ensures entailed { result ≡ Alive.Yes → AreEntailed (arcs_of cons.now.lang.now cons.now.list.now cons.now.against) plan.now entailed.old doms.old → AreEntailed (arcs_of cons.now.lang.now cons.now.list.now cons.now.against) plan.now entailed.new doms.new }
     ensures dead { result ≡ Alive.No → RunsEmpty (arcs_of cons.now.lang.now cons.now.list.now cons.now.against) doms.old }
 {
     // More values of each are left than one of the other rejects.
@@ -415,7 +445,7 @@ fn look_at(
     requires count { count ≡ length (arcs_of cons.now.lang.now cons.now.list.now cons.now.against) }
     requires doms { AreSome cons.now.lang.now doms.old }
     ensures looked { result ≡ Alive.Yes → IsLooked (arcs_of cons.now.lang.now cons.now.list.now cons.now.against) i waiting.old waiting.new doms.old doms.new }
-    ensures entailed { result ≡ Alive.Yes → AreEntailed (arcs_of cons.now.lang.now cons.now.list.now cons.now.against) entailed.old doms.old → AreEntailed (arcs_of cons.now.lang.now cons.now.list.now cons.now.against) entailed.new doms.new }
+    ensures entailed { result ≡ Alive.Yes → AreEntailed (arcs_of cons.now.lang.now cons.now.list.now cons.now.against) plan.now entailed.old doms.old → AreEntailed (arcs_of cons.now.lang.now cons.now.list.now cons.now.against) plan.now entailed.new doms.new }
     ensures dead { result ≡ Alive.No → RunsEmpty (arcs_of cons.now.lang.now cons.now.list.now cons.now.against) doms.old }
 {
     if i >= count {
@@ -423,6 +453,7 @@ fn look_at(
     }
     match &plan.briefs[i] {
         Brief::Two(pair) => look_at_pair(cons, plan, pair, i, v, value, doms, entailed, waiting),
+        Brief::Apart(pair) => look_at_pair(cons, plan, pair, i, v, value, doms, entailed, waiting),
         Brief::Other => look_at_other(cons, i, doms, entailed, waiting),
     }
 }
@@ -433,6 +464,130 @@ fn value_of(lang: &Language, doms: &Domains, v: u8) -> Option<u8>
     ensures { IfSome result (IsValueOf doms.now v) }
 {
     if v < lang.n() { doms.only(v) } else { None }
+}
+
+/// Takes x, which is v's one value, away from u, where a condition says that these two differ. u is waiting then, unless it has
+/// more values than its limit; `No` where none is left to it.
+#[inline]
+fn strike(
+    cons: &Constraints,
+    plan: &Plan,
+    v: u8,
+    x: u8,
+    u: u8,
+    doms: &mut Domains,
+    waiting: &mut VarSet,
+) -> Alive
+    requires lawful { IsLanguage cons.now.lang.now }
+    requires constraints { AreConstraints cons.now.lang.now cons.now.list.now cons.now.against }
+    requires plan { IsWholePlanOf cons.now.lang.now (arcs_of cons.now.lang.now cons.now.list.now cons.now.against) plan.now }
+    requires doms { AreSome cons.now.lang.now doms.old }
+    requires value { IsValueOf doms.old v x }
+    requires apart { is_with plan.now.aparts.items v u ≡ true }
+    ensures looked { result ≡ Alive.Yes → (k : ℕ) → k < length plan.now.briefs.items → k < length (arcs_of cons.now.lang.now cons.now.list.now cons.now.against) → ((b : Brief) → IsApartAt (slice_index_or plan.now.briefs.items k b) v u) → IsLooked (arcs_of cons.now.lang.now cons.now.list.now cons.now.against) k waiting.old waiting.new doms.old doms.new }
+    ensures entailed { result ≡ Alive.Yes → (k : ℕ) (a : Arc) → k < length plan.now.briefs.items → k < length (arcs_of cons.now.lang.now cons.now.list.now cons.now.against) → ((b : Brief) → IsApartAt (slice_index_or plan.now.briefs.items k b) v u) → IsEntailed (slice_index_or (arcs_of cons.now.lang.now cons.now.list.now cons.now.against) k a) doms.new }
+    ensures dead { result ≡ Alive.No → RunsEmpty (arcs_of cons.now.lang.now cons.now.list.now cons.now.against) doms.old }
+{
+    let values = doms.others(u, x);
+    if is_empty(values) {
+        return Alive::No;
+    }
+    if !doms.cut(u, values) {
+        return Alive::Yes;
+    }
+    let limit = plan.limits[usize::from(u)];
+    if limit == 1 {
+        if doms.has_more(u, 1) {
+            return Alive::Yes;
+        }
+    } else if doms.has_more(u, limit) {
+        return Alive::Yes;
+    }
+    *waiting = waiting.with(u);
+    Alive::Yes
+}
+
+/// Looks at what says that v and u differ. Where v has one value, it is known already.
+#[inline]
+fn look_at_two(
+    cons: &Constraints,
+    plan: &Plan,
+    v: u8,
+    value: Option<u8>,
+    u: u8,
+    doms: &mut Domains,
+    waiting: &mut VarSet,
+) -> Alive
+    requires lawful { IsLanguage cons.now.lang.now }
+    requires constraints { AreConstraints cons.now.lang.now cons.now.list.now cons.now.against }
+    requires plan { IsWholePlanOf cons.now.lang.now (arcs_of cons.now.lang.now cons.now.list.now cons.now.against) plan.now }
+    requires doms { AreSome cons.now.lang.now doms.old }
+    requires value { IfSome value (IsValueOf doms.old v) }
+    requires known { v < 128 }
+    requires apart { is_with plan.now.aparts.items v u ≡ true }
+    ensures looked { result ≡ Alive.Yes → (k : ℕ) → k < length plan.now.briefs.items → k < length (arcs_of cons.now.lang.now cons.now.list.now cons.now.against) → ((b : Brief) → IsApartAt (slice_index_or plan.now.briefs.items k b) v u) → IsLooked (arcs_of cons.now.lang.now cons.now.list.now cons.now.against) k waiting.old waiting.new doms.old doms.new }
+    ensures entailed { result ≡ Alive.Yes → IfSome value (λ x. (k : ℕ) (a : Arc) → k < length plan.now.briefs.items → k < length (arcs_of cons.now.lang.now cons.now.list.now cons.now.against) → ((b : Brief) → IsApartAt (slice_index_or plan.now.briefs.items k b) v u) → IsEntailed (slice_index_or (arcs_of cons.now.lang.now cons.now.list.now cons.now.against) k a) doms.new) }
+    ensures dead { result ≡ Alive.No → RunsEmpty (arcs_of cons.now.lang.now cons.now.list.now cons.now.against) doms.old }
+{
+    if let Some(x) = value {
+        return strike(cons, plan, v, x, u, doms, waiting);
+    }
+    if let Some(x) = doms.only(v) {
+        return strike(cons, plan, v, x, u, doms, waiting);
+    }
+    if let Some(y) = doms.only(u) {
+        return strike(cons, plan, u, y, v, doms, waiting);
+    }
+    Alive::Yes
+}
+
+/// Looks at what says that a changed variable differs from others, but for those that are struck.
+#[inline]
+fn look_apart(
+    cons: &Constraints,
+    plan: &Plan,
+    doms: &mut Domains,
+    entailed: &Entailed,
+    v: u8,
+    value: Option<u8>,
+    waiting: &mut VarSet,
+) -> Alive
+    requires lawful { IsLanguage cons.now.lang.now }
+    requires constraints { AreConstraints cons.now.lang.now cons.now.list.now cons.now.against }
+    requires plan { IsWholePlanOf cons.now.lang.now (arcs_of cons.now.lang.now cons.now.list.now cons.now.against) plan.now }
+    requires doms { AreSome cons.now.lang.now doms.old }
+    requires value { IfSome value (IsValueOf doms.old v) }
+    requires known { v < 128 }
+    requires entailed { AreEntailed (arcs_of cons.now.lang.now cons.now.list.now cons.now.against) plan.now entailed.now doms.old }
+    ensures looked { result ≡ Alive.Yes → AreLooked (arcs_of cons.now.lang.now cons.now.list.now cons.now.against) plan.now v waiting.old waiting.new doms.old doms.new }
+    ensures entailed { result ≡ Alive.Yes → IfSome value (λ x. (k : ℕ) (a : Arc) → k < length (arcs_of cons.now.lang.now cons.now.list.now cons.now.against) → has (slice_index_or (arcs_of cons.now.lang.now cons.now.list.now cons.now.against) k a).scope v ≡ true → ((c : Brief) → IsApart (slice_index_or plan.now.briefs.items k c)) → IsEntailed (slice_index_or (arcs_of cons.now.lang.now cons.now.list.now cons.now.against) k a) doms.new) }
+    ensures dead { result ≡ Alive.No → RunsEmpty (arcs_of cons.now.lang.now cons.now.list.now cons.now.against) doms.old }
+{
+    for h in 0..2 {
+        let beside = plan.aparts[h * 128 + usize::from(v)];
+        let mut rest = passing(beside, entailed.struck(h), false);
+        while rest != 0 {
+            let b = least_value(rest);
+            rest = without_value(rest, b);
+            match look_at_two(cons, plan, v, value, h as u8 * 64 + b, doms, waiting) {
+                Alive::No => return Alive::No,
+                Alive::Yes => {}
+            }
+        }
+    }
+    Alive::Yes
+}
+
+/// Takes in a variable with one value among those that are struck.
+#[inline]
+fn note_struck(entailed: &mut Entailed, v: u8, value: Option<u8>)
+    requires { v < 128 }
+    ensures noted { (k : ℕ) → is_noted_in entailed.new k ≡ is_noted_in entailed.old k }
+    ensures struck { (u : ℕ) → is_struck entailed.new u ≡ true → (is_struck entailed.old u ≡ true) ⊎ ((u ≡ v) × IsSome value) }
+{
+    if let Some(_x) = value {
+        entailed.strike(v);
+    }
 }
 
 /// Looks at the conditions of a changed variable, but for those that are entailed. Says which variables are waiting then; `None`
@@ -450,15 +605,20 @@ fn visit(
     requires constraints { AreConstraints cons.now.lang.now cons.now.list.now cons.now.against }
     requires plan { IsWholePlanOf cons.now.lang.now (arcs_of cons.now.lang.now cons.now.list.now cons.now.against) plan.now }
     requires doms { IsSettledBut cons.now.lang.now (arcs_of cons.now.lang.now cons.now.list.now cons.now.against) changed doms.old }
-    requires entailed { AreEntailed (arcs_of cons.now.lang.now cons.now.list.now cons.now.against) entailed.old doms.old }
+    requires entailed { AreEntailed (arcs_of cons.now.lang.now cons.now.list.now cons.now.against) plan.now entailed.old doms.old }
     requires count { count ≡ length (arcs_of cons.now.lang.now cons.now.list.now cons.now.against) }
     requires known { v < 128 }
     ensures visited { IfSome result (λ next. IsVisited (arcs_of cons.now.lang.now cons.now.list.now cons.now.against) (without changed v) next doms.old doms.new) }
-    ensures entailed { IfSome result (λ next. AreEntailed (arcs_of cons.now.lang.now cons.now.list.now cons.now.against) entailed.new doms.new) }
+    ensures entailed { IfSome result (λ next. AreEntailed (arcs_of cons.now.lang.now cons.now.list.now cons.now.against) plan.now entailed.new doms.new) }
     ensures dead { result ≡ None → RunsEmpty (arcs_of cons.now.lang.now cons.now.list.now cons.now.against) doms.old }
 {
     let mut waiting = changed.without(v);
     let value = value_of(cons.lang, doms, v);
+    match look_apart(cons, plan, doms, entailed, v, value, &mut waiting) {
+        Alive::No => return None,
+        Alive::Yes => {}
+    }
+    note_struck(entailed, v, value);
     for w in 0..count.div_ceil(64) {
         let noted = plan.sets[w * 128 + usize::from(v)];
         let mut rest = passing(noted, entailed.word(w), false);
@@ -496,9 +656,9 @@ fn visit_all(
     requires constraints { AreConstraints cons.now.lang.now cons.now.list.now cons.now.against }
     requires plan { IsWholePlanOf cons.now.lang.now (arcs_of cons.now.lang.now cons.now.list.now cons.now.against) plan.now }
     requires doms { IsSettledBut cons.now.lang.now (arcs_of cons.now.lang.now cons.now.list.now cons.now.against) changed doms.old }
-    requires entailed { AreEntailed (arcs_of cons.now.lang.now cons.now.list.now cons.now.against) entailed.old doms.old }
+    requires entailed { AreEntailed (arcs_of cons.now.lang.now cons.now.list.now cons.now.against) plan.now entailed.old doms.old }
     ensures alive { result ≡ Alive.Yes → IsPropagated cons.now.lang.now (arcs_of cons.now.lang.now cons.now.list.now cons.now.against) doms.old doms.new }
-    ensures entailed { result ≡ Alive.Yes → AreEntailed (arcs_of cons.now.lang.now cons.now.list.now cons.now.against) entailed.new doms.new }
+    ensures entailed { result ≡ Alive.Yes → AreEntailed (arcs_of cons.now.lang.now cons.now.list.now cons.now.against) plan.now entailed.new doms.new }
     ensures dead { result ≡ Alive.No → RunsEmpty (arcs_of cons.now.lang.now cons.now.list.now cons.now.against) doms.old }
 {
     let count = cons.count();
@@ -526,9 +686,9 @@ pub fn propagate_beside(
     requires constraints { AreConstraints cons.now.lang.now cons.now.list.now cons.now.against }
     requires plan { IsPlanOf cons.now.lang.now (arcs_of cons.now.lang.now cons.now.list.now cons.now.against) plan.now }
     requires doms { IsSettledBut cons.now.lang.now (arcs_of cons.now.lang.now cons.now.list.now cons.now.against) changed doms.old }
-    requires entailed { AreEntailed (arcs_of cons.now.lang.now cons.now.list.now cons.now.against) entailed.old doms.old }
+    requires entailed { AreEntailed (arcs_of cons.now.lang.now cons.now.list.now cons.now.against) plan.now entailed.old doms.old }
     ensures alive { result ≡ Alive.Yes → IsPropagated cons.now.lang.now (arcs_of cons.now.lang.now cons.now.list.now cons.now.against) doms.old doms.new }
-    ensures entailed { result ≡ Alive.Yes → AreEntailed (arcs_of cons.now.lang.now cons.now.list.now cons.now.against) entailed.new doms.new }
+    ensures entailed { result ≡ Alive.Yes → AreEntailed (arcs_of cons.now.lang.now cons.now.list.now cons.now.against) plan.now entailed.new doms.new }
     ensures dead { result ≡ Alive.No → RunsEmpty (arcs_of cons.now.lang.now cons.now.list.now cons.now.against) doms.old }
 {
     if cons.count() <= plan.briefs.len() {

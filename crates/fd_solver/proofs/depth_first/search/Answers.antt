@@ -9,7 +9,7 @@ pub walk-requires-clause-ready : goal.walk-requires-clause-ready
 walk-requires-clause-ready c = record {
   depths = ready_first c.args.cons.now.lang.now c.args.cons.now.list.now c.args.cons.now.against c.args.order.now c.begin.new.self.depths
       (subst (λ e. IsReady c.args.cons.now.lang.now c.args.cons.now.list.now c.args.cons.now.against e (slice_index_or c.begin.new.self.depths 0 [])) (assigned_blank (variable_count c.args.cons.now.lang.now) c.args.order.now c.requires.order) (c.begin.ensures.ready c.if-begin.true));
-  entailed = known_first (arcs_of c.args.cons.now.lang.now c.args.cons.now.list.now c.args.cons.now.against) c.begin.new.self.depths c.begin.new.self.entailed (c.begin.ensures.entailed c.if-begin.true);
+  entailed = known_first (arcs_of c.args.cons.now.lang.now c.args.cons.now.list.now c.args.cons.now.against) c.begin.new.self.plan c.begin.new.self.depths c.begin.new.self.entailed (c.begin.ensures.entailed c.if-begin.true);
   plan = c.begin.ensures.plan;
   deep = c.begin.ensures.deep;
   same = c.begin.ensures.same;

@@ -9,7 +9,7 @@ pub walk-requires-clause-ready : goal.walk-requires-clause-ready
 walk-requires-clause-ready c = record {
   depths = ready_first c.args.cons.now.lang.now c.args.cons.now.list.now c.args.cons.now.against c.args.order.now c.begin_with.new.self.depths
       (subst (λ e. IsReady c.args.cons.now.lang.now c.args.cons.now.list.now c.args.cons.now.against e (slice_index_or c.begin_with.new.self.depths 0 [])) (assigned_blank (variable_count c.args.cons.now.lang.now) c.args.order.now c.requires.order) (c.begin_with.ensures.ready c.if-begin_with.true));
-  entailed = known_first (arcs_of c.args.cons.now.lang.now c.args.cons.now.list.now c.args.cons.now.against) c.begin_with.new.self.depths c.begin_with.new.self.entailed (c.begin_with.ensures.entailed c.if-begin_with.true);
+  entailed = known_first (arcs_of c.args.cons.now.lang.now c.args.cons.now.list.now c.args.cons.now.against) c.begin_with.new.self.plan c.begin_with.new.self.depths c.begin_with.new.self.entailed (c.begin_with.ensures.entailed c.if-begin_with.true);
   plan = c.begin_with.ensures.plan;
   deep = c.begin_with.ensures.deep;
   same = c.begin_with.ensures.same;

@@ -81,5 +81,5 @@ loop-x-preserved c =
     let cleared = c.clear.ensures ∙ ap (λ k. slice_set c.loop-x.e (slice_index_or c.args.order.now k 0) None) c.len-else-x-d-2.ensures in (
       rw cleared (up c.args.cons.now.lang.now c.args.cons.now.list.now c.args.cons.now.against c.args.order.now c.requires.order c.args.budget c.loop-x.e c.loop-x.stack c.next_value-x.result c.loop-x.left (moved c.args.cons.now.lang.now c.args.cons.now.list.now c.args.cons.now.against c.args.order.now c.requires.order c.args.budget c.loop-x.e c.loop-x.stack c.loop-x.x c.loop-x.left c.loop-x.invariant.0 c.next_value-x.result c.next_value-x.ensures.from c.next_value-x.ensures.within c.next_value-x.ensures.dead) c.pop-x.new.self c.pop-x.result (let next = c.next_value-x.ensures.within in let d = c.d-d.ensures.is in let past = c.if-x-d.false in omega arith) c.pop-x.ensures),
       (let popped = subst (λ (p : List ℕ). IsArranged c.args.cons.now.lang.now c.args.cons.now.list.now c.args.cons.now.against c.args.order.now p c.loop-x.work) c.pop-x.ensures c.loop-x.invariant.1 in
-          record { depths = ready_up c.args.cons.now.lang.now c.args.cons.now.list.now c.args.cons.now.against c.args.order.now c.pop-x.new.self c.pop-x.result c.loop-x.work.depths popped.depths; entailed = known_up (arcs_of c.args.cons.now.lang.now c.args.cons.now.list.now c.args.cons.now.against) c.pop-x.new.self c.pop-x.result c.loop-x.work.depths c.loop-x.work.entailed popped.entailed; plan = popped.plan; deep = popped.deep; same = popped.same }),
+          record { depths = ready_up c.args.cons.now.lang.now c.args.cons.now.list.now c.args.cons.now.against c.args.order.now c.pop-x.new.self c.pop-x.result c.loop-x.work.depths popped.depths; entailed = known_up (arcs_of c.args.cons.now.lang.now c.args.cons.now.list.now c.args.cons.now.against) c.loop-x.work.plan c.pop-x.new.self c.pop-x.result c.loop-x.work.depths c.loop-x.work.entailed popped.entailed; plan = popped.plan; deep = popped.deep; same = popped.same }),
     )

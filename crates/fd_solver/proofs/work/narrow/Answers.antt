@@ -20,5 +20,5 @@ returns-in-Some-clause-alive c = λ e.
 
 pub propagate_beside-requires-clause-entailed : goal.propagate_beside-requires-clause-entailed
 propagate_beside-requires-clause-entailed c =
-    entailed_fixed (arcs_of c.args.cons.now.lang.now c.args.cons.now.list.now c.args.cons.now.against) c.args.entailed.now c.args.doms.now c.fix.new.self c.args.v c.args.x
+    entailed_fixed (arcs_of c.args.cons.now.lang.now c.args.cons.now.list.now c.args.cons.now.against) c.args.plan.now c.args.entailed.now c.args.doms.now c.fix.new.self c.args.v c.args.x
     (let size = c.requires.doms.family.size in let known = c.requires.known in omega arith) c.fix.ensures.is c.requires.entailed

@@ -10,8 +10,21 @@ two_of (x ∷ y ∷ z ∷ xs) h = absurd (omega arith)
 pub pair_table-table-requires-clause-two : goal.pair_table-table-requires-clause-two
 pair_table-table-requires-clause-two c = ap length (sym c.requires.scope) ∙ c.if-scope-ne2.false
 
-pub returns-clause-is : goal.returns-clause-is
-returns-clause-is c = record {
+pub returns-then-tells_apart-clause-is : goal.returns-then-tells_apart-clause-is
+returns-then-tells_apart-clause-is c = record {
+  pair = record {
+    scope = sym c.requires.scope ∙ two_of c.args.scope.now c.if-scope-ne2.false;
+    table = c.pair_table-table.ensures.table;
+    pairs = c.pair_table-table.ensures.on.pairs;
+    are = c.pair_table-table.ensures.on.are;
+    agree = λ tuple long inside. ap (is_wanted c.args.holding) (c.pair_table-table.ensures.on.agrees tuple long inside);
+    bounds = c.bounds_of.ensures c.pair_table-table.ensures.on.pairs c.pair_table-table.ensures.on.are;
+  };
+  apart = c.tells_apart.ensures c.if-tells_apart.true;
+}
+
+pub returns-else-tells_apart-clause-is : goal.returns-else-tells_apart-clause-is
+returns-else-tells_apart-clause-is c = record {
   scope = sym c.requires.scope ∙ two_of c.args.scope.now c.if-scope-ne2.false;
   table = c.pair_table-table.ensures.table;
   pairs = c.pair_table-table.ensures.on.pairs;
@@ -20,5 +33,8 @@ returns-clause-is c = record {
   bounds = c.bounds_of.ensures c.pair_table-table.ensures.on.pairs c.pair_table-table.ensures.on.are;
 }
 
-pub returns-clause-on : goal.returns-clause-on
-returns-clause-on c = two_of c.args.scope.now c.if-scope-ne2.false
+pub returns-then-tells_apart-clause-on : goal.returns-then-tells_apart-clause-on
+returns-then-tells_apart-clause-on c = two_of c.args.scope.now c.if-scope-ne2.false
+
+pub returns-else-tells_apart-clause-on : goal.returns-else-tells_apart-clause-on
+returns-else-tells_apart-clause-on c = two_of c.args.scope.now c.if-scope-ne2.false

@@ -29,15 +29,15 @@ returns-else-len-eq0-clause-looked c = λ e.
     (λ none. (let count = c.len.ensures.count in let some = c.if-len-eq0.false in omega arith)))
 
 pub returns-then-len-eq0-clause-entailed : goal.returns-then-len-eq0-clause-entailed
-returns-then-len-eq0-clause-entailed c = λ e are.
-    fixed_taken_in (arcs_of c.args.cons.now.lang.now c.args.cons.now.list.now c.args.cons.now.against) c.args.entailed.now c.add_fixed.new.self c.args.i (arc_of c.args.cons.now.lang.now c.condition-holding.result.0 c.condition-holding.result.1) c.args.doms.now c.revise.new.doms c.condition-holding.ensures.is
+returns-then-len-eq0-clause-entailed c = λ e p are.
+    fixed_taken_in (arcs_of c.args.cons.now.lang.now c.args.cons.now.list.now c.args.cons.now.against) p c.args.entailed.now c.add_fixed.new.self c.args.i (arc_of c.args.cons.now.lang.now c.condition-holding.result.0 c.condition-holding.result.1) c.args.doms.now c.revise.new.doms c.condition-holding.ensures.is
     (subst (λ (a : Arc). All (λ v. v < length c.args.doms.now) a.scope) (c.condition-holding.ensures.is none) (arcs_within c.args.cons.now.lang.now c.args.cons.now.list.now c.args.cons.now.against c.requires.lawful c.requires.constraints c.args.doms.now c.requires.doms.family c.args.i none c.requires.low))
     c.in-Some.ensures.revised
-    (λ k at. subst (λ (scope : List ℕ). (is_noted_in c.args.entailed.now k ≡ true) ⊎ ((k ≡ c.args.i) × IsAlmostFixed c.revise.new.doms scope)) c.scope.ensures.is (c.add_fixed.ensures k at)) are
+    (λ k at. subst (λ (scope : List ℕ). (is_noted_in c.args.entailed.now k ≡ true) ⊎ ((k ≡ c.args.i) × IsAlmostFixed c.revise.new.doms scope)) c.scope.ensures.is (c.add_fixed.ensures.noted k at)) c.add_fixed.ensures.struck are
 
 pub returns-else-len-eq0-clause-entailed : goal.returns-else-len-eq0-clause-entailed
-returns-else-len-eq0-clause-entailed c = λ e are.
-    fixed_taken_in (arcs_of c.args.cons.now.lang.now c.args.cons.now.list.now c.args.cons.now.against) c.args.entailed.now c.add_fixed.new.self c.args.i (arc_of c.args.cons.now.lang.now c.condition-holding.result.0 c.condition-holding.result.1) c.args.doms.now c.revise.new.doms c.condition-holding.ensures.is
+returns-else-len-eq0-clause-entailed c = λ e p are.
+    fixed_taken_in (arcs_of c.args.cons.now.lang.now c.args.cons.now.list.now c.args.cons.now.against) p c.args.entailed.now c.add_fixed.new.self c.args.i (arc_of c.args.cons.now.lang.now c.condition-holding.result.0 c.condition-holding.result.1) c.args.doms.now c.revise.new.doms c.condition-holding.ensures.is
     (subst (λ (a : Arc). All (λ v. v < length c.args.doms.now) a.scope) (c.condition-holding.ensures.is none) (arcs_within c.args.cons.now.lang.now c.args.cons.now.list.now c.args.cons.now.against c.requires.lawful c.requires.constraints c.args.doms.now c.requires.doms.family c.args.i none c.requires.low))
     c.in-Some.ensures.revised
-    (λ k at. subst (λ (scope : List ℕ). (is_noted_in c.args.entailed.now k ≡ true) ⊎ ((k ≡ c.args.i) × IsAlmostFixed c.revise.new.doms scope)) c.scope.ensures.is (c.add_fixed.ensures k at)) are
+    (λ k at. subst (λ (scope : List ℕ). (is_noted_in c.args.entailed.now k ≡ true) ⊎ ((k ≡ c.args.i) × IsAlmostFixed c.revise.new.doms scope)) c.scope.ensures.is (c.add_fixed.ensures.noted k at)) c.add_fixed.ensures.struck are

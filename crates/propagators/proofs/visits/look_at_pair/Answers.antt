@@ -121,32 +121,32 @@ returns-clause-looked c = λ e.
     (narrowed_to c.args.doms.now c.cut.new.self c.in-Some.u c.passing-values.result (λ x. is_wanted c.args.pair.now.holding (bit_at c.in-Some.row x == 1)) c.in-Some.ensures.known c.passing-values.ensures c.if-is_empty.ensures c.cut.ensures.is) (c.if-not-cut.ensures.less refl))
 
 pub returns-in_default-clause-entailed : goal.returns-in_default-clause-entailed
-returns-in_default-clause-entailed c = λ e are. entailed_under (arcs_of c.args.cons.now.lang.now c.args.cons.now.list.now c.args.cons.now.against) c.args.entailed.now c.args.doms.now c.look_at_both.new.doms (c.look_at_both.ensures.looked e).underway are
+returns-in_default-clause-entailed c = λ e are. entailed_under (arcs_of c.args.cons.now.lang.now c.args.cons.now.list.now c.args.cons.now.against) c.args.plan.now c.args.entailed.now c.args.doms.now c.look_at_both.new.doms (c.look_at_both.ensures.looked e).underway are
 
 pub returns-then-not-cut-clause-entailed : goal.returns-then-not-cut-clause-entailed
 returns-then-not-cut-clause-entailed c = λ e are.
-    pair_taken_in c.args.cons.now.lang.now (arcs_of c.args.cons.now.lang.now c.args.cons.now.list.now c.args.cons.now.against) c.args.entailed.now c.add.new.self c.args.i c.args.pair.now c.args.doms.now c.cut.new.self c.in-Some.u (λ x. is_wanted c.args.pair.now.holding (bit_at c.in-Some.row x == 1))
+    pair_taken_in c.args.cons.now.lang.now (arcs_of c.args.cons.now.lang.now c.args.cons.now.list.now c.args.cons.now.against) c.args.plan.now c.args.entailed.now c.add.new.self c.args.i c.args.pair.now c.args.doms.now c.cut.new.self c.in-Some.u (λ x. is_wanted c.args.pair.now.holding (bit_at c.in-Some.row x == 1))
     c.requires.pair (λ a. arcs_different c.args.cons.now.lang.now c.args.cons.now.list.now c.args.cons.now.against c.requires.lawful c.requires.constraints c.args.i a c.requires.low)
     (λ a. arcs_within c.args.cons.now.lang.now c.args.cons.now.list.now c.args.cons.now.against c.requires.lawful c.requires.constraints c.args.doms.now c.requires.doms.family c.args.i a c.requires.low)
-    c.requires.doms.family c.in-Some.ensures.beside (narrowed_to c.args.doms.now c.cut.new.self c.in-Some.u c.passing-values.result (λ x. is_wanted c.args.pair.now.holding (bit_at c.in-Some.row x == 1)) c.in-Some.ensures.known c.passing-values.ensures c.if-is_empty.ensures c.cut.ensures.is) c.add.ensures are
+    c.requires.doms.family c.in-Some.ensures.beside (narrowed_to c.args.doms.now c.cut.new.self c.in-Some.u c.passing-values.result (λ x. is_wanted c.args.pair.now.holding (bit_at c.in-Some.row x == 1)) c.in-Some.ensures.known c.passing-values.ensures c.if-is_empty.ensures c.cut.ensures.is) c.add.ensures.noted c.add.ensures.struck are
 
 pub returns-then-has_more-3-clause-entailed : goal.returns-then-has_more-3-clause-entailed
 returns-then-has_more-3-clause-entailed c = λ e are.
-    pair_taken_in c.args.cons.now.lang.now (arcs_of c.args.cons.now.lang.now c.args.cons.now.list.now c.args.cons.now.against) c.args.entailed.now c.add.new.self c.args.i c.args.pair.now c.args.doms.now c.cut.new.self c.in-Some.u (λ x. is_wanted c.args.pair.now.holding (bit_at c.in-Some.row x == 1))
+    pair_taken_in c.args.cons.now.lang.now (arcs_of c.args.cons.now.lang.now c.args.cons.now.list.now c.args.cons.now.against) c.args.plan.now c.args.entailed.now c.add.new.self c.args.i c.args.pair.now c.args.doms.now c.cut.new.self c.in-Some.u (λ x. is_wanted c.args.pair.now.holding (bit_at c.in-Some.row x == 1))
     c.requires.pair (λ a. arcs_different c.args.cons.now.lang.now c.args.cons.now.list.now c.args.cons.now.against c.requires.lawful c.requires.constraints c.args.i a c.requires.low)
     (λ a. arcs_within c.args.cons.now.lang.now c.args.cons.now.list.now c.args.cons.now.against c.requires.lawful c.requires.constraints c.args.doms.now c.requires.doms.family c.args.i a c.requires.low)
-    c.requires.doms.family c.in-Some.ensures.beside (narrowed_to c.args.doms.now c.cut.new.self c.in-Some.u c.passing-values.result (λ x. is_wanted c.args.pair.now.holding (bit_at c.in-Some.row x == 1)) c.in-Some.ensures.known c.passing-values.ensures c.if-is_empty.ensures c.cut.ensures.is) c.add.ensures are
+    c.requires.doms.family c.in-Some.ensures.beside (narrowed_to c.args.doms.now c.cut.new.self c.in-Some.u c.passing-values.result (λ x. is_wanted c.args.pair.now.holding (bit_at c.in-Some.row x == 1)) c.in-Some.ensures.known c.passing-values.ensures c.if-is_empty.ensures c.cut.ensures.is) c.add.ensures.noted c.add.ensures.struck are
 
 pub returns-then-has_more-4-clause-entailed : goal.returns-then-has_more-4-clause-entailed
 returns-then-has_more-4-clause-entailed c = λ e are.
-    pair_taken_in c.args.cons.now.lang.now (arcs_of c.args.cons.now.lang.now c.args.cons.now.list.now c.args.cons.now.against) c.args.entailed.now c.add.new.self c.args.i c.args.pair.now c.args.doms.now c.cut.new.self c.in-Some.u (λ x. is_wanted c.args.pair.now.holding (bit_at c.in-Some.row x == 1))
+    pair_taken_in c.args.cons.now.lang.now (arcs_of c.args.cons.now.lang.now c.args.cons.now.list.now c.args.cons.now.against) c.args.plan.now c.args.entailed.now c.add.new.self c.args.i c.args.pair.now c.args.doms.now c.cut.new.self c.in-Some.u (λ x. is_wanted c.args.pair.now.holding (bit_at c.in-Some.row x == 1))
     c.requires.pair (λ a. arcs_different c.args.cons.now.lang.now c.args.cons.now.list.now c.args.cons.now.against c.requires.lawful c.requires.constraints c.args.i a c.requires.low)
     (λ a. arcs_within c.args.cons.now.lang.now c.args.cons.now.list.now c.args.cons.now.against c.requires.lawful c.requires.constraints c.args.doms.now c.requires.doms.family c.args.i a c.requires.low)
-    c.requires.doms.family c.in-Some.ensures.beside (narrowed_to c.args.doms.now c.cut.new.self c.in-Some.u c.passing-values.result (λ x. is_wanted c.args.pair.now.holding (bit_at c.in-Some.row x == 1)) c.in-Some.ensures.known c.passing-values.ensures c.if-is_empty.ensures c.cut.ensures.is) c.add.ensures are
+    c.requires.doms.family c.in-Some.ensures.beside (narrowed_to c.args.doms.now c.cut.new.self c.in-Some.u c.passing-values.result (λ x. is_wanted c.args.pair.now.holding (bit_at c.in-Some.row x == 1)) c.in-Some.ensures.known c.passing-values.ensures c.if-is_empty.ensures c.cut.ensures.is) c.add.ensures.noted c.add.ensures.struck are
 
 pub returns-clause-entailed : goal.returns-clause-entailed
 returns-clause-entailed c = λ e are.
-    pair_taken_in c.args.cons.now.lang.now (arcs_of c.args.cons.now.lang.now c.args.cons.now.list.now c.args.cons.now.against) c.args.entailed.now c.add.new.self c.args.i c.args.pair.now c.args.doms.now c.cut.new.self c.in-Some.u (λ x. is_wanted c.args.pair.now.holding (bit_at c.in-Some.row x == 1))
+    pair_taken_in c.args.cons.now.lang.now (arcs_of c.args.cons.now.lang.now c.args.cons.now.list.now c.args.cons.now.against) c.args.plan.now c.args.entailed.now c.add.new.self c.args.i c.args.pair.now c.args.doms.now c.cut.new.self c.in-Some.u (λ x. is_wanted c.args.pair.now.holding (bit_at c.in-Some.row x == 1))
     c.requires.pair (λ a. arcs_different c.args.cons.now.lang.now c.args.cons.now.list.now c.args.cons.now.against c.requires.lawful c.requires.constraints c.args.i a c.requires.low)
     (λ a. arcs_within c.args.cons.now.lang.now c.args.cons.now.list.now c.args.cons.now.against c.requires.lawful c.requires.constraints c.args.doms.now c.requires.doms.family c.args.i a c.requires.low)
-    c.requires.doms.family c.in-Some.ensures.beside (narrowed_to c.args.doms.now c.cut.new.self c.in-Some.u c.passing-values.result (λ x. is_wanted c.args.pair.now.holding (bit_at c.in-Some.row x == 1)) c.in-Some.ensures.known c.passing-values.ensures c.if-is_empty.ensures c.cut.ensures.is) c.add.ensures are
+    c.requires.doms.family c.in-Some.ensures.beside (narrowed_to c.args.doms.now c.cut.new.self c.in-Some.u c.passing-values.result (λ x. is_wanted c.args.pair.now.holding (bit_at c.in-Some.row x == 1)) c.in-Some.ensures.known c.passing-values.ensures c.if-is_empty.ensures c.cut.ensures.is) c.add.ensures.noted c.add.ensures.struck are

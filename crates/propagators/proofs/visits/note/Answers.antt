@@ -1,5 +1,5 @@
 use Rattle.propagators.proofs.Prelude.{◌≡◌, ◌<◌, ◌+◌, ◌*◌, ◌/◌, ◌%◌, ◌∙◌, length, arith, length-set, mul-add-lt, div_below}
-use Rattle.propagators.proofs.Visiting.{set_grows, noted_more}
+use Rattle.propagators.proofs.Parting.{set_grows, noted_more, noted_only}
 use Rattle.propagators.proofs.visits.note.Goals as goal
 
 pub loop-v-preserved : goal.loop-v-preserved
@@ -15,4 +15,5 @@ loop-v-preserved c =
       long = length-set c.loop-v.sets (c.args.i / 64 * 128 + c.from.result) c.add_value.result ∙ c.loop-v.invariant.long;
       grows = λ q b h. set_grows c.loop-v.sets (c.args.i / 64 * 128 + c.from.result) c.add_value.result (c.args.i % 64) low c.add_value.ensures q b (c.loop-v.invariant.grows q b h);
       there = noted_more c.args.scope.now c.args.words c.args.i c.loop-v.v-index c.loop-v.sets (c.args.i / 64 * 128 + c.from.result) c.add_value.result c.from.result (let e : c.args.i / 64 * 128 + c.from.result ≡ c.args.i / 64 * 128 + c.from.result = cc in e) c.from.ensures low c.add_value.ensures c.loop-v.invariant.there;
+      only = noted_only c.args.scope.now c.args.sets.now c.args.i c.loop-v.v-index c.loop-v.sets (c.args.i / 64 * 128 + c.from.result) c.add_value.result c.from.result (let e : c.args.i / 64 * 128 + c.from.result ≡ c.args.i / 64 * 128 + c.from.result = cc in e) c.from.ensures v c.loop-v-test.true low c.add_value.ensures c.loop-v.invariant.only;
     }
