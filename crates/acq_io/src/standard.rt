@@ -2,7 +2,7 @@ ghost use Rattle.std.specs.Prelude.{◌≡◌, ◌≢◌, ◌<◌, ◌≤◌, le
 ghost use Rattle.acq_io.specs.Streams.{raised, IsLate};
 
 use crate::streams::{Failed, Put, Sink, Source};
-use std::io::{ErrorKind, Read, Write};
+use std::io::{Error, ErrorKind, Read, Write};
 use std::marker::Model;
 
 /// A reader of std with a count of its faults. It tells nothing of the bytes. Each call is one read of the reader, so
@@ -45,6 +45,7 @@ impl<R: Read> Source for StdSource<R> {
     ghost late = { λ s. s.late };
 
     /// The count of faults rises at each failure, and at nothing else.
+    #[inline(always)]
     fn read(&mut self, buf: &mut [u8]) -> Result<usize, Failed>
         requires { 0 < length buf.old }
         ensures count { IfOk result (λ n. n ≤ length buf.new) }
@@ -67,9 +68,25 @@ impl<R: Read> Source for StdSource<R> {
 }
 
 /// One read, tried again where a signal interrupts it, as std's own loops do.
+#[inline(always)]
 fn read_uninterrupted<R: Read>(reader: &mut R, buf: &mut [u8]) -> Result<usize, Failed>
     ensures { IfOk result (λ n. n ≤ length buf.new) }
 {
+    match reader.read(buf) {
+        Ok(count) => Ok(count),
+        Err(error) => read_again(reader, buf, error),
+    }
+}
+
+/// A read that has failed. It is apart from the others, which come byte by byte.
+#[cold]
+#[inline(never)]
+fn read_again<R: Read>(reader: &mut R, buf: &mut [u8], error: Error) -> Result<usize, Failed>
+    ensures { IfOk result (λ n. n ≤ length buf.new) }
+{
+    if error.kind() != ErrorKind::Interrupted {
+        return Err(Failed);
+    }
     for _ in 0..u64::MAX {
         match reader.read(buf) {
             Ok(count) => return Ok(count),

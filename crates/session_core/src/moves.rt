@@ -131,6 +131,7 @@ impl Knowledge {
     }
 
     /// The first question of the first scope whose choices differ. None where there is none.
+    #[inline(always)]
     fn first_question(&self) -> Option<Partial>
         ensures is { let k = self.now in result ≡ scope_question k.lang k.kept.members k.network.list }
         ensures fits { IfSome result (IsQuestion self.now.lang) }
@@ -215,6 +216,7 @@ fn ask_walked(mut knowledge: Box<Knowledge>, mut room: Box<Put>, q: Partial) -> 
 impl Idle {
     /// In plan Scopes the first question of the first scope whose choices differ. None where there is none, and in the
     /// other plans.
+    #[inline(always)]
     pub fn scope_question(&self) -> Option<Partial>
         ensures is { let k = knowledge_of (Session.Idle self.now) in k.plan ≡ Plan.Scopes → result ≡ scope_question k.lang k.kept.members k.network.list }
         ensures others { (knowledge_of (Session.Idle self.now)).plan ≢ Plan.Scopes → result ≡ None }
@@ -268,6 +270,7 @@ impl Asking {
     }
 
     /// The question that is open. After each list of answers that leads here, it is the one that is asked.
+    #[inline(always)]
     pub fn question(&self) -> Partial
         ensures is { open_in (Session.Asking self.now) ≡ Some result }
         ensures fits { IsQuestion (knowledge_of (Session.Asking self.now)).lang result }
@@ -275,10 +278,24 @@ impl Asking {
     {
         let _variables = self.knowledge.lang.n();
         match &*self.put {
+            Put::FirstTuple(run) | Put::Tuple(run) => run.wants(&self.knowledge.lang),
+            Put::Example(_) | Put::OnWalk { .. } | Put::Part { .. } => self.example_question(),
+        }
+    }
+
+    /// The same, where an example or a part of one is put. It is apart, so that the other, which comes most often, is short.
+    #[inline(never)]
+    fn example_question(&self) -> Partial
+        requires { is_tuple self.now.put.value ≡ false }
+        ensures is { open_in (Session.Asking self.now) ≡ Some result }
+        ensures fits { IsQuestion (knowledge_of (Session.Asking self.now)).lang result }
+    {
+        let _variables = self.knowledge.lang.n();
+        match &*self.put {
             Put::Example(example) => *example,
             Put::OnWalk { example, set } => example.restrict(*set),
             Put::Part { example, run, .. } => example.restrict(run.wants()),
-            Put::FirstTuple(run) | Put::Tuple(run) => run.wants(&self.knowledge.lang),
+            Put::FirstTuple(_) | Put::Tuple(_) => unreachable!(),
         }
     }
 
