@@ -25,6 +25,14 @@ pub(crate) struct Held {
     pub(crate) events: Vec<Event>,
 }
 
+/// Adds an event in a place that was taken. `push` hands a refused one back, and copies it four times for that.
+fn push_event(events: &mut Vec<Event>, event: Event)
+    requires { vec_len events.old < vec_capacity events.old }
+    ensures { events.new.items ≡ events.old.items ++ event ∷ [] }
+{
+    events.extend_from_slice(&[event]).unwrap();
+}
+
 impl Held {
     pub(crate) fn new(session: Session, events: Vec<Event>) -> Held
         requires stands { Stands session (standing_on (knowledge_of session).lang events.items) }
@@ -122,7 +130,7 @@ impl Held {
         match self.session.take() {
             Some(Session::Asking(asking)) => {
                 let _lang = asking.lang();
-                self.events.push(event).unwrap();
+                push_event(&mut self.events, event);
                 self.session = Some(asking.answer(yes));
             }
             Some(Session::Idle(_)) | Some(Session::Over(_)) | None => unreachable!(),
