@@ -2,7 +2,7 @@ ghost use Rattle.std.specs.Prelude.{◌≡◌, ◌≢◌, ◌<◌, ◌≤◌, le
 ghost use Rattle.acq_io.specs.Streams.{raised, IsLate};
 
 use crate::streams::{Failed, Put, Sink, Source};
-use std::io::{Error, ErrorKind, Read, Write};
+use std::io::{ErrorKind, Read, Write};
 use std::marker::Model;
 
 /// A reader of std with a count of its faults. It tells nothing of the bytes. Each call is one read of the reader, so
@@ -72,21 +72,6 @@ impl<R: Read> Source for StdSource<R> {
 fn read_uninterrupted<R: Read>(reader: &mut R, buf: &mut [u8]) -> Result<usize, Failed>
     ensures { IfOk result (λ n. n ≤ length buf.new) }
 {
-    match reader.read(buf) {
-        Ok(count) => Ok(count),
-        Err(error) => read_again(reader, buf, error),
-    }
-}
-
-/// A read that has failed. It is apart from the others, which come byte by byte.
-#[cold]
-#[inline(never)]
-fn read_again<R: Read>(reader: &mut R, buf: &mut [u8], error: Error) -> Result<usize, Failed>
-    ensures { IfOk result (λ n. n ≤ length buf.new) }
-{
-    if error.kind() != ErrorKind::Interrupted {
-        return Err(Failed);
-    }
     for _ in 0..u64::MAX {
         match reader.read(buf) {
             Ok(count) => return Ok(count),

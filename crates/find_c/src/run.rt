@@ -107,7 +107,6 @@ impl RelRun {
     }
 
     /// The question: a tuple as an assignment of exactly the scope.
-    #[inline]
     pub fn wants(&self, lang: &Language) -> Partial
         requires { IsRun lang.now self.now }
         ensures is { result ≡ on_scope lang.now self.now.scope self.now.tuple }
@@ -215,12 +214,7 @@ fn settle(lang: &Language, scope: ScopeId, choices: Choices, new: bool) -> RelNe
 
 /// The least tuple on which two choices differ. Where nothing is answered yet and none of the relations is a choice too, mostly it is
 /// the first one, which one relation tells.
-fn splitting_tuple(
-    lang: &Language,
-    s: ScopeId,
-    choices: &Choices,
-    new: bool,
-) -> Option<Tuple>
+fn splitting_tuple(lang: &Language, s: ScopeId, choices: &Choices, new: bool) -> Option<Tuple>
     requires scope { s < length lang.now.scopes }
     requires known { All (IsChoiceOn lang.now s) choices.now }
     ensures { result ≡ splitting_tuple (scene_of lang.now s) choices.now }

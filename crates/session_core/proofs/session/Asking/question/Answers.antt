@@ -1,10 +1,19 @@
-use Rattle.session_core.proofs.Prelude.{subst, Assignment, IsAskedAfter, Knowledge}
-use Rattle.session_core.proofs.Opened.{open_asked}
-use Rattle.session_core.proofs.Turning.{same_some}
+use Rattle.session_core.proofs.Prelude.{refl, sym, ◌∙◌, subst, IsLanguage, IsQuestion, part_is_question, Knowledge}
+use Rattle.session_core.proofs.Questions.{example_fits}
+use Rattle.session_core.proofs.Turning.{sound_of}
 use Rattle.session_core.proofs.session.Asking.question.Goals as goal
 
-pub returns-in-Example-clause-asked : goal.returns-in-Example-clause-asked
-returns-in-Example-clause-asked c = λ t stands.
+pub returns-in-OnWalk-clause-fits : goal.returns-in-OnWalk-clause-fits
+returns-in-OnWalk-clause-fits c =
+    subst (IsQuestion c.args.self.now.knowledge.value.lang) (sym c.restrict.ensures)
+    (part_is_question c.args.self.now.knowledge.value.lang c.in-OnWalk.example c.in-OnWalk.set (sound_of c.args.self.now _ (sym c.deref-2.ensures ∙ c.in-OnWalk.is)).question)
+
+pub returns-in-Part-clause-fits : goal.returns-in-Part-clause-fits
+returns-in-Part-clause-fits c =
+    subst (IsQuestion c.args.self.now.knowledge.value.lang) (sym c.restrict-in-Part.ensures)
+    (part_is_question c.args.self.now.knowledge.value.lang c.in-Part.example c.wants.result (sound_of c.args.self.now _ (sym c.deref-2.ensures ∙ c.in-Part.is)))
+
+pub returns-in-Example-clause-fits : goal.returns-in-Example-clause-fits
+returns-in-Example-clause-fits c =
     let k : Knowledge = c.args.self.now.knowledge.value in
-    let Asked : Assignment → Type 0 = λ q. IsAskedAfter k.lang k.plan t q in
-    subst Asked (same_some _ _ c.example_question.ensures.is) (open_asked c.args.self.now t stands)
+    example_fits k k c.in-Example.example (subst (λ (x : Knowledge). IsLanguage x.lang) c.deref.ensures c.n-variables.ensures.lawful) refl (sound_of c.args.self.now _ (sym c.deref-2.ensures ∙ c.in-Example.is))
