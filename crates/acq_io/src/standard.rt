@@ -45,6 +45,7 @@ impl<R: Read> Source for StdSource<R> {
     ghost late = { λ s. s.late };
 
     /// The count of faults rises at each failure, and at nothing else.
+    #[inline(always)]
     fn read(&mut self, buf: &mut [u8]) -> Result<usize, Failed>
         requires { 0 < length buf.old }
         ensures count { IfOk result (λ n. n ≤ length buf.new) }
@@ -67,6 +68,7 @@ impl<R: Read> Source for StdSource<R> {
 }
 
 /// One read, tried again where a signal interrupts it, as std's own loops do.
+#[inline(always)]
 fn read_uninterrupted<R: Read>(reader: &mut R, buf: &mut [u8]) -> Result<usize, Failed>
     ensures { IfOk result (λ n. n ≤ length buf.new) }
 {

@@ -74,6 +74,7 @@ pub trait Sink {
 }
 
 /// The next byte, or `None` at the end.
+#[inline(always)]
 pub fn read_byte<S: Source>(source: &mut S) -> Result<Option<u8>, Failed>
     ensures bytes { IfOk result (λ byte. Takes (S.left source.old) (S.left source.new) (option_to_list byte)) }
     ensures end { result ≡ Ok None → WasEmpty (S.left source.old) }

@@ -1,35 +1,73 @@
 //! Standard input for a caller who asks byte by byte.
 
+ghost use Rattle.std.specs.Prelude.{◌≤◌};
+
 use std::io::{self, BufRead, Read};
+
+/// How many bytes are looked at together.
+const AHEAD: usize = 64;
 
 /// A reader that fills its buffer before a byte is taken from it. How much it may read ahead is its own affair: that of
 /// standard input does so only where it can give back what is left, as from a file, and asks a pipe or a terminal for no byte
-/// more.
+/// more. Bytes are copied out of that buffer many at a time, and taken from it one by one, since asking for it takes longest.
 #[derive(Drop)]
 pub struct Buffered<R> {
     inner: R,
+    /// From `at` to `end` stand the next bytes of `inner`, which aren't taken from it yet.
+    ahead: [u8; AHEAD],
+    at: usize,
+    end: usize,
+    ghost within: { end ≤ 64 },
+}
+
+/// Copies as many bytes as fit, and answers how many.
+fn copy_front(from: &[u8], to: &mut [u8; AHEAD]) -> usize
+    ensures { result ≤ 64 }
+{
+    let count = from.len().min(AHEAD);
+    to[..count].copy_from_slice(&from[..count]);
+    count
 }
 
 impl<R: BufRead> Buffered<R> {
     /// The bytes of `inner`, of which none is read yet.
     pub fn new(inner: R) -> Buffered<R> {
-        Buffered { inner }
+        Buffered {
+            inner,
+            ahead: [0; AHEAD],
+            at: 0,
+            end: 0,
+        }
+    }
+
+    /// Looks at the next bytes. There are none at the end.
+    #[inline(never)]
+    fn look_ahead(&mut self) -> io::Result<()> {
+        let next = self.inner.fill_buf()?;
+        self.end = copy_front(next, &mut self.ahead);
+        self.at = 0;
+        Ok(())
     }
 }
 
 impl<R: BufRead> Read for Buffered<R> {
     /// A piece of more than one byte is read as it is, since from a pipe it comes sooner whole.
+    #[inline(always)]
     fn read(&mut self, buf: &mut [u8]) -> io::Result<usize> {
         let [place] = buf else {
+            // What was looked at is a part of it.
+            self.end = 0;
             return self.inner.read(buf);
         };
-        match self.inner.fill_buf()?.first() {
-            None => Ok(0),
-            Some(byte) => {
-                *place = *byte;
-                self.inner.consume(1);
-                Ok(1)
-            }
+        if self.at >= self.end {
+            self.look_ahead()?;
         }
+        if self.at >= self.end {
+            return Ok(0);
+        }
+        *place = self.ahead[self.at];
+        self.at += 1;
+        self.inner.consume(1);
+        Ok(1)
     }
 }

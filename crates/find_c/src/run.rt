@@ -68,7 +68,7 @@ impl RelRun {
         ensures nothing { (result ≡ RelNext.Nothing) ↔ (violated_choices lang.now kept.now.members e.now s ≡ []) }
         ensures no_free { result ≢ RelNext.Free }
     {
-        settle(lang, s, violated_choices(lang, kept, s, e))
+        settle(lang, s, violated_choices(lang, kept, s, e), false)
     }
 
     /// Begins with all kept candidates on a scope, and none of them as a further choice.
@@ -79,7 +79,7 @@ impl RelRun {
         ensures stands { StandsFor result lang.now s (free_choices kept.now.members s) [] }
         ensures some { result ≢ RelNext.Nothing }
     {
-        settle(lang, s, Choices::new(kept.on_scope(s), true))
+        settle(lang, s, Choices::new(kept.on_scope(s), true), true)
     }
 
     /// The run on all kept candidates on a scope, and none of them, where the place of its question is known: it isn't looked for.
@@ -169,7 +169,7 @@ impl RelRun {
         ensures some { result ≢ RelNext.Nothing }
     {
         let RelRun { scope, choices, .. } = self;
-        settle(lang, scope, choices.agreeing(accepting, yes))
+        settle(lang, scope, choices.agreeing(accepting, yes), false)
     }
 }
 
@@ -188,8 +188,8 @@ fn violated_choices(lang: &Language, kept: &Kept, s: ScopeId, e: &Partial) -> Ch
     }
 }
 
-/// Where choices on a scope stand.
-fn settle(lang: &Language, scope: ScopeId, choices: Choices) -> RelNext
+/// Where choices on a scope stand. `new` says whether the first tuple may tell them apart: behind a reply it doesn't any more.
+fn settle(lang: &Language, scope: ScopeId, choices: Choices, new: bool) -> RelNext
     requires scope { scope < length lang.now.scopes }
     requires known { All (IsChoiceOn lang.now scope) choices }
     ensures settled { LeavesChoices lang.now scope choices result }
@@ -199,7 +199,7 @@ fn settle(lang: &Language, scope: ScopeId, choices: Choices) -> RelNext
     if choices.is_empty() {
         return RelNext::Nothing;
     }
-    if let Some(tuple) = splitting_tuple(lang, scope, &choices) {
+    if let Some(tuple) = splitting_tuple(lang, scope, &choices, new) {
         return RelNext::Wants(RelRun {
             scope,
             choices,
@@ -212,13 +212,16 @@ fn settle(lang: &Language, scope: ScopeId, choices: Choices) -> RelNext
     }
 }
 
-/// The least tuple on which two choices differ. Mostly it is the first one where none of the relations is a choice too, which one
-/// relation tells.
-fn splitting_tuple(lang: &Language, s: ScopeId, choices: &Choices) -> Option<Tuple>
+/// The least tuple on which two choices differ. Where nothing is answered yet and none of the relations is a choice too, mostly it is
+/// the first one, which one relation tells.
+fn splitting_tuple(lang: &Language, s: ScopeId, choices: &Choices, new: bool) -> Option<Tuple>
     requires scope { s < length lang.now.scopes }
     requires known { All (IsChoiceOn lang.now s) choices.now }
     ensures { result ≡ splitting_tuple (scene_of lang.now s) choices.now }
 {
+    if !new {
+        return tuple_searched(lang, s, choices);
+    }
     let value_count = lang.d();
     if choices.rejects_first(lang, s) {
         return Some(Tuple::at(value_count, lang.scope(s).len() as u8, 0));

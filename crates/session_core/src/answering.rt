@@ -62,17 +62,18 @@ impl Knowledge {
 }
 
 impl Asking {
-    /// What is known after an answer to the open question, and what was put. The question is made where it strikes.
-    pub(crate) fn known_after(self, yes: bool) -> (Box<Knowledge>, Box<Put>)
+    /// What is known after an answer to the open question, and what was put.
+    pub(crate) fn known_after(self, question: &Partial, yes: bool) -> (Box<Knowledge>, Box<Put>)
+        requires asked { question_put self.knowledge.value.lang self.put.value ≡ question.now }
+        requires fits { IsQuestion self.knowledge.value.lang question.now }
         ensures answered { let k = self.knowledge.value in IsAnswered k (question_put k.lang self.put.value) «yes» result.0.value }
         ensures lawful { IsLanguage result.0.value.lang }
         ensures put { result.1.value ≡ self.put.value }
     {
         if yes {
-            let question = self.question();
             let scope = self.scope();
             let Asking { mut knowledge, put } = self;
-            knowledge.hear_yes(&question, scope);
+            knowledge.hear_yes(question, scope);
             (knowledge, put)
         } else {
             let Asking { mut knowledge, put } = self;

@@ -294,11 +294,31 @@ impl Asking {
         ensures walked { (t : List Answer) (e : _) → let k = knowledge_of result in Stands result t → k.plan ≡ Plan.Multi
             → walk_end k.lang t ≡ Some (Ended e) → IsWalked k.lang t k.network.list e }
     {
-        self.heard(yes)
+        let question = self.question();
+        self.heard(&question, yes)
+    }
+
+    /// `answer`, where the open question is at hand: it isn't made again.
+    pub fn answer_to(self, question: &Partial, yes: bool) -> Session
+        requires asked { open_in (Session.Asking self) ≡ Some question.now }
+        requires fits { IsQuestion (knowledge_of (Session.Asking self)).lang question.now }
+        ensures lang { (knowledge_of result).lang ≡ (knowledge_of (Session.Asking self)).lang }
+        ensures plan { (knowledge_of result).plan ≡ (knowledge_of (Session.Asking self)).plan }
+        ensures stands { (t : List Answer) (q : _) → open_in (Session.Asking self) ≡ Some q → Stands (Session.Asking self) t
+            → Stands result (t ++ record { question = q; yes = «yes» } ∷ []) }
+        // where the answers lead to where nothing is open, no question is put
+        ensures settled { (t : List Answer) → Stands result t → IsSettled (knowledge_of result).lang (knowledge_of result).plan t (open_in result) }
+        // where the last answer has ended the walk of an example, nothing is left to learn from it
+        ensures walked { (t : List Answer) (e : _) → let k = knowledge_of result in Stands result t → k.plan ≡ Plan.Multi
+            → walk_end k.lang t ≡ Some (Ended e) → IsWalked k.lang t k.network.list e }
+    {
+        self.heard(question, yes)
     }
 
     /// The same session.
-    fn heard(self, yes: bool) -> Session
+    fn heard(self, question: &Partial, yes: bool) -> Session
+        requires asked { question_put self.knowledge.value.lang self.put.value ≡ question.now }
+        requires fits { IsQuestion self.knowledge.value.lang question.now }
         ensures lang { (knowledge_of result).lang ≡ (knowledge_of (Session.Asking self)).lang }
         ensures plan { (knowledge_of result).plan ≡ (knowledge_of (Session.Asking self)).plan }
         ensures lawful { IsLanguage (knowledge_of result).lang }
@@ -307,14 +327,18 @@ impl Asking {
             → Stands result (t ++ record { question = q; yes = «yes» } ∷ []) }
     {
         match &*self.put {
-            Put::FirstTuple(_) | Put::Tuple(_) => self.tuple_heard(yes),
-            Put::Example(_) | Put::OnWalk { .. } | Put::Part { .. } => self.example_heard(yes),
+            Put::FirstTuple(_) | Put::Tuple(_) => self.tuple_heard(question, yes),
+            Put::Example(_) | Put::OnWalk { .. } | Put::Part { .. } => self.example_heard(
+                question, yes,
+            ),
         }
     }
 
     /// The same, where a tuple was put: it alone is moved.
-    fn tuple_heard(self, yes: bool) -> Session
-        requires { is_tuple self.put.value ≡ true }
+    fn tuple_heard(self, question: &Partial, yes: bool) -> Session
+        requires kind { is_tuple self.put.value ≡ true }
+        requires asked { question_put self.knowledge.value.lang self.put.value ≡ question.now }
+        requires fits { IsQuestion self.knowledge.value.lang question.now }
         ensures lang { (knowledge_of result).lang ≡ (knowledge_of (Session.Asking self)).lang }
         ensures plan { (knowledge_of result).plan ≡ (knowledge_of (Session.Asking self)).plan }
         ensures lawful { IsLanguage (knowledge_of result).lang }
@@ -322,14 +346,16 @@ impl Asking {
         ensures stands { (t : List Answer) (q : _) → open_in (Session.Asking self) ≡ Some q → Stands (Session.Asking self) t
             → Stands result (t ++ record { question = q; yes = «yes» } ∷ []) }
     {
-        let (knowledge, mut room) = self.known_after(yes);
+        let (knowledge, mut room) = self.known_after(question, yes);
         let run = room.take_run();
         tuple_answered(knowledge, room, run, yes)
     }
 
     /// The same, where an example or a part of one was put.
-    fn example_heard(self, yes: bool) -> Session
-        requires { is_tuple self.put.value ≡ false }
+    fn example_heard(self, question: &Partial, yes: bool) -> Session
+        requires kind { is_tuple self.put.value ≡ false }
+        requires asked { question_put self.knowledge.value.lang self.put.value ≡ question.now }
+        requires fits { IsQuestion self.knowledge.value.lang question.now }
         ensures lang { (knowledge_of result).lang ≡ (knowledge_of (Session.Asking self)).lang }
         ensures plan { (knowledge_of result).plan ≡ (knowledge_of (Session.Asking self)).plan }
         ensures lawful { IsLanguage (knowledge_of result).lang }
@@ -337,7 +363,7 @@ impl Asking {
         ensures stands { (t : List Answer) (q : _) → open_in (Session.Asking self) ≡ Some q → Stands (Session.Asking self) t
             → Stands result (t ++ record { question = q; yes = «yes» } ∷ []) }
     {
-        let (knowledge, mut room) = self.known_after(yes);
+        let (knowledge, mut room) = self.known_after(question, yes);
         match Box::replace(&mut room, Put::blank()) {
             Put::Example(example) => {
                 let all = VarSet::all(knowledge.lang.n());

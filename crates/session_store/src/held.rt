@@ -3,8 +3,10 @@
 ghost use Rattle.std.specs.Prelude.{◌≡◌, ◌≢◌, ◌↔◌, ◌<◌, ◌+◌, ◌++◌, ◌∷◌, [], None, Some, IsSome, IsTrue, IfOk, OnOk, All, length, vec_len, vec_capacity};
 ghost use Rattle.std.specs.Option.{ForSome};
 ghost use Rattle.assign.specs.Events.{standing};
+ghost use Rattle.assign.specs.Assignment.{widened};
+ghost use Rattle.language.specs.Language.{IsQuestion};
 ghost use Rattle.language.specs.Answers.{standing_on};
-ghost use Rattle.answer_journal.specs.Storable.{IsStorableEvent};
+ghost use Rattle.answer_journal.specs.Storable.{IsStorable, IsStorableEvent};
 ghost use Rattle.session_core.specs.Settled.{IsSettled};
 ghost use Rattle.session_core.specs.Standing.{Stands, knowledge_of, open_in};
 ghost use Rattle.session_store.specs.Kept.{IsLawfulAfter, answer_event};
@@ -23,6 +25,14 @@ pub(crate) struct Held {
     /// Empty only within a call that moves the session.
     pub(crate) session: Option<Session>,
     pub(crate) events: Vec<Event>,
+}
+
+/// Adds an event in a place that was taken. `push` hands a refused one back, and copies it four times for that.
+fn push_event(events: &mut Vec<Event>, event: Event)
+    requires { vec_len events.old < vec_capacity events.old }
+    ensures { events.new.items ≡ events.old.items ++ event ∷ [] }
+{
+    events.extend_from_slice(&[event]).unwrap();
 }
 
 impl Held {
@@ -76,21 +86,32 @@ impl Held {
         }
     }
 
-    /// The event of an answer to the question that is put.
-    pub(crate) fn event(&self, yes: bool) -> Event
+    /// The question that is put.
+    pub(crate) fn question(&self) -> Partial
         requires sound { IsHeld self.now }
         requires put { IsSome (question_held self.now) }
-        ensures is { ForSome (question_held self.now) (λ q. result ≡ answer_event q «yes») }
-        ensures storable { IsStorableEvent result }
+        ensures is { question_held self.now ≡ Some result }
+        ensures fits { IsQuestion (lang_held self.now) result }
+        ensures storable { IsStorable (widened result) }
     {
         match self.session() {
             Session::Asking(asking) => {
                 let _lang = asking.lang();
-                let question = asking.question().widened();
-                Event::Answer { question, yes }
+                asking.question()
             }
             Session::Idle(_) | Session::Over(_) => unreachable!(),
         }
+    }
+
+    /// The event of an answer to it.
+    pub(crate) fn event(&self, question: &Partial, yes: bool) -> Event
+        requires put { question_held self.now ≡ Some question.now }
+        requires storable { IsStorable (widened question.now) }
+        ensures is { ForSome (question_held self.now) (λ q. result ≡ answer_event q «yes») }
+        ensures storable { IsStorableEvent result }
+    {
+        let question = question.widened();
+        Event::Answer { question, yes }
     }
 
     /// Takes the place for an event.
@@ -106,9 +127,10 @@ impl Held {
     }
 
     /// Adds the event of an answer to the question that is put, in a place that was taken, and moves the session.
-    pub(crate) fn add(&mut self, event: Event, yes: bool)
+    pub(crate) fn add(&mut self, event: Event, question: &Partial, yes: bool)
         requires sound { IsHeld self.old }
-        requires put { IsSome (question_held self.old) }
+        requires put { question_held self.old ≡ Some question.now }
+        requires fits { IsQuestion (lang_held self.old) question.now }
         requires is { ForSome (question_held self.old) (λ q. event ≡ answer_event q «yes») }
         requires storable { IsStorableEvent event }
         requires few { length (events_held self.old) + 1 < 1000000 }
@@ -122,8 +144,8 @@ impl Held {
         match self.session.take() {
             Some(Session::Asking(asking)) => {
                 let _lang = asking.lang();
-                self.events.push(event).unwrap();
-                self.session = Some(asking.answer(yes));
+                push_event(&mut self.events, event);
+                self.session = Some(asking.answer_to(question, yes));
             }
             Some(Session::Idle(_)) | Some(Session::Over(_)) | None => unreachable!(),
         }

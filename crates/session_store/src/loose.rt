@@ -81,9 +81,10 @@ impl<D: Disk> Keep<D> for Loose {
     }
 
     fn answer(&mut self, _disk: &mut D, yes: bool) -> Result<(), SFault> {
-        let event = self.held.event(yes);
+        let question = self.held.question();
+        let event = self.held.event(&question, yes);
         self.held.make_room()?;
-        self.held.add(event, yes);
+        self.held.add(event, &question, yes);
         Ok(())
     }
 

@@ -262,11 +262,12 @@ impl<D: Disk> Keep<D> for Store {
     }
 
     fn answer(&mut self, disk: &mut D, yes: bool) -> Result<(), SFault> {
-        let event = self.held.event(yes);
+        let question = self.held.question();
+        let event = self.held.event(&question, yes);
         self.held.make_room()?;
         match self.journal.append(disk, &event) {
             Ok(()) => {
-                self.held.add(event, yes);
+                self.held.add(event, &question, yes);
                 Ok(())
             }
             Err(_) => Err(SFault::Journal(JFault::DiskFault)),

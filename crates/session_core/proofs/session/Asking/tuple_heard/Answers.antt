@@ -5,7 +5,7 @@ use Rattle.session_core.proofs.Turning.{tuple_sound, any_tuple_heard}
 use Rattle.session_core.proofs.session.Asking.tuple_heard.Goals as goal
 
 pub take_run-run-requires : goal.take_run-run-requires
-take_run-run-requires c = ap is_tuple (c.deref_mut.ensures.value ∙ c.known_after-knowledge.ensures.put) ∙ c.requires
+take_run-run-requires c = ap is_tuple (c.deref_mut.ensures.value ∙ c.known_after-knowledge.ensures.put) ∙ c.requires.kind
 
 pub tuple_answered-requires-clause-run : goal.tuple_answered-requires-clause-run
 tuple_answered-requires-clause-run c =
