@@ -17,12 +17,13 @@ pub fn order_of(lang: &Language, c: Candidate) -> ArrayVec<u8, ROOM>
     ensures order { IsOrder (variable_count lang.now) result.items }
 {
     let scope = lang.scope(c.scope);
+    let members = lang.scope_set(c.scope);
     let mut order = ArrayVec::new();
     for v in scope {
         order.push(*v);
     }
     for v in 0..lang.n() {
-        if !scope.contains(&v) {
+        if !members.has(v) {
             order.push(v);
         }
     }

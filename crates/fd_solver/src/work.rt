@@ -228,7 +228,8 @@ impl Work {
             return false;
         }
         copy_down(&mut self.depths, at);
-        self.entailed[at + 1] = self.entailed[at];
+        let known = self.entailed[at];
+        self.entailed[at + 1].take(&known);
         narrow(
             cons,
             &self.plan,

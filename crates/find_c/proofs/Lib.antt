@@ -4,6 +4,7 @@ pub mod Accepting
 pub mod Lawful
 pub mod Splitting
 pub mod Outside
+pub mod Between
 pub mod Differences
 pub mod Replies
 pub mod Filling

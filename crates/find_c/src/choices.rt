@@ -1,6 +1,6 @@
 //! The choices that are left on a scope.
 
-ghost use Rattle.std.specs.Prelude.{ℕ, ◌≡◌, ◌+◌, ◌^◌, ◌<◌, ◌≤◌, ◌==◌, ◌↔◌, [], false, true, not, length, slice_index_or, All, IsTrue};
+ghost use Rattle.std.specs.Prelude.{ℕ, ◌≡◌, ◌+◌, ◌^◌, ◌<◌, ◌≤◌, ◌==◌, ◌↔◌, [], false, true, not, nat_lt, length, slice_index_or, All, IsTrue};
 ghost use Rattle.std.specs.List.{filter, list_any};
 ghost use Rattle.std.specs.Bool.{beq};
 ghost use Rattle.std.specs.Int.{bit_at};
@@ -61,17 +61,27 @@ fn are_in(lang: &Language, scope: &[u8], values: &[u8]) -> bool
     true
 }
 
+/// The first values, so many: bit y is 1 where y is one of them.
+fn first_values(count: u8) -> u64
+    requires { count ≤ 64 }
+    ensures { (y : ℕ) → (bit_at result y == 1) ≡ nat_lt y count }
+{
+    if count == 64 {
+        u64::MAX
+    } else {
+        (1 << count) - 1
+    }
+}
+
 /// The values of a variable's range: bit y is 1 where y is one of them.
 fn range_mask(lang: &Language, v: u8) -> u64
     requires { v < variable_count lang.now }
     ensures { (y : ℕ) → y < lang.now.value_count → (bit_at result y == 1) ≡ is_in (range_of lang.now v) y }
 {
+    // for its clauses alone: there are 64 values at most
+    let _values = lang.d();
     let (first, last) = lang.range(v);
-    let mut mask = 0;
-    for y in 0..lang.d() {
-        mask |= u64::from(is_in(first, last, y)) << y;
-    }
-    mask
+    first_values(last + 1) & !first_values(first)
 }
 
 /// Which places of a row are outside the ranges: bit y is 1 where the tuple y places further has a value that isn't one of its

@@ -1,5 +1,5 @@
 -- Looking at the conditions of changed variables.
-use Rattle.propagators.proofs.Prelude.{◌≡◌, ℕ, zero, suc, ◌+◌, ◌-◌, ◌*◌, ◌/◌, ◌%◌, ◌<◌, ◌≤◌, Bool, true, false, ◌&&◌, ◌||◌, not, List, [], ◌∷◌, length, Some, refl, sym, ◌∙◌, ap, subst, arith, inl, inr, ◌⊎◌, ◌==◌, ◌≢◌, slice_index_or, All, min, list_any, list_all, All-head, All-tail, both_ways, cases_eq, cases_lt, eq-eqb, eqb-true, ne_eqb, div-mul-add, mod-mul-add, has, union, without, least_of, Rises, IsSet, has-set_where, set_where-same, canonical, rises_lower, lacks, ones_of, bit_at, Family, Arc, is_consistent, is_not_empty, is_wanted, size_of, AreEntailed, Entailed, IsRevised, AreSettled, AreFewer, IsCut, IsUnderway, AreNoted, AreLeft, IsLooked, AreLooked, IsApart, is_with, Brief, Plan}
+use Rattle.propagators.proofs.Prelude.{◌≡◌, ℕ, zero, suc, ◌+◌, ◌-◌, ◌*◌, ◌/◌, ◌%◌, ◌<◌, ◌≤◌, Bool, true, false, ◌&&◌, ◌||◌, not, List, [], ◌∷◌, length, drop, Some, refl, sym, ◌∙◌, ap, subst, arith, inl, inr, ◌⊎◌, ◌==◌, ◌≢◌, slice_index_or, All, min, list_any, list_all, All-head, All-tail, both_ways, cases_eq, cases_lt, eq-eqb, eqb-true, ne_eqb, div-mul-add, mod-mul-add, has, union, without, least_of, Rises, IsSet, has-set_where, set_where-same, canonical, rises_lower, lacks, ones_of, bit_at, Family, Arc, is_consistent, is_not_empty, is_wanted, size_of, AreEntailed, Entailed, IsRevised, AreSettled, AreFewer, IsCut, IsUnderway, AreNoted, AreLeft, IsLooked, AreLooked, IsApart, is_with, Brief, Plan}
 use Rattle.propagators.specs.declared.briefs.Brief.TheVariants.{Other}
 use Rattle.propagators.proofs.Ones.{ones_of-zero, has-ones_of}
 use Rattle.propagators.proofs.Entailing.{entailed_now}
@@ -268,6 +268,14 @@ without_least v rest r = set_where-same _ (has rest) (λ w low. go w (v == w) re
     go : (w : ℕ) (b : Bool) → (v == w) ≡ b → ((b || has rest w) && not (b || false)) ≡ has rest w
     go w true same = sym (subst (λ (u : ℕ). has rest u ≡ false) (eqb-true v w same) (lacks (v + 1) v rest (omega arith) r.2))
     go w false other = and_true (has rest w)
+
+-- the least member stands first
+pub others_rest : (set : List ℕ) (v : ℕ) → IsSet set → least_of set ≡ Some v → drop 1 set ≡ without set v
+others_rest [] v is least = cc
+others_rest (u ∷ rest) v is least = sym (subst (λ (w : ℕ). without (u ∷ rest) w ≡ rest) same (without_least u rest is))
+  where
+    same : u ≡ v
+    same = cc
 
 pub visits_fall : (f g : Family) (changed next : List ℕ) (v : ℕ) → length changed ≤ 128 → IsSet changed → least_of changed ≡ Some v → AreLeft (without changed v) next f g → visits_left g next < visits_left f changed
 visits_fall f g [] next v few set least to = cc

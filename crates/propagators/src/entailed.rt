@@ -59,6 +59,15 @@ impl Entailed {
         }
     }
 
+    /// Becomes the same as another one.
+    #[inline]
+    pub fn take(&mut self, other: &Entailed)
+        ensures { self.new ≡ other.now }
+    {
+        self.words.copy_from_slice(&other.words);
+        self.struck.copy_from_slice(&other.struck);
+    }
+
     /// Which of the 64 conditions from 64 w on are among them.
     #[inline]
     pub(crate) fn word(&self, w: usize) -> u64

@@ -1,9 +1,9 @@
 //! Propagation with a plan: only the conditions of a changed variable are looked at.
 
-ghost use Rattle.std.specs.Prelude.{◌≡◌, ◌<◌, ◌≤◌, ◌+◌, ◌*◌, ◌/◌, ◌%◌, ◌==◌, ◌⊎◌, ℕ, List, [], true, false, All, IfSome, IfOk, IsSome, None, length, min, take, slice_index_or};
+ghost use Rattle.std.specs.Prelude.{◌≡◌, ◌<◌, ◌≤◌, ◌+◌, ◌*◌, ◌/◌, ◌%◌, ◌==◌, ◌⊎◌, ℕ, List, [], true, false, All, IfSome, IfOk, IsSome, None, Some, length, min, take, slice_index_or};
 ghost use Rattle.std.specs.Int.{bit_at};
 ghost use Rattle.std.specs.List.{list_all};
-ghost use Rattle.assign.specs.Sets.{has, without};
+ghost use Rattle.assign.specs.Sets.{has, without, least_of};
 ghost use Rattle.language.specs.Language.{Language, IsLanguage, variable_count};
 ghost use Rattle.propagators.specs.Allowed.{AreConstraints};
 ghost use Rattle.propagators.specs.Values.{ones_of};
@@ -507,13 +507,12 @@ fn strike(
     Alive::Yes
 }
 
-/// Looks at what says that v and u differ. Where v has one value, it is known already.
+/// Looks at what says that v and u differ.
 #[inline]
 fn look_at_two(
     cons: &Constraints,
     plan: &Plan,
     v: u8,
-    value: Option<u8>,
     u: u8,
     doms: &mut Domains,
     waiting: &mut VarSet,
@@ -522,21 +521,88 @@ fn look_at_two(
     requires constraints { AreConstraints cons.now.lang.now cons.now.list.now cons.now.against }
     requires plan { IsWholePlanOf cons.now.lang.now (arcs_of cons.now.lang.now cons.now.list.now cons.now.against) plan.now }
     requires doms { AreSome cons.now.lang.now doms.old }
-    requires value { IfSome value (IsValueOf doms.old v) }
     requires known { v < 128 }
     requires apart { is_with plan.now.aparts.items v u ≡ true }
     ensures looked { result ≡ Alive.Yes → (k : ℕ) → k < length plan.now.briefs.items → k < length (arcs_of cons.now.lang.now cons.now.list.now cons.now.against) → ((b : Brief) → IsApartAt (slice_index_or plan.now.briefs.items k b) v u) → IsLooked (arcs_of cons.now.lang.now cons.now.list.now cons.now.against) k waiting.old waiting.new doms.old doms.new }
-    ensures entailed { result ≡ Alive.Yes → IfSome value (λ x. (k : ℕ) (a : Arc) → k < length plan.now.briefs.items → k < length (arcs_of cons.now.lang.now cons.now.list.now cons.now.against) → ((b : Brief) → IsApartAt (slice_index_or plan.now.briefs.items k b) v u) → IsEntailed (slice_index_or (arcs_of cons.now.lang.now cons.now.list.now cons.now.against) k a) doms.new) }
     ensures dead { result ≡ Alive.No → RunsEmpty (arcs_of cons.now.lang.now cons.now.list.now cons.now.against) doms.old }
 {
-    if let Some(x) = value {
-        return strike(cons, plan, v, x, u, doms, waiting);
-    }
     if let Some(x) = doms.only(v) {
         return strike(cons, plan, v, x, u, doms, waiting);
     }
     if let Some(y) = doms.only(u) {
         return strike(cons, plan, u, y, v, doms, waiting);
+    }
+    Alive::Yes
+}
+
+/// Takes x, which is v's one value, away from the variables that have to differ from v, but for those that are struck.
+#[inline]
+fn strike_all(
+    cons: &Constraints,
+    plan: &Plan,
+    doms: &mut Domains,
+    entailed: &Entailed,
+    v: u8,
+    x: u8,
+    waiting: &mut VarSet,
+) -> Alive
+    requires lawful { IsLanguage cons.now.lang.now }
+    requires constraints { AreConstraints cons.now.lang.now cons.now.list.now cons.now.against }
+    requires plan { IsWholePlanOf cons.now.lang.now (arcs_of cons.now.lang.now cons.now.list.now cons.now.against) plan.now }
+    requires doms { AreSome cons.now.lang.now doms.old }
+    requires value { IsValueOf doms.old v x }
+    requires known { v < 128 }
+    requires entailed { AreEntailed (arcs_of cons.now.lang.now cons.now.list.now cons.now.against) plan.now entailed.now doms.old }
+    ensures looked { result ≡ Alive.Yes → AreLooked (arcs_of cons.now.lang.now cons.now.list.now cons.now.against) plan.now v waiting.old waiting.new doms.old doms.new }
+    ensures entailed { result ≡ Alive.Yes → (k : ℕ) (a : Arc) → k < length (arcs_of cons.now.lang.now cons.now.list.now cons.now.against) → has (slice_index_or (arcs_of cons.now.lang.now cons.now.list.now cons.now.against) k a).scope v ≡ true → ((c : Brief) → IsApart (slice_index_or plan.now.briefs.items k c)) → IsEntailed (slice_index_or (arcs_of cons.now.lang.now cons.now.list.now cons.now.against) k a) doms.new }
+    ensures dead { result ≡ Alive.No → RunsEmpty (arcs_of cons.now.lang.now cons.now.list.now cons.now.against) doms.old }
+{
+    for h in 0..2 {
+        let beside = plan.aparts[h * 128 + usize::from(v)];
+        let mut rest = passing(beside, entailed.struck(h), false);
+        while rest != 0 {
+            let b = least_value(rest);
+            rest = without_value(rest, b);
+            match strike(cons, plan, v, x, h as u8 * 64 + b, doms, waiting) {
+                Alive::No => return Alive::No,
+                Alive::Yes => {}
+            }
+        }
+    }
+    Alive::Yes
+}
+
+/// Looks at each variable that has to differ from v, but for those that are struck.
+// Not inlined: most variables that are looked at have one value.
+#[inline(never)]
+fn look_at_neighbours(
+    cons: &Constraints,
+    plan: &Plan,
+    doms: &mut Domains,
+    entailed: &Entailed,
+    v: u8,
+    waiting: &mut VarSet,
+) -> Alive
+    requires lawful { IsLanguage cons.now.lang.now }
+    requires constraints { AreConstraints cons.now.lang.now cons.now.list.now cons.now.against }
+    requires plan { IsWholePlanOf cons.now.lang.now (arcs_of cons.now.lang.now cons.now.list.now cons.now.against) plan.now }
+    requires doms { AreSome cons.now.lang.now doms.old }
+    requires known { v < 128 }
+    requires entailed { AreEntailed (arcs_of cons.now.lang.now cons.now.list.now cons.now.against) plan.now entailed.now doms.old }
+    ensures looked { result ≡ Alive.Yes → AreLooked (arcs_of cons.now.lang.now cons.now.list.now cons.now.against) plan.now v waiting.old waiting.new doms.old doms.new }
+    ensures dead { result ≡ Alive.No → RunsEmpty (arcs_of cons.now.lang.now cons.now.list.now cons.now.against) doms.old }
+{
+    for h in 0..2 {
+        let beside = plan.aparts[h * 128 + usize::from(v)];
+        let mut rest = passing(beside, entailed.struck(h), false);
+        while rest != 0 {
+            let b = least_value(rest);
+            rest = without_value(rest, b);
+            match look_at_two(cons, plan, v, h as u8 * 64 + b, doms, waiting) {
+                Alive::No => return Alive::No,
+                Alive::Yes => {}
+            }
+        }
     }
     Alive::Yes
 }
@@ -563,19 +629,10 @@ fn look_apart(
     ensures entailed { result ≡ Alive.Yes → IfSome value (λ x. (k : ℕ) (a : Arc) → k < length (arcs_of cons.now.lang.now cons.now.list.now cons.now.against) → has (slice_index_or (arcs_of cons.now.lang.now cons.now.list.now cons.now.against) k a).scope v ≡ true → ((c : Brief) → IsApart (slice_index_or plan.now.briefs.items k c)) → IsEntailed (slice_index_or (arcs_of cons.now.lang.now cons.now.list.now cons.now.against) k a) doms.new) }
     ensures dead { result ≡ Alive.No → RunsEmpty (arcs_of cons.now.lang.now cons.now.list.now cons.now.against) doms.old }
 {
-    for h in 0..2 {
-        let beside = plan.aparts[h * 128 + usize::from(v)];
-        let mut rest = passing(beside, entailed.struck(h), false);
-        while rest != 0 {
-            let b = least_value(rest);
-            rest = without_value(rest, b);
-            match look_at_two(cons, plan, v, value, h as u8 * 64 + b, doms, waiting) {
-                Alive::No => return Alive::No,
-                Alive::Yes => {}
-            }
-        }
+    match value {
+        Some(x) => strike_all(cons, plan, doms, entailed, v, x, waiting),
+        None => look_at_neighbours(cons, plan, doms, entailed, v, waiting),
     }
-    Alive::Yes
 }
 
 /// Takes in a variable with one value among those that are struck.
@@ -590,7 +647,20 @@ fn note_struck(entailed: &mut Entailed, v: u8, value: Option<u8>)
     }
 }
 
-/// Looks at the conditions of a changed variable, but for those that are entailed. Says which variables are waiting then; `None`
+/// The members of a set other than v, its least one.
+#[inline]
+fn without_least(set: VarSet, v: u8) -> VarSet
+    requires { least_of set ≡ Some v }
+    ensures { result ≡ without set v }
+{
+    // for its clauses alone: the members rise
+    let _many = set.len();
+    let mut rest = set;
+    let _least = rest.pop_first();
+    rest
+}
+
+/// Looks at the conditions of the least changed variable, but for those that are entailed. Says which variables are waiting then; `None`
 /// where some variable has no value left in an arc-consistent subfamily.
 fn visit(
     cons: &Constraints,
@@ -608,11 +678,12 @@ fn visit(
     requires entailed { AreEntailed (arcs_of cons.now.lang.now cons.now.list.now cons.now.against) plan.now entailed.old doms.old }
     requires count { count ≡ length (arcs_of cons.now.lang.now cons.now.list.now cons.now.against) }
     requires known { v < 128 }
+    requires least { least_of changed ≡ Some v }
     ensures visited { IfSome result (λ next. IsVisited (arcs_of cons.now.lang.now cons.now.list.now cons.now.against) (without changed v) next doms.old doms.new) }
     ensures entailed { IfSome result (λ next. AreEntailed (arcs_of cons.now.lang.now cons.now.list.now cons.now.against) plan.now entailed.new doms.new) }
     ensures dead { result ≡ None → RunsEmpty (arcs_of cons.now.lang.now cons.now.list.now cons.now.against) doms.old }
 {
-    let mut waiting = changed.without(v);
+    let mut waiting = without_least(changed, v);
     let value = value_of(cons.lang, doms, v);
     match look_apart(cons, plan, doms, entailed, v, value, &mut waiting) {
         Alive::No => return None,

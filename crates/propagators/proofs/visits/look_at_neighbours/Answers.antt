@@ -1,15 +1,13 @@
-use Rattle.propagators.proofs.Prelude.{◌≡◌, ◌<◌, ◌+◌, ◌*◌, ◌∙◌, ℕ, length, min, ap, sym, subst, refl, arith, slice_index_or, get_or_read, mul-add-lt, and_parts, arcs_of, HasApart}
+use Rattle.propagators.proofs.Prelude.{◌≡◌, ◌<◌, ◌+◌, ◌*◌, ◌∙◌, ℕ, length, min, ap, sym, subst, refl, arith, slice_index_or, get_or_read, mul-add-lt, and_parts, None, arcs_of, HasApart}
 use Rattle.propagators.proofs.Rounds.{dead_before}
 use Rattle.propagators.proofs.Conditions.{family_under}
 use Rattle.propagators.proofs.Indexed.{arcs_narrow}
-use Rattle.propagators.proofs.Single.{value_stays}
-use Rattle.propagators.proofs.Neighbours.{with_word, part_begin, part_word, part_look, part_next, part_end, part_known}
-use Rattle.propagators.proofs.visits.look_apart.Goals as goal
+use Rattle.propagators.proofs.Neighbours.{with_word, part_begin, part_word, part_look, part_next, part_end}
+use Rattle.propagators.proofs.visits.look_at_neighbours.Goals as goal
 
 pub loop-h-init : goal.loop-h-init
 loop-h-init c = record {
-  parting = part_begin (arcs_of c.args.cons.now.lang.now c.args.cons.now.list.now c.args.cons.now.against) c.args.plan.now c.args.v c.args.waiting.now c.args.doms.now c.args.value c.requires.doms.full;
-  value = c.requires.value;
+  parting = part_begin (arcs_of c.args.cons.now.lang.now c.args.cons.now.list.now c.args.cons.now.against) c.args.plan.now c.args.v c.args.waiting.now c.args.doms.now None c.requires.doms.full;
 }
 
 pub loop-rest-init : goal.loop-rest-init
@@ -18,11 +16,10 @@ loop-rest-init c = record {
       let known = c.requires.known in
       let low = c.loop-h-test.true in
       let fits = mul-add-lt c.loop-h.h 128 c.args.v 2 low c.requires.known in
-      part_word c.args.cons.now.lang.now (arcs_of c.args.cons.now.lang.now c.args.cons.now.list.now c.args.cons.now.against) c.args.plan.now c.requires.plan c.args.v c.loop-h.h c.args.waiting.now c.args.doms.now c.args.value c.loop-h.waiting c.loop-h.doms c.index-beside.result.now c.struck.result c.passing-rest.result c.args.entailed.now
+      part_word c.args.cons.now.lang.now (arcs_of c.args.cons.now.lang.now c.args.cons.now.list.now c.args.cons.now.against) c.args.plan.now c.requires.plan c.args.v c.loop-h.h c.args.waiting.now c.args.doms.now None c.loop-h.waiting c.loop-h.doms c.index-beside.result.now c.struck.result c.passing-rest.result c.args.entailed.now
       (get_or_read c.args.plan.now.aparts.items (c.loop-h.h * 128 + c.from.result) c.index-beside.result.now (subst (λ (v : ℕ). c.loop-h.h * 128 + v < length c.args.plan.now.aparts.items) (sym c.from.ensures) (omega arith)) c.index-beside.ensures 0
       ∙ ap (λ v. slice_index_or c.args.plan.now.aparts.items (c.loop-h.h * 128 + v) 0) c.from.ensures)
       c.struck.ensures c.passing-rest.ensures c.requires.entailed c.loop-h.invariant.parting);
-  value = c.loop-h.invariant.value;
   among = λ y there. (and_parts _ _ (sym (c.passing-rest.ensures y) ∙ there)).0;
 }
 
@@ -31,9 +28,6 @@ look_at_two-requires-clause-doms c = record {
   family = family_under c.args.cons.now.lang.now (arcs_of c.args.cons.now.lang.now c.args.cons.now.list.now c.args.cons.now.against) c.args.doms.now c.loop-rest.doms c.requires.doms.family c.loop-rest.invariant.parting.underway;
   full = c.loop-rest.invariant.parting.underway.full;
 }
-
-pub look_at_two-requires-clause-value : goal.look_at_two-requires-clause-value
-look_at_two-requires-clause-value c = c.loop-rest.invariant.value
 
 pub look_at_two-requires-clause-apart : goal.look_at_two-requires-clause-apart
 look_at_two-requires-clause-apart c =
@@ -60,24 +54,17 @@ loop-rest-preserved c =
     ∙ ap (λ v. slice_index_or c.args.plan.now.aparts.items (c.loop-h.h * 128 + v) 0) c.from.ensures in
     with_word c.args.plan.now.aparts.items c.args.v c.loop-h.h c.least_value-b.result c.index-beside.result.now c.loop-rest.rest c.least_value-b.ensures.low beside c.least_value-b.ensures.there c.loop-rest.invariant.among) in
     record {
-      parting = part_look c.args.cons.now.lang.now (arcs_of c.args.cons.now.lang.now c.args.cons.now.list.now c.args.cons.now.against) c.args.plan.now c.requires.plan c.args.v c.loop-h.h c.args.waiting.now c.args.doms.now c.args.value c.loop-rest.rest c.without_value-rest.result c.least_value-b.result c.loop-rest.waiting c.look_at_two.new.waiting c.loop-rest.doms c.look_at_two.new.doms by.place
-          c.least_value-b.ensures.low c.without_value-rest.ensures.has (let at = by.low in omega arith) by.is (c.in-Yes.ensures.looked refl) (c.in-Yes.ensures.entailed refl) c.loop-rest.invariant.parting;
-      value = value_stays (arcs_of c.args.cons.now.lang.now c.args.cons.now.list.now c.args.cons.now.against) c.loop-rest.doms c.look_at_two.new.doms c.args.v c.args.value ((c.in-Yes.ensures.looked refl) by.place (let at = by.low in omega arith) (let at = by.low in omega arith) by.is).underway c.loop-rest.invariant.value;
+      parting = part_look c.args.cons.now.lang.now (arcs_of c.args.cons.now.lang.now c.args.cons.now.list.now c.args.cons.now.against) c.args.plan.now c.requires.plan c.args.v c.loop-h.h c.args.waiting.now c.args.doms.now None c.loop-rest.rest c.without_value-rest.result c.least_value-b.result c.loop-rest.waiting c.look_at_two.new.waiting c.loop-rest.doms c.look_at_two.new.doms by.place
+          c.least_value-b.ensures.low c.without_value-rest.ensures.has (let at = by.low in omega arith) by.is (c.in-Yes.ensures.looked refl) tt c.loop-rest.invariant.parting;
       among = λ y there. c.loop-rest.invariant.among y (and_parts _ _ (sym (c.without_value-rest.ensures.has y) ∙ there)).0;
     })
 
 pub loop-h-preserved : goal.loop-h-preserved
 loop-h-preserved c = record {
-  parting = part_next (arcs_of c.args.cons.now.lang.now c.args.cons.now.list.now c.args.cons.now.against) c.args.plan.now c.args.v c.loop-h.h c.args.waiting.now c.args.doms.now c.args.value c.loop-rest.rest c.loop-rest.waiting c.loop-rest.doms c.loop-rest-test.false c.loop-rest.invariant.parting;
-  value = c.loop-rest.invariant.value;
+  parting = part_next (arcs_of c.args.cons.now.lang.now c.args.cons.now.list.now c.args.cons.now.against) c.args.plan.now c.args.v c.loop-h.h c.args.waiting.now c.args.doms.now None c.loop-rest.rest c.loop-rest.waiting c.loop-rest.doms c.loop-rest-test.false c.loop-rest.invariant.parting;
 }
 
 pub returns-clause-looked : goal.returns-clause-looked
 returns-clause-looked c = λ e.
-    part_end c.args.cons.now.lang.now (arcs_of c.args.cons.now.lang.now c.args.cons.now.list.now c.args.cons.now.against) c.args.plan.now c.requires.plan (λ k u a low there. arcs_narrow c.args.cons.now.lang.now c.args.cons.now.list.now c.args.cons.now.against c.requires.lawful c.requires.constraints k u a low there) c.args.v c.args.waiting.now c.args.doms.now c.args.value c.loop-h.h c.loop-h.waiting c.loop-h.doms
-    (let end = c.loop-h-test.false in omega arith) c.loop-h.invariant.parting
-
-pub returns-clause-entailed : goal.returns-clause-entailed
-returns-clause-entailed c = λ e.
-    part_known c.args.cons.now.lang.now (arcs_of c.args.cons.now.lang.now c.args.cons.now.list.now c.args.cons.now.against) c.args.plan.now c.requires.plan (λ k u a low there. arcs_narrow c.args.cons.now.lang.now c.args.cons.now.list.now c.args.cons.now.against c.requires.lawful c.requires.constraints k u a low there) c.args.v c.args.waiting.now c.args.doms.now c.args.value c.loop-h.h c.loop-h.waiting c.loop-h.doms
+    part_end c.args.cons.now.lang.now (arcs_of c.args.cons.now.lang.now c.args.cons.now.list.now c.args.cons.now.against) c.args.plan.now c.requires.plan (λ k u a low there. arcs_narrow c.args.cons.now.lang.now c.args.cons.now.list.now c.args.cons.now.against c.requires.lawful c.requires.constraints k u a low there) c.args.v c.args.waiting.now c.args.doms.now None c.loop-h.h c.loop-h.waiting c.loop-h.doms
     (let end = c.loop-h-test.false in omega arith) c.loop-h.invariant.parting
