@@ -29,7 +29,7 @@ member_at [] k low = absurd (omega arith)
 member_at (v ∷ scope) zero low = or_left _ _ (eq-eqb v v refl)
 member_at (v ∷ scope) (suc k) low = or_right _ _ (member_at scope k (omega arith))
 
-different_at : (scope : List ℕ) (j k : ℕ) → AreDifferent scope → j < k → k < length scope → slice_index_or scope k 0 ≢ slice_index_or scope j 0
+pub different_at : (scope : List ℕ) (j k : ℕ) → AreDifferent scope → j < k → k < length scope → slice_index_or scope k 0 ≢ slice_index_or scope j 0
 different_at [] j k apart before low = absurd (omega arith)
 different_at (v ∷ scope) zero zero apart before low = absurd (omega arith)
 different_at (v ∷ scope) zero (suc k) apart before low = λ e. both_ways _ apart.0 (ap (has scope) (sym e) ∙ member_at scope k (omega arith))

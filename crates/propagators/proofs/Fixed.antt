@@ -1,5 +1,5 @@
 -- A consistent condition is entailed once all of its variables but one have one value.
-use Rattle.propagators.proofs.Prelude.{◌≡◌, ℕ, suc, ◌+◌, ◌-◌, ◌<◌, ◌≤◌, true, List, [], ◌∷◌, length, length-map, drop, get_or-drop, length-drop, cases_lt, HasOne, sym, ◌∙◌, ap, subst, arith, inl, inr, ◌⊎◌, ◌≢◌, cases_eq, slice_index_or, All, list_all, has, Family, Arc, sets_on, is_not_empty, is_consistent, IsSubfamily, IsThrough, IsWithin, IsRevised, IsEntailed, AreEntailed, is_noted_in, Plan, Entailed, IsAlmostFixed}
+use Rattle.propagators.proofs.Prelude.{◌≡◌, ℕ, suc, ◌+◌, ◌-◌, ◌<◌, ◌≤◌, true, List, [], ◌∷◌, length, length-map, drop, get_or-drop, length-drop, cases_lt, HasOne, sym, ◌∙◌, ap, subst, arith, inl, inr, ◌⊎◌, ◌≢◌, cases_eq, slice_index_or, All, list_all, has, Family, Arc, sets_on, is_not_empty, is_consistent, IsSubfamily, IsThrough, IsWithin, IsRevised, IsEntailed, AreEntailed, is_noted_in, Plan, Entailed, IsAlmostFixed, AreFixedBut}
 use Rattle.propagators.proofs.Pruned.{consistent, supporting}
 use Rattle.propagators.proofs.Replacing.{supported_through, through_supported, set_at, value_within, member_of_some, all_full}
 use Rattle.propagators.proofs.Entailing.{are_less, entailed_noted}
@@ -74,9 +74,9 @@ next_one P j before here k low = go (cases_lt k j)
     go (inr more) = subst P (let e : j ≡ k = omega arith in e) here
 
 -- those before a place have one value each, and those behind it
-pub fixed_but : (f : Family) (scope : List ℕ) (j : ℕ) → j < length scope → ((k : ℕ) → k < j → HasOne (slice_index_or f (slice_index_or scope k 0) [])) →
-    ((k : ℕ) → k < length (drop (j + 1) scope) → HasOne (slice_index_or f (slice_index_or (drop (j + 1) scope) k 0) [])) → IsAlmostFixed f scope
-fixed_but f scope j under before after = record { place = j; low = under; others = λ k low other. go k low other (cases_lt k j) }
+pub fixed_others : (f : Family) (scope : List ℕ) (j : ℕ) → j < length scope → ((k : ℕ) → k < j → HasOne (slice_index_or f (slice_index_or scope k 0) [])) →
+    ((k : ℕ) → k < length (drop (j + 1) scope) → HasOne (slice_index_or f (slice_index_or (drop (j + 1) scope) k 0) [])) → AreFixedBut f scope j
+fixed_others f scope j under before after = λ k low other. go k low other (cases_lt k j)
   where
     go : (k : ℕ) → k < length scope → k ≢ j → (k < j) ⊎ (j ≤ k) → HasOne (slice_index_or f (slice_index_or scope k 0) [])
     go k low other (inl less) = before k less
@@ -84,6 +84,10 @@ fixed_but f scope j under before after = record { place = j; low = under; others
         subst (λ v. HasOne (slice_index_or f v []))
         (get_or-drop (j + 1) scope (k - (j + 1)) 0 ∙ ap (λ i. slice_index_or scope i 0) (let e : j + 1 + (k - (j + 1)) ≡ k = omega arith in e))
         (after (k - (j + 1)) (omega (arith, length-drop (j + 1) scope)))
+
+pub fixed_but : (f : Family) (scope : List ℕ) (j : ℕ) → j < length scope → ((k : ℕ) → k < j → HasOne (slice_index_or f (slice_index_or scope k 0) [])) →
+    ((k : ℕ) → k < length (drop (j + 1) scope) → HasOne (slice_index_or f (slice_index_or (drop (j + 1) scope) k 0) [])) → IsAlmostFixed f scope
+fixed_but f scope j under before after = record { place = j; low = under; others = fixed_others f scope j under before after }
 
 -- it is taken in
 pub fixed_taken_in : (arcs : List Arc) (p : Plan) (e more : Entailed) (i : ℕ) (a : Arc) (f g : Family) → ((b : Arc) → slice_index_or arcs i b ≡ a) → All (λ v. v < length f) a.scope → IsRevised a f g →

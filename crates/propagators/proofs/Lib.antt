@@ -26,3 +26,4 @@ pub mod Entailing
 pub mod Looking
 pub mod Fixed
 pub mod FromOn
+pub mod Along

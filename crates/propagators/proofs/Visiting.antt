@@ -1,5 +1,5 @@
 -- Looking at the conditions of changed variables.
-use Rattle.propagators.proofs.Prelude.{◌≡◌, ℕ, zero, suc, ◌+◌, ◌-◌, ◌*◌, ◌/◌, ◌%◌, ◌<◌, ◌≤◌, Bool, true, false, ◌&&◌, ◌||◌, not, List, [], ◌∷◌, length, drop, Some, refl, sym, ◌∙◌, ap, subst, arith, inl, inr, ◌⊎◌, ◌==◌, ◌≢◌, slice_index_or, All, min, list_any, list_all, All-head, All-tail, both_ways, cases_eq, cases_lt, eq-eqb, eqb-true, ne_eqb, div-mul-add, mod-mul-add, has, union, without, least_of, Rises, IsSet, has-set_where, set_where-same, canonical, rises_lower, lacks, ones_of, bit_at, Family, Arc, is_consistent, is_not_empty, is_wanted, size_of, AreEntailed, Entailed, IsRevised, AreSettled, AreFewer, IsCut, IsUnderway, AreNoted, AreLeft, IsLooked, AreLooked, IsApart, is_with, Brief, Plan}
+use Rattle.propagators.proofs.Prelude.{◌≡◌, ℕ, zero, suc, ◌+◌, ◌-◌, ◌*◌, ◌/◌, ◌%◌, ◌<◌, ◌≤◌, Bool, true, false, ◌&&◌, ◌||◌, not, List, [], ◌∷◌, length, drop, Some, refl, sym, ◌∙◌, ap, subst, arith, inl, inr, ◌⊎◌, ◌==◌, ◌≢◌, slice_index_or, All, min, list_any, list_all, All-head, All-tail, both_ways, cases_eq, cases_lt, eq-eqb, eqb-true, ne_eqb, div-mul-add, mod-mul-add, has, union, without, least_of, Rises, IsSet, has-set_where, set_where-same, canonical, rises_lower, lacks, ones_of, bit_at, Family, Arc, is_consistent, is_not_empty, is_wanted, size_of, AreEntailed, Entailed, IsRevised, AreSettled, AreFewer, IsCut, IsUnderway, AreNoted, AreLeft, IsLooked, IsLeftOrLooked, AreLooked, IsApart, is_with, Brief, Plan}
 use Rattle.propagators.specs.declared.briefs.Brief.TheVariants.{Other}
 use Rattle.propagators.proofs.Ones.{ones_of-zero, has-ones_of}
 use Rattle.propagators.proofs.Entailing.{entailed_now}
@@ -66,6 +66,20 @@ looked_changed arcs i waiting lost f g small low full to cut some = record {
     left : AreFewer lost f g → AreLeft waiting (union waiting lost) f g
     left (inl same) = absurd (some (no_members lost same.0))
     left (inr less) = inr less
+
+-- the condition was looked at
+pub looked_now : (arcs : List Arc) (i : ℕ) (waiting next : List ℕ) (f g : Family) → IsLooked arcs i waiting next f g → IsLeftOrLooked arcs i waiting next f g
+looked_now arcs i waiting next f g to = record { underway = to.underway; left = to.left; here = λ a low h. to.here a low; before = to.before; stays = to.stays }
+
+-- it is left to a waiting variable
+pub looked_later : (arcs : List Arc) (i : ℕ) (waiting : List ℕ) (f : Family) → list_all is_not_empty f ≡ true → ((a : Arc) → i < length arcs → list_any (has waiting) (slice_index_or arcs i a).scope ≡ true) → IsLeftOrLooked arcs i waiting waiting f f
+looked_later arcs i waiting f full touched = record {
+  underway = underway_begin arcs f full;
+  left = inl (refl, refl);
+  here = λ a low none. absurd (both_ways _ none (touched a low));
+  before = λ k a low h. h;
+  stays = λ k a low h ok. ok;
+}
 
 -- ---- the conditions of one variable
 
@@ -204,7 +218,7 @@ visit_word arcs briefs words v w sets begun from waiting f noted known word p e 
 -- one look more
 pub visit_look : (arcs : List Arc) (briefs : List Brief) (v w : ℕ) (begun : List ℕ) (from : Family) (rest later b i : ℕ) (waiting next : List ℕ) (f g : Family) →
     b < 64 → ((y : ℕ) → has (ones_of later) y ≡ (has (ones_of rest) y && not (b == y))) → i ≡ w * 64 + b →
-    IsVisiting arcs begun from (IsWithout arcs briefs v w rest) waiting f → IsLooked arcs i waiting next f g → IsVisiting arcs begun from (IsWithout arcs briefs v w later) next g
+    IsVisiting arcs begun from (IsWithout arcs briefs v w rest) waiting f → IsLeftOrLooked arcs i waiting next f g → IsVisiting arcs begun from (IsWithout arcs briefs v w later) next g
 visit_look arcs briefs v w begun from rest later b i waiting next f g small goes at is to = record {
   underway = underway_more arcs from f g is.underway to.underway;
   left = left_more begun waiting next from f g is.left to.left;
@@ -224,7 +238,8 @@ visit_look arcs briefs v w begun from rest later b i waiting next f g small goes
         still false q e n = refl
 
         pick : (k ≡ i) ⊎ (k ≢ i) → is_consistent g (slice_index_or arcs k a).scope (slice_index_or arcs k a).accepted ≡ true
-        pick (inl same) = subst (λ (j : ℕ). is_consistent g (slice_index_or arcs j a).scope (slice_index_or arcs j a).accepted ≡ true) (sym same) (to.here a (subst (λ (j : ℕ). j < length arcs) same low))
+        pick (inl same) = subst (λ (j : ℕ). is_consistent g (slice_index_or arcs j a).scope (slice_index_or arcs j a).accepted ≡ true) (sym same)
+            (to.here a (subst (λ (j : ℕ). j < length arcs) same low) (subst (λ (j : ℕ). list_any (has next) (slice_index_or arcs j a).scope ≡ false) same h))
         pick (inr other) = old k a low h (inr (
           gone.0,
           gone.1,

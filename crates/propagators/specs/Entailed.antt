@@ -37,3 +37,7 @@ pub record IsAlmostFixed (f : Family) (scope : List ℕ) : Type 0 where
   pub place : ℕ
   pub low : place < length scope
   pub others : (j : ℕ) → j < length scope → j ≢ place → HasOne (slice_index_or f (slice_index_or scope j 0) [])
+
+-- so it is for this place
+abbrev pub AreFixedBut : Family → List ℕ → ℕ → Type 0
+AreFixedBut f scope place = (j : ℕ) → j < length scope → j ≢ place → HasOne (slice_index_or f (slice_index_or scope j 0) [])

@@ -77,6 +77,15 @@ pub record IsLooked (arcs : List Arc) (i : ℕ) (waiting next : List ℕ) (f g :
   pub stays : (k : ℕ) (a : Arc) → k < length arcs → list_any (has next) (slice_index_or arcs k a).scope ≡ false →
       is_consistent f (slice_index_or arcs k a).scope (slice_index_or arcs k a).accepted ≡ true → is_consistent g (slice_index_or arcs k a).scope (slice_index_or arcs k a).accepted ≡ true
 
+-- The same, or a variable of the condition is waiting, at whose turn it is looked at.
+pub record IsLeftOrLooked (arcs : List Arc) (i : ℕ) (waiting next : List ℕ) (f g : Family) : Type 0 where
+  pub underway : IsUnderway arcs f g
+  pub left : AreLeft waiting next f g
+  pub here : (a : Arc) → i < length arcs → list_any (has next) (slice_index_or arcs i a).scope ≡ false → is_consistent g (slice_index_or arcs i a).scope (slice_index_or arcs i a).accepted ≡ true
+  pub before : (k : ℕ) (a : Arc) → k < length arcs → list_any (has next) (slice_index_or arcs k a).scope ≡ false → list_any (has waiting) (slice_index_or arcs k a).scope ≡ false
+  pub stays : (k : ℕ) (a : Arc) → k < length arcs → list_any (has next) (slice_index_or arcs k a).scope ≡ false →
+      is_consistent f (slice_index_or arcs k a).scope (slice_index_or arcs k a).accepted ≡ true → is_consistent g (slice_index_or arcs k a).scope (slice_index_or arcs k a).accepted ≡ true
+
 -- g is f after looks at the conditions that a variable differs from others, and next are the variables that are waiting then
 pub record AreLooked (arcs : List Arc) (p : Plan) (v : ℕ) (waiting next : List ℕ) (f g : Family) : Type 0 where
   pub underway : IsUnderway arcs f g

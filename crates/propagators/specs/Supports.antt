@@ -1,5 +1,5 @@
 -- Which values of some sets an accepted tuple goes through.
-use Rattle.std.specs.Prelude.{ℕ, ◌≡◌, ◌+◌, ◌*◌, ◌<◌, ◌⊎◌, Bool, true, false, List, [], ◌∷◌, length, slice_index_or, slice_set}
+use Rattle.std.specs.Prelude.{ℕ, ◌≡◌, ◌+◌, ◌*◌, ◌<◌, ◌⊎◌, Bool, true, false, ◌&&◌, List, [], ◌∷◌, length, slice_index_or, slice_set}
 use Rattle.std.specs.List.{fold, list_any, list_all}
 use Rattle.assign.specs.Sets.{has}
 use Rattle.rel_table.specs.Table.{TruthTable, truth_at}
@@ -42,6 +42,12 @@ pub record AreSupportedBeside (sets : List (List ℕ)) (accepted : List ℕ → 
   pub all : (tuple : List ℕ) → IsWithin sets tuple → accepted tuple ≡ true → IsWithin found tuple
   pub only : (i x : ℕ) → has (slice_index_or found i []) x ≡ true → (has (slice_index_or before i []) x ≡ true) ⊎ IsThrough sets accepted i x
   pub some : (x : ℕ) → has (slice_index_or found 0 []) x ≡ true → HasTuple sets accepted
+
+-- found are those values of the set at a place that go with some values of the others
+pub record AreAlong (sets : List (List ℕ)) (accepted : List ℕ → Bool) (place : ℕ) (found : List ℕ) : Type 0 where
+  pub others : List ℕ
+  pub within : IsWithin sets others
+  pub goes : (x : ℕ) → has found x ≡ (has (slice_index_or sets place []) x && accepted (slice_set others place x))
 
 -- what a table says of a tuple that goes on from a place
 abbrev pub continues : TruthTable → Bool → ℕ → List ℕ → Bool

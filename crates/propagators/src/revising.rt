@@ -30,7 +30,8 @@ pub enum Alive {
 }
 
 /// Whether some variable of a scope is a member of a set.
-fn touches(scope: &[u8], set: VarSet) -> bool
+#[inline]
+pub(crate) fn touches(scope: &[u8], set: VarSet) -> bool
     requires { All (λ v. v < 128) scope.now }
     ensures { result ≡ list_any (has set) scope.now }
 {

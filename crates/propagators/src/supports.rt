@@ -1,11 +1,11 @@
 //! Which values of some sets an accepted tuple goes through.
 
-ghost use Rattle.std.specs.Prelude.{◌≡◌, ◌+◌, ◌*◌, ◌^◌, ◌<◌, ◌≤◌, ◌==◌, ◌&&◌, ◌||◌, ℕ, Bool, true, false, List, [], ◌∷◌, length, map, take, All};
+ghost use Rattle.std.specs.Prelude.{◌≡◌, ◌+◌, ◌*◌, ◌^◌, ◌<◌, ◌≤◌, ◌==◌, ◌&&◌, ◌||◌, ℕ, Bool, true, false, List, [], ◌∷◌, length, map, take, slice_index_or, All};
 ghost use Rattle.std.specs.Int.{bit_at};
 ghost use Rattle.assign.specs.Sets.{has};
 ghost use Rattle.propagators.specs.Values.{ones_of};
-ghost use Rattle.propagators.specs.Supports.{AreSupported, AreBelow, AreSupportedBeside, HasTuple, HasNoTuple, continues};
-ghost use Rattle.propagators.specs.Families.{is_wanted};
+ghost use Rattle.propagators.specs.Supports.{AreSupported, AreAlong, AreBelow, AreSupportedBeside, HasTuple, HasNoTuple, continues};
+ghost use Rattle.propagators.specs.Families.{is_wanted, is_not_empty};
 ghost use Rattle.propagators.specs.Loose.{IsBounded};
 ghost use Rattle.propagators.specs.Chains.{IsChain};
 ghost use Rattle.propagators.specs.Pairs.{goes_by, AreSides};
@@ -15,7 +15,7 @@ ghost use Rattle.language.specs.Pairs.{ArePairTables, IsPairTable};
 
 use crate::briefs::Pair;
 use crate::values::{
-    either, greatest_value, is_empty, least_value, passing, with_value, without_value,
+    add_where, either, greatest_value, is_empty, least_value, passing, with_value, without_value,
 };
 use language::Language;
 use rel_table::Table;
@@ -315,4 +315,50 @@ pub(crate) fn supported(table: &Table, holding: bool, sets: &[u64; 4]) -> [u64; 
             [found.0, found.1, found.2, found.3]
         }
     }
+}
+
+/// Whether a truth value is what is wanted.
+#[inline]
+fn is_right(held: bool, holding: bool) -> bool
+    ensures { result ≡ is_wanted holding held }
+{
+    if holding { held } else { !held }
+}
+
+/// The least value of each of the first sets, so many.
+#[inline]
+fn least_values(sets: &[u64; 4], count: usize) -> [u8; 4]
+    requires few { count ≤ 4 }
+    requires some { (j : ℕ) → j < count → is_not_empty (ones_of (slice_index_or sets.now j 0)) ≡ true }
+    ensures there { (j : ℕ) → j < count → has (ones_of (slice_index_or sets.now j 0)) (slice_index_or result j 0) ≡ true }
+    ensures size { length result ≡ 4 }
+{
+    let mut values = [0; 4];
+    for j in 0..count {
+        values[j] = least_value(sets[j]);
+    }
+    values
+}
+
+/// The values of the set at one place of a scope that go with some values of the others.
+#[inline]
+pub(crate) fn going_along(table: &Table, holding: bool, sets: &[u64; 4], place: usize) -> u64
+    requires place { place < table.now.arity }
+    requires some { (j : ℕ) → j < table.now.arity → is_not_empty (ones_of (slice_index_or sets.now j 0)) ≡ true }
+    requires below { (j : ℕ) → j < table.now.arity → AreBelow table.now.value_count (ones_of (slice_index_or sets.now j 0)) }
+    ensures { AreAlong (take table.now.arity (map ones_of sets.now)) (continues table.now holding 0) place (ones_of result) }
+{
+    let arity = usize::from(table.arity());
+    let others = least_values(sets, arity);
+    let mut found = 0;
+    let mut rest = sets[place];
+    while rest != 0 {
+        let x = least_value(rest);
+        rest = without_value(rest, x);
+        let mut tuple = others;
+        tuple[place] = x;
+        let right = is_right(table.accepts(&tuple[..arity]), holding);
+        found = add_where(found, x, right);
+    }
+    found
 }

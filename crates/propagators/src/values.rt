@@ -188,3 +188,12 @@ pub(crate) fn add_value(values: u64, x: u8) -> u64
 {
     values | (1 << x)
 }
+
+/// The members, and x where that is wanted.
+#[inline]
+pub(crate) fn add_where(values: u64, x: u8, wanted: bool) -> u64
+    requires { x < 64 }
+    ensures { (y : ℕ) → has (ones_of result) y ≡ (has (ones_of values) y || (wanted && (x == y))) }
+{
+    if wanted { add_value(values, x) } else { values }
+}

@@ -4,10 +4,10 @@ ghost use Rattle.std.specs.Prelude.{◌≡◌, ◌<◌, ◌≤◌, ◌+◌, ◌*
 ghost use Rattle.std.specs.Int.{bit_at};
 ghost use Rattle.std.specs.List.{list_all};
 ghost use Rattle.assign.specs.Sets.{has, without, least_of};
-ghost use Rattle.language.specs.Language.{Language, IsLanguage, variable_count};
+ghost use Rattle.language.specs.Language.{Language, IsLanguage, IsCandidate, variable_count, scope_of};
 ghost use Rattle.propagators.specs.Allowed.{AreConstraints};
 ghost use Rattle.propagators.specs.Values.{ones_of};
-ghost use Rattle.propagators.specs.Families.{Family, Arc, arcs_of, is_not_empty, is_wanted};
+ghost use Rattle.propagators.specs.Families.{Family, Arc, arc_of, arcs_of, is_not_empty, is_wanted};
 ghost use Rattle.propagators.specs.Supports.{AreBelow, IsFamilyOf};
 ghost use Rattle.propagators.specs.Loose.{HasTwo, HasMore};
 ghost use Rattle.propagators.specs.Pairs.{IsOnly, IsValueOf, IsBeside};
@@ -15,19 +15,20 @@ ghost use Rattle.propagators.specs.Briefs.{IsPairOf, AreBriefs, arc_by, AreBothO
 ghost use Rattle.rel_table.specs.Relation.{Relation};
 ghost use Rattle.language.specs.Pairs.{ArePairTables, IsPairTable};
 ghost use Rattle.propagators.specs.declared.plan.Plan.{Plan};
-ghost use Rattle.propagators.specs.Entailed.{AreEntailed, IsEntailed, is_noted_in, is_struck};
-ghost use Rattle.propagators.specs.Plans.{IsPlanOf, is_with, IsParted, AreApart, AreLooked, AreNoted, AreLimits, AreTakenIn, AreNarrow, IsLooked};
+ghost use Rattle.propagators.specs.Entailed.{AreEntailed, IsEntailed, AreFixedBut, is_noted_in, is_struck};
+ghost use Rattle.propagators.specs.Plans.{IsPlanOf, is_with, IsParted, AreApart, AreLooked, AreNoted, AreLimits, AreTakenIn, AreNarrow, IsLooked, IsLeftOrLooked};
 ghost use Rattle.propagators.specs.Propagated.{AreSome, IsSettledBut, IsPropagated, RunsEmpty, IsWholePlanOf, IsVisited};
 
 use crate::briefs::{Brief, Pair, brief_of, raise_all};
 use crate::constraints::Constraints;
 use crate::domains::Domains;
-use crate::entailed::Entailed;
+use crate::entailed::{Entailed, open_place};
 use crate::plan::Plan;
-use crate::revising::{Alive, revise, revise_pair, settle};
+use crate::revising::{Alive, revise, revise_pair, settle, touches};
+use crate::supports::going_along;
 use crate::values::{add_value, is_empty, least_value, passing, without_value};
 use assign::VarSet;
-use language::Language;
+use language::{Candidate, Language};
 use std::alloc::{AllocError, Global};
 
 /// Notes a condition, or a variable, with the variables of a scope.
@@ -161,7 +162,7 @@ pub(crate) fn copy_front<T: Copy>(to: &mut [T], from: &[T], count: usize)
 }
 
 impl Plan {
-    /// Room for so many conditions: some 23 bytes for each. `AllocError` where the allocator gives no memory.
+    /// Room for so many conditions: some 24 bytes for each, and 2 KB. `AllocError` where the allocator gives no memory.
     pub fn new(alloc: Global, room: usize) -> Result<Plan, AllocError>
         requires { room ≤ 65536 }
         ensures { IfOk result (λ p. length p.briefs.items ≡ room) }
@@ -308,8 +309,48 @@ fn beside(
     None
 }
 
-/// Revises condition i. To the variables that are waiting are added those that lost values; `No` where some variable has
-/// none left in an arc-consistent subfamily.
+/// Looks at condition i, a candidate that is to hold or not to hold, each of whose variables has one value alone but for that at
+/// a place. That one is left the values that go with the others, and is waiting if it had more; `No` where there are none. Then the
+/// condition is entailed.
+#[inline]
+fn look_along(
+    cons: &Constraints,
+    i: usize,
+    c: Candidate,
+    holding: bool,
+    place: usize,
+    doms: &mut Domains,
+    entailed: &mut Entailed,
+    waiting: &mut VarSet,
+) -> Alive
+    requires lawful { IsLanguage cons.now.lang.now }
+    requires constraints { AreConstraints cons.now.lang.now cons.now.list.now cons.now.against }
+    requires low { i < length (arcs_of cons.now.lang.now cons.now.list.now cons.now.against) }
+    requires candidate { IsCandidate cons.now.lang.now c }
+    requires is { (a : Arc) → slice_index_or (arcs_of cons.now.lang.now cons.now.list.now cons.now.against) i a ≡ arc_of cons.now.lang.now c holding }
+    requires place { place < length (scope_of cons.now.lang.now c) }
+    requires fixed { AreFixedBut doms.old (scope_of cons.now.lang.now c) place }
+    requires doms { AreSome cons.now.lang.now doms.old }
+    ensures looked { result ≡ Alive.Yes → IsLooked (arcs_of cons.now.lang.now cons.now.list.now cons.now.against) i waiting.old waiting.new doms.old doms.new }
+    ensures entailed { result ≡ Alive.Yes → (p : Plan) → AreEntailed (arcs_of cons.now.lang.now cons.now.list.now cons.now.against) p entailed.old doms.old → AreEntailed (arcs_of cons.now.lang.now cons.now.list.now cons.now.against) p entailed.new doms.new }
+    ensures dead { result ≡ Alive.No → RunsEmpty (arcs_of cons.now.lang.now cons.now.list.now cons.now.against) doms.old }
+{
+    let scope = cons.lang.scope(c.scope);
+    let sets = doms.on(scope);
+    let values = going_along(cons.lang.table_on(c.scope, c.rel), holding, &sets, place);
+    if is_empty(values) {
+        return Alive::No;
+    }
+    entailed.add(i);
+    if !doms.cut(scope[place], values) {
+        return Alive::Yes;
+    }
+    *waiting = waiting.with(scope[place]);
+    Alive::Yes
+}
+
+/// Revises condition i, unless one of its variables is waiting, at whose turn that is done. To the variables that are waiting are
+/// added those that lost values; `No` where some variable has none left in an arc-consistent subfamily.
 fn look_at_other(
     cons: &Constraints,
     i: usize,
@@ -321,15 +362,22 @@ fn look_at_other(
     requires constraints { AreConstraints cons.now.lang.now cons.now.list.now cons.now.against }
     requires low { i < length (arcs_of cons.now.lang.now cons.now.list.now cons.now.against) }
     requires doms { AreSome cons.now.lang.now doms.old }
-    ensures looked { result ≡ Alive.Yes → IsLooked (arcs_of cons.now.lang.now cons.now.list.now cons.now.against) i waiting.old waiting.new doms.old doms.new }
+    ensures looked { result ≡ Alive.Yes → IsLeftOrLooked (arcs_of cons.now.lang.now cons.now.list.now cons.now.against) i waiting.old waiting.new doms.old doms.new }
     ensures entailed { result ≡ Alive.Yes → (p : Plan) → AreEntailed (arcs_of cons.now.lang.now cons.now.list.now cons.now.against) p entailed.old doms.old → AreEntailed (arcs_of cons.now.lang.now cons.now.list.now cons.now.against) p entailed.new doms.new }
     ensures dead { result ≡ Alive.No → RunsEmpty (arcs_of cons.now.lang.now cons.now.list.now cons.now.against) doms.old }
 {
     let (c, holding) = cons.condition(i);
+    let scope = cons.lang.scope(c.scope);
+    if let Some(place) = open_place(doms, scope) {
+        return look_along(cons, i, c, holding, place, doms, entailed, waiting);
+    }
+    if touches(scope, *waiting) {
+        return Alive::Yes;
+    }
     match revise(cons.lang, c, holding, doms) {
         None => Alive::No,
         Some(lost) => {
-            entailed.add_fixed(i, doms, cons.lang.scope(c.scope));
+            entailed.add_fixed(i, doms, scope);
             if lost.len() == 0 {
                 return Alive::Yes;
             }
@@ -444,7 +492,7 @@ fn look_at(
     requires plan { IsWholePlanOf cons.now.lang.now (arcs_of cons.now.lang.now cons.now.list.now cons.now.against) plan.now }
     requires count { count ≡ length (arcs_of cons.now.lang.now cons.now.list.now cons.now.against) }
     requires doms { AreSome cons.now.lang.now doms.old }
-    ensures looked { result ≡ Alive.Yes → IsLooked (arcs_of cons.now.lang.now cons.now.list.now cons.now.against) i waiting.old waiting.new doms.old doms.new }
+    ensures looked { result ≡ Alive.Yes → IsLeftOrLooked (arcs_of cons.now.lang.now cons.now.list.now cons.now.against) i waiting.old waiting.new doms.old doms.new }
     ensures entailed { result ≡ Alive.Yes → AreEntailed (arcs_of cons.now.lang.now cons.now.list.now cons.now.against) plan.now entailed.old doms.old → AreEntailed (arcs_of cons.now.lang.now cons.now.list.now cons.now.against) plan.now entailed.new doms.new }
     ensures dead { result ≡ Alive.No → RunsEmpty (arcs_of cons.now.lang.now cons.now.list.now cons.now.against) doms.old }
 {
