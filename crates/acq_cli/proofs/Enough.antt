@@ -8,7 +8,7 @@ use Rattle.fd_solver.proofs.Outcomes.{plain_is_less}
 
 pub budget_is_enough : BudgetIsEnough
 budget_is_enough turns l terms events bytes all =
-    inr (λ run t more runs is network end at.
+    inr (λ run t more network end runs is at.
     let Fits : Candidate → Type 0 = λ c. plain_size l network c ≤ terms.budget in
     let fits : All Fits (candidates l) = λ k d low. (let less = plain_is_less l [] network (get_or (candidates l) k d) in let enough = all k d low in omega arith) in
     All-filter _ Fits (candidates l) fits)

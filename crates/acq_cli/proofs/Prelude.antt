@@ -19,32 +19,33 @@ pub use Rattle.acq_loop.proofs.Standings.{at_turn, due_reached, few_answers, run
 pub use Rattle.acq_loop.proofs.Taking.{takes_then}
 pub use Rattle.acq_loop.specs.Added.{IsAdded, MayAdd, MayEnd}
 pub use Rattle.acq_loop.specs.Closings.{closing_of, ending_of}
-pub use Rattle.acq_loop.specs.Driven.{Drives, HasEnded, IsDone, IsLeftOpen, IsOwned, Loses, RanTo, TellsFull}
+pub use Rattle.acq_loop.specs.Driven.{Drives, HasEnded, HasFound, IsDone, IsLeftOpen, IsOwned, Loses, RanTo, TellsFull}
 pub use Rattle.acq_loop.specs.Points.{point_of, terms_with}
 pub use Rattle.acq_loop.specs.Program.{TellsCauses, ended_as}
 pub use Rattle.acq_loop.specs.Run.{Closing, Collapsed, Converged, Ends, JournalFull, LineTooLong, Next, Puts, Ran, Runs, Suspended, Undecided, Unreadable, after_text, answer, ended, heard_on, idle_next, next_after, next_at, next_in, next_on, number_on, put_on, puts_or, searched, turned_on}
 unfoldable pub use Rattle.acq_loop.specs.Run.{ran}
-pub use Rattle.acq_loop.specs.Texts.{converged_text, learned_after, learned_in, open_candidates, refusal_text, usage_text, whole_text}
+pub use Rattle.acq_loop.specs.Texts.{converged_text, learned_after, learned_in, not_fresh_text, open_candidates, refusal_text, usage_text, whole_text}
 pub use Rattle.acq_loop.specs.declared.driving.Drove.{Drove}
 pub use Rattle.acq_loop.specs.declared.ending.Ending.{Ending}
 pub use Rattle.acq_loop.specs.declared.terms.Terms.{Terms}
-pub use Rattle.acq_said.proofs.Closings.{err_ok, failed, loops_by, not_loops, okay, same_ok}
+pub use Rattle.acq_said.proofs.Closings.{err_ok, failed, loop_end, loops_by, not_loops, okay, same_ok}
 pub use Rattle.acq_said.proofs.Journals.{IsDisk, goes_on, goes_on_with, opened_now, opened_raised}
 pub use Rattle.acq_said.proofs.Parts.{acquires_as, acquires_in, begun, begun_part, breaks_in, breaks_refused, ends_ok, ends_part, unbegun}
-pub use Rattle.acq_said.proofs.SaidOver.{asked_own, broken_own, check_own, is_own, not_own, opening_own, over_ends, own_said, read_own, refuses_own, so_own, solve_ends, solves_own}
-pub use Rattle.acq_said.proofs.Spoken.{closed_end, ends_as, ends_said, fine, fine_long, gives_got, input_end, long_one, only_long, said_as, same_fine, silent_ends, silent_not, silently, too_many, whole_of}
+pub use Rattle.acq_said.proofs.SaidOver.{asked_own, check_own, is_own, not_own, opening_own, over_ends, own_said, read_own, refuses_own, so_own, solve_ends, solves_own}
+pub use Rattle.acq_said.proofs.Spoken.{closed_end, ends_as, ends_said, fine, fine_long, gives_got, input_end, long_one, ok_any, only_long, refuses_end, said_as, same_fine, silent_ends, silent_not, silently, too_many, whole_of}
 pub use Rattle.acq_said.proofs.TakenBack.{back_ends, back_own}
 pub use Rattle.acq_said.proofs.Tries.{fresh_part, fresh_tries, said_of}
 pub use Rattle.acq_said.specs.Asks.{AsksTruly, asked_said}
 pub use Rattle.acq_said.specs.Confirming.{ConfirmEnds, Confirms, ConfirmsExactly, IsCheck, IsCheckOf, IsJudged, IsReading, checked_said, verdict_said}
 pub use Rattle.acq_said.specs.Endings.{AddsLast, Tries}
-pub use Rattle.acq_said.specs.Exactly.{HoldsSession, IsBrokenOff, IsInTheWay, OpensExactly, RefusesOpening}
+pub use Rattle.acq_said.specs.Exactly.{IsBrokenOff, IsInTheWay, OpensExactly, RefusesOpening}
+pub use Rattle.acq_said.specs.Inputs.{SaysOfInput}
 pub use Rattle.acq_said.specs.Journals.{StaysClosed, refused_said}
 pub use Rattle.acq_said.specs.Making.{EndsAsMade, HasLanguage, IsMaking, MakesOf, NewEnds, News, RefusesMaking, made_said, voc_refused}
-pub use Rattle.acq_said.specs.Over.{SaidEnds, SaysOpening, SaysOver}
-pub use Rattle.acq_said.specs.Running.{RunsOn, any_answer}
+pub use Rattle.acq_said.specs.Over.{OpensAs, SaidEnds, SaysOpening, SaysOver}
+pub use Rattle.acq_said.specs.Running.{GoesOn, RunsOn, any_answer}
 pub use Rattle.acq_said.specs.Said.{EndsWith, HasWritten, IsSaid, SaidSo, SaysSo, or_silent}
-pub use Rattle.acq_said.specs.Saying.{Saying, saying}
+pub use Rattle.acq_said.specs.Saying.{Saying, is_told, saying}
 pub use Rattle.acq_said.specs.Solving.{Solves, solved_said}
 pub use Rattle.acq_said.specs.TakingBack.{TakesNone, back_said}
 pub use Rattle.acq_said.specs.Trying.{Acquires, IsRefusal, IsTextOfRun, ReadsVocabulary}
@@ -69,11 +70,12 @@ pub use Rattle.session_core.specs.Standing.{Stands, knowledge_of}
 pub use Rattle.session_laws.proofs.Limits.{answers_fit}
 pub use Rattle.session_laws.specs.Bound.{most_answers}
 pub use Rattle.session_laws.specs.Session.{Choosing, Halving, Idle, Over, State, Walking, open_question, scope_question, state_after}
+pub use Rattle.session_store.proofs.Openings.{ReadOnce, holds_none, opens_once, same_session}
 pub use Rattle.session_store.proofs.Keepers.{both_as, keeps_as, keeps_still, rose_later}
 pub use Rattle.session_store.specs.Kept.{answer_event}
 pub use Rattle.session_store.specs.Left.{false_is_not_true}
 pub use Rattle.session_store.specs.Loose.{events_of, lang_of, plan_of}
-pub use Rattle.session_store.specs.Opened.{Opened}
+pub use Rattle.session_store.specs.Opened.{Holds, Opened, opened_as}
 pub use Rattle.session_store.specs.Replay.{HavePlaces, IsAnswer}
 unfoldable pub use Rattle.session_store.specs.Replay.{replay_on}
 pub use Rattle.session_store.specs.Store.{question_of, voc_of}
@@ -88,11 +90,11 @@ pub use Rattle.voc_read.proofs.Refused.{not_refused}
 pub use Rattle.voc_read.specs.Vocabulary.{IsVocabulary, refusal_of_vocabulary}
 pub use Rattle.voc_read.specs.declared.fault.VocFault.{VocFault}
 pub use Rattle.acq_cli.specs.Commands.{EndsExactly}
-pub use Rattle.acq_cli.specs.Completing.{Completes, Converges, ConvergesOrCollapses, HasRoom, HasTarget, IsAffordable, IsAnswerLine, IsEnough, PlayHasEnough, RunHasEnough, SaysItsOwn, TryHasEnough}
-pub use Rattle.acq_cli.specs.Demoing.{ClosesQuietly, Demos, HasDriven, IsQuietEnd, SaysSum, Tells, TellsFront, demo_text, summary_text, whole_demo}
-pub use Rattle.acq_cli.specs.Doing.{Asks, Does, Speaks, Spoke}
+pub use Rattle.acq_cli.specs.Completing.{Completes, HasRoom, IsAffordable, IsAnswerLine, IsEnough}
+pub use Rattle.acq_cli.specs.Demoing.{ClosesQuietly, Demos, HasDriven, IsDemo, SaysSum, demo_text, summary_text, whole_demo}
+pub use Rattle.acq_cli.specs.Doing.{Asks, Does, Spoke}
+pub use Rattle.acq_cli.specs.Headline.{FindsNetwork, FindsNone, IsOfJournal, IsSessionOf}
 pub use Rattle.acq_cli.specs.Laws.{BudgetIsEnough, GeneratedIsShort, RoomIsLeft}
-pub use Rattle.acq_cli.specs.Playing.{HoldsAnswers, HoldsNoTarget, IsAnsweredBy, IsNoNetwork, IsOpened, IsUnstopped, MayLack, PlayEnds, PlaysExactly, PlaysOn, ReadsTarget, RefusesTarget, SaysWithout, stale_said, target_refused}
+pub use Rattle.acq_cli.specs.Playing.{IsAnsweredBy, PlaysExactly, PlaysOn, ReadsTarget, SaysNoNetwork, SaysUnplayed, target_refused}
 pub use Rattle.acq_cli.specs.Words.{IsAsked, Spares, command_in}
 unfoldable pub use Rattle.acq_cli.specs.Words.{command_asked}
-pub use Rattle.acq_cli.specs.declared.playing.NoTarget.{NoTarget}

@@ -54,14 +54,11 @@ whole_demo number l terms t closing = demo_text number l ++ summary_text closing
 
 -- ---- The run
 
--- the run in which this target gives each answer without a word, from none on
-abbrev pub QuietRun : List Candidate → Language → Terms → Ran → Type 0
-QuietRun target l terms run = Runs (net_turn target true) l terms [] [] run
-
--- It has closed so after these events, with so many answers, and what it found is true.
+-- The run in which this target gives each answer without a word, from none on, has closed so after these events, with so many answers, and
+-- what it found is true.
 pub record ClosesQuietly (target : List Candidate) (l : Language) (terms : Terms) (later : List Event) (end : Closing) (m : ℕ) : Type 0 where
   pub run : Ran
-  pub runs : QuietRun target l terms run
+  pub runs : Runs (net_turn target true) l terms [] [] run
   pub closing : run.closing ≡ end
   pub events : run.events ≡ later
   pub count : m ≡ length (standing_on l later)
@@ -90,28 +87,18 @@ SaysSum learned (drove.Undecided m) said = IsSaid (saying (summary_text Undecide
 SaysSum learned drove.Memory said = said ≡ Err unsaid.Memory
 SaysSum learned how said = ⊥
 
--- It ends as the run did: converged or undecided.
-abbrev pub Tells : ℕ → Language → Terms → List Event → (written written' : Option (List ℕ)) → Ending → Type 0
-Tells number l terms events written written' (ending.Converged m) =
-    ClosesQuietly (target_of number l) l terms events Converged m × Adds written written' (whole_demo number l terms (standing_on l events) Converged)
-Tells number l terms events written written' (ending.Undecided m) =
-    ClosesQuietly (target_of number l) l terms events Undecided m × Adds written written' (whole_demo number l terms (standing_on l events) Undecided)
-Tells number l terms events written written' end = ⊥
-
--- a front of the text of the run was written
-pub record TellsFront (number : ℕ) (l : Language) (terms : Terms) (written written' : Option (List ℕ)) : Type 0 where
-  pub run : Ran
-  pub runs : QuietRun (target_of number l) l terms run
-  pub adds : AddsFront written written' (whole_demo number l terms (standing_on l run.events) run.closing)
-
--- The number has made a language and a target, which gave each answer.
+-- The number has made a language and a target, which gives each answer of a run from none on, without a word. The command ends as the run
+-- does, converged or undecided, and has written the whole text; or it broke off and wrote a front of it.
 pub record IsDemo (number budget : ℕ) (written written' : Option (List ℕ)) (got : Result Ending Put) : Type 0 where
   pub lang : Language
   pub generated : IsGenerated lang
-  pub events : List Event
-  pub ends : IfOk got (Tells number lang (terms_with Quacq budget) events written written')
-  pub part : OnErr got (TellsFront number lang (terms_with Quacq budget) written written')
-  pub answered : IsAnsweredBy (target_of number lang) lang (terms_with Quacq budget) (standing_on lang events) got
+  pub run : Ran
+  pub runs : Runs (net_turn (target_of number lang) true) lang (terms_with Quacq budget) [] [] run
+  pub ends : IfOk got (λ end. ((run.closing ≡ Converged) × (end ≡ ending.Converged (length (standing_on lang run.events)))) ⊎ ((run.closing ≡ Undecided) × (end ≡ ending.Undecided (length (standing_on lang run.events)))))
+  pub found : IfOk got (λ _. HasFound lang (terms_with Quacq budget) (standing_on lang run.events) run.closing)
+  pub whole : IfOk got (λ _. Adds written written' (whole_demo number lang (terms_with Quacq budget) (standing_on lang run.events) run.closing))
+  pub part : OnErr got (AddsFront written written' (whole_demo number lang (terms_with Quacq budget) (standing_on lang run.events) run.closing))
+  pub answered : IfOk got (λ _. IsAnsweredBy (target_of number lang) lang (terms_with Quacq budget) (standing_on lang run.events) got)
 
 -- or there was no memory for them
 abbrev pub Demos : (number budget : ℕ) → (written written' : Option (List ℕ)) → Result Ending Put → Type 0

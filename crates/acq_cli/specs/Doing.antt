@@ -44,22 +44,11 @@ module _ {D : Type 0} (disk : DiskOf D) where
   Spoke command.Check left left' old new said = Confirms left left' said
   Spoke c left left' old new said = ⊥
 
-  -- it did, and wrote what it says
-  abbrev pub Speaks : Command → (left written left' written' : Option (List ℕ)) → (old new : D) → Result Ending Put → Type 0
-  Speaks c left written left' written' old new got = SaysSo (Spoke c left left' old new) written written' got
-
   -- each other command has what it does in a file of its own; refused words are told by the usage line
   abbrev pub Does : Result Command UsageFault → (left written left' written' : Option (List ℕ)) → (old new : D) → Result Ending Put → Type 0
-  Does (Ok (command.New plan)) left written left' written' old new got = Speaks (command.New plan) left written left' written' old new got
   Does (Ok (command.Run budget)) left written left' written' old new got = RunsOn disk budget left written left' written' old new got
   Does (Ok (command.Try plan budget)) left written left' written' old new got = Acquires (terms_with plan budget) left written left' written' (ended_as got)
   Does (Ok (command.Play budget)) left written left' written' old new got = PlaysOn disk budget left written left' written' old new got
-  Does (Ok command.Show) left written left' written' old new got = Speaks command.Show left written left' written' old new got
-  Does (Ok command.Back) left written left' written' old new got = Speaks command.Back left written left' written' old new got
   Does (Ok (command.Demo number budget)) left written left' written' old new got = Demos number budget written written' got
-  Does (Ok (command.Reduce budget)) left written left' written' old new got = Speaks (command.Reduce budget) left written left' written' old new got
-  Does (Ok command.Cnf) left written left' written' old new got = Speaks command.Cnf left written left' written' old new got
-  Does (Ok command.Model) left written left' written' old new got = Speaks command.Model left written left' written' old new got
-  Does (Ok (command.Certify budget)) left written left' written' old new got = Speaks (command.Certify budget) left written left' written' old new got
-  Does (Ok command.Check) left written left' written' old new got = Speaks command.Check left written left' written' old new got
+  Does (Ok c) left written left' written' old new got = SaysSo (Spoke c left left' old new) written written' got
   Does (Err fault) left written left' written' old new got = EndsWith (ending.Usage fault) usage_text written written' got

@@ -1,5 +1,4 @@
 pub mod Words
-pub mod Usage
 pub mod Playing
 pub mod Demoing
 pub mod Doing

@@ -1,76 +1,99 @@
-use Rattle.acq_cli.proofs.Prelude.{◌≡◌, Bool, false, List, [], refl, sym, subst, arith, inl, inr, ◌∙◌, ap, Result, Ok, Err, IfOk, OnErr, Event, Plan, Language, Candidate, standing_on, voc_of, question_of, net_turn, net_may_say, Loses, Tries, IsAnsweredBy, MayLack, ReadsTarget, SaysWithout, stale_said, point_of, terms_with, goes_on_with, opened_now, opened_raised, IsDisk, said_as, silent_not, NoTarget, called_as, takes_then}
+use Rattle.acq_cli.proofs.Prelude.{Bool, Candidate, Err, Event, Holds, IfOk, IsAnsweredBy, IsDisk, IsSaid, Language, List, Loses, Ok, OnErr, Option, Plan, ReadsTarget, Result, Saying, SaysNoNetwork, Tries, Unsaid, [], ap, arith, called_as, false, goes_on_with, inl, inr, net_may_say, net_turn, opened_as, opened_now, opened_raised, point_of, question_of, refl, said_as, saying, silent_not, standing_on, subst, sym, takes_then, terms_with, voc_of, ℕ, ◌∙◌, ◌≡◌, ◌≤◌}
 use Rattle.acq_io.proofs.CallLemmas.{called_on}
 use Rattle.session_store.specs.Keeping.{FailsWith}
 use Rattle.session_store.specs.Store.{lang_of, plan_of, events_of}
 use Rattle.acq_said.specs.Breaks.{BreaksRun}
+use Rattle.acq_said.specs.Inputs.{SaysOfInput}
+use Rattle.acq_said.proofs.Spoken.{ok_any}
+use Rattle.acq_loop.specs.Texts.{not_fresh_text}
+use Rattle.acq_loop.specs.declared.ending.Ending.TheVariants as ending
 use Rattle.acq_cli.proofs.Targets.{answered, none_at_all}
 use Rattle.acq_cli.proofs.Causes.{called_unless, ends_read}
-use Rattle.acq_cli.specs.declared.playing.NoTarget.TheVariants as without
 use Rattle.acq_said.specs.declared.said.Unsaid.TheVariants as unsaid
 use Rattle.network.specs.Learned.{Learned}
 use Rattle.acq_cli.proofs.playing.play_journal.Goals as goal
 
-abbrev untaken : NoTarget → Result Learned NoTarget
-untaken why = Err why
+abbrev Targeted : Type 0
+Targeted = Result Learned (Result Saying Unsaid)
 
-same_why : (a b : NoTarget) → untaken a ≡ untaken b → a ≡ b
-same_why a b e = cc
-
-abbrev taken : Learned → Result Learned NoTarget
+abbrev taken : Learned → Targeted
 taken target = Ok target
 
-lacks_none : (target : Learned) (why : NoTarget) → taken target ≡ untaken why → ⊥
-lacks_none target why e = cc
+abbrev untaken : Result Saying Unsaid → Targeted
+untaken said = Err said
+
+same_said : (a b : Result Saying Unsaid) → untaken a ≡ untaken b → a ≡ b
+same_said a b e = cc
+
+lacks_none : (target : Learned) (said : Result Saying Unsaid) → taken target ≡ untaken said → ⊥
+lacks_none target said e = cc
+
+pub returns-in-Err-clause-plays : goal.returns-in-Err-clause-plays
+returns-in-Err-clause-plays g c =
+    let refused = c.refuse_journal.ensures.refuses in
+    inl (
+      refused.0,
+      record {
+        opening = Err c.in-Err.fault;
+        opens = c.in-Err.ensures.refused;
+        some = c.in-Err.ensures.some;
+        session = tt;
+        says = (refused.1, refl);
+        so = ok_any refused.0 tt;
+        same = c.open.ensures.only_read.same;
+        any_moment = c.open.ensures.only_read.any_moment;
+        now = inl c.in-Err.ensures.synced;
+        calls = c.open.ensures.few_calls;
+      },
+      refused.2,
+    )
 
 pub returns-then-count-ge1-clause-plays : goal.returns-then-count-ge1-clause-plays
 returns-then-count-ge1-clause-plays g c =
     let store = c.in-Ok.store in
-    inr (inl (record {
-      opened = record {
-        plan = plan_of store;
-        voc = voc_of store;
-        events = events_of store;
-        says = c.in-Ok.ensures.opened;
-        some = c.in-Ok.ensures.some;
-        lang = lang_of store;
-        read = c.in-Ok.ensures.sound.read;
-        places = c.in-Ok.ensures.places;
+    let Stale : ℕ → Type 0 = λ m. (1 ≤ m) × IsSaid (saying (not_fresh_text m) (ending.NotFresh m)) c.or_silent.result in
+    let what = saying (not_fresh_text c.answers_of-count.result) (ending.NotFresh c.answers_of-count.result) in
+    let stale : Stale c.answers_of-count.result = (omega (arith, c.if-count-ge1.true), said_as c.stale.result c.or_silent.result what what c.or_silent.ensures refl c.stale.ensures) in
+    let told = subst Stale c.answers_of-count.ensures.is stale in
+    inl (
+      c.or_silent.result,
+      record {
+        opening = Ok (opened_as (plan_of store) (voc_of store) (events_of store) (lang_of store));
+        opens = λ bytes told. record { says = c.in-Ok.ensures.opened bytes told; session = record { read = c.in-Ok.ensures.sound.read; places = c.in-Ok.ensures.places } };
+        some = let said = c.in-Ok.ensures.some in (said.0, record { says = said.1; session = record { read = c.in-Ok.ensures.sound.read; places = c.in-Ok.ensures.places } });
+        session = record { read = c.in-Ok.ensures.sound.read; places = c.in-Ok.ensures.places };
+        says = inl (told.0, told.1, refl);
+        so = ok_any c.or_silent.result tt;
         same = c.open.ensures.only_read.same;
         any_moment = c.open.ensures.only_read.any_moment;
         now = λ bytes told. let was = c.open.ensures.only_read.same ∙ told in opened_now g.D.Disk c.open.new.disk store bytes was (c.in-Ok.ensures.sits c.in-Ok.ensures.live bytes was);
         calls = c.open.ensures.few_calls;
-      };
-      number = c.answers_of-count.result;
-      is = c.answers_of-count.ensures.is;
-      some = omega (arith, c.if-count-ge1.true);
-      tells = (c.or_silent.result, said_as c.stale.result c.or_silent.result (stale_said c.answers_of-count.result) (stale_said c.answers_of-count.result) c.or_silent.ensures refl c.stale.ensures, c.put.ensures.writes);
-      unread = refl;
-    }))
+      },
+      c.put.ensures.writes,
+    )
 
 pub returns-clause-plays : goal.returns-clause-plays
 returns-clause-plays g c =
     let store = c.in-Ok.store in
-    let Lacks : Language → Type 0 = λ l. MayLack l (g.S.Source.left c.args.input.now) (g.S.Source.left c.read_target.new.input) c.in-Err-read_target.why in
-    inr (inr (inl (record {
-      opened = record {
-        plan = plan_of store;
-        voc = voc_of store;
-        events = events_of store;
-        says = c.in-Ok.ensures.opened;
-        some = c.in-Ok.ensures.some;
-        lang = lang_of store;
-        read = c.in-Ok.ensures.sound.read;
-        places = c.in-Ok.ensures.places;
+    let said = c.in-Err-read_target.said in
+    let Lacks : Language → Type 0 = λ l. SaysOfInput 4194304 (SaysNoNetwork l) (g.S.Source.left c.args.input.now) (g.S.Source.left c.read_target.new.input) said in
+    let fresh : standing_on (lang_of store) (events_of store) ≡ [] = none_at_all (standing_on (lang_of store) (events_of store)) (let few = c.if-count-ge1.false in let is = c.answers_of-count.ensures.is in omega (arith, few, is)) in
+    inl (
+      said,
+      record {
+        opening = Ok (opened_as (plan_of store) (voc_of store) (events_of store) (lang_of store));
+        opens = λ bytes told. record { says = c.in-Ok.ensures.opened bytes told; session = record { read = c.in-Ok.ensures.sound.read; places = c.in-Ok.ensures.places } };
+        some = let some = c.in-Ok.ensures.some in (some.0, record { says = some.1; session = record { read = c.in-Ok.ensures.sound.read; places = c.in-Ok.ensures.places } });
+        session = record { read = c.in-Ok.ensures.sound.read; places = c.in-Ok.ensures.places };
+        says = inr (fresh, subst Lacks c.lang_of.ensures.is c.in-Err-read_target.ensures.lacks);
+        so = ok_any said tt;
         same = c.open.ensures.only_read.same;
         any_moment = c.open.ensures.only_read.any_moment;
         now = λ bytes told. let was = c.open.ensures.only_read.same ∙ told in opened_now g.D.Disk c.open.new.disk store bytes was (c.in-Ok.ensures.sits c.in-Ok.ensures.live bytes was);
         calls = c.open.ensures.few_calls;
-      };
-      fresh = none_at_all (standing_on (lang_of store) (events_of store)) (let few = c.if-count-ge1.false in let is = c.answers_of-count.ensures.is in omega (arith, few, is));
-      why = c.in-Err-read_target.why;
-      lacks = subst Lacks c.lang_of.ensures.is c.in-Err-read_target.ensures.lacks;
-      ends = (c.untargeted.result, c.untargeted.ensures.says, c.put-in-Err-read_target.ensures.writes);
-    })))
+      },
+      c.put-in-Err-read_target.ensures.writes,
+    )
 
 pub returns-in-Ok-read_target-clause-plays : goal.returns-in-Ok-read_target-clause-plays
 returns-in-Ok-read_target-clause-plays g c =
@@ -105,7 +128,11 @@ returns-in-Ok-read_target-clause-plays g c =
     (λ no bytes told. c.ask_on.ensures.keeps.persists refl bytes told no) (subst Lost c.new-teacher.ensures.quiet (λ is. c.ask_on.ensures.keeps.fails is))
     tries (subst Part c.new-teacher.ensures.quiet c.ask_on.ensures.asked.part)
     (fresh, reads, answered (net_turn target false) l terms target (events_of store) (events_of after) rest written left' written' c.ask_on.result reads.lawful fresh c.ask_on.ensures.taught.added c.ask_on.ensures.taught.said tries) in
-    inr (inr (inr (record { target = target; rest = rest; on = on.0; fresh = on.1.0; reads = on.1.1; alone = ap g.S.Source.left (c.ask_on.ensures.unread refl); answered = on.1.2 })))
+    let Played : Option (List ℕ) → Type 0 = λ r.
+    (on : GoesOn D (net_turn target false) (net_may_say target) c.args.budget r written left' written' c.args.disk.now c.ask_on.new.disk c.ask_on.result) × (standing_on on.lang on.events ≡ []) × ReadsTarget on.lang left r target
+    × IsAnsweredBy target on.lang (terms_with on.plan c.args.budget) (standing_on on.lang on.later) c.ask_on.result in
+    let played = subst Played (sym (ap g.S.Source.left (c.ask_on.ensures.unread refl))) (on.0, on.1.0, on.1.1, on.1.2) in
+    inr (record { target = target; on = played.0; fresh = played.1; reads = played.2; answered = played.3 })
 
 pub returns-in-Ok-read_target-clause-takes : goal.returns-in-Ok-read_target-clause-takes
 returns-in-Ok-read_target-clause-takes g c = takes_then _ _ _ c.read_target.ensures.takes c.ask_on.ensures.faults.read.takes
@@ -113,7 +140,7 @@ returns-in-Ok-read_target-clause-takes g c = takes_then _ _ _ c.read_target.ensu
 pub returns-in-Ok-read_target-clause-read : goal.returns-in-Ok-read_target-clause-read
 returns-in-Ok-read_target-clause-read g c =
     called_on _ _ _ _ _ _ _
-    (called_as _ _ _ _ _ _ (λ is. lacks_none c.in-Ok-read_target.target without.ReadFault (sym c.in-Ok-read_target.is ∙ is)) (λ never. absurd never) c.read_target.ensures.called)
+    (called_as _ _ _ _ _ _ (λ is. lacks_none c.in-Ok-read_target.target (Err unsaid.ReadFault) (sym c.in-Ok-read_target.is ∙ is)) (λ never. absurd never) c.read_target.ensures.called)
     c.ask_on.ensures.faults.read.called
 
 pub returns-then-count-ge1-clause-read : goal.returns-then-count-ge1-clause-read
@@ -124,13 +151,10 @@ returns-then-count-ge1-clause-lost g c is = absurd (silent_not c.stale.result c.
 
 pub returns-clause-read : goal.returns-clause-read
 returns-clause-read g c =
-    let why : NoTarget = c.in-Err-read_target.why in
-    let Says : NoTarget → Type 0 = λ w. SaysWithout w c.untargeted.result in
     called_as _ _ _ _ _ _
-    (λ is.
-    ends_read c.untargeted.result (g.K.Sink.written c.args.out.now) (g.K.Sink.written c.put-in-Err-read_target.new.out) c.put-in-Err-read_target.result c.put-in-Err-read_target.ensures.writes
-    (subst Says (same_why why without.ReadFault (sym c.in-Err-read_target.is ∙ is)) c.untargeted.ensures.says))
-    (λ is. c.in-Err-read_target.is ∙ ap untaken (c.untargeted.ensures.read (c.put-in-Err-read_target.ensures.read is))) c.read_target.ensures.called
+    (λ is. ends_read c.in-Err-read_target.said (g.K.Sink.written c.args.out.now) (g.K.Sink.written c.put-in-Err-read_target.new.out) c.put-in-Err-read_target.result c.put-in-Err-read_target.ensures.writes
+    (same_said c.in-Err-read_target.said (Err unsaid.ReadFault) (sym c.in-Err-read_target.is ∙ is)))
+    (λ is. c.in-Err-read_target.is ∙ ap untaken (c.put-in-Err-read_target.ensures.read is)) c.read_target.ensures.called
 
 pub returns-clause-lost : goal.returns-clause-lost
-returns-clause-lost g c is = absurd (c.untargeted.ensures.no_disk (c.put-in-Err-read_target.ensures.lost is))
+returns-clause-lost g c is = absurd (c.in-Err-read_target.ensures.no_disk (c.put-in-Err-read_target.ensures.lost is))
