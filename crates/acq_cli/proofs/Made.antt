@@ -1,5 +1,5 @@
 -- What `new` tells of the input and a file, exactly.
-use Rattle.acq_cli.proofs.Prelude.{true, ◌≡◌, ◌⊎◌, ◌∙◌, ℕ, List, get_or, take, Option, Some, None, Result, Ok, Err, refl, sym, ap, subst, inl, inr, ⊎_elim, arith, DiskOf, all_of, Put, AllFault, Plan, Language, SFault, IsVocabulary, refusal_of_vocabulary, VocFault, one_language, not_refused, IsBrokenOff, IsInTheWay, refused_said, EndsAsMade, HasLanguage, IsMaking, MakesOf, News, NewEnds, RefusesMaking, made_said, voc_refused, ended_as, HasWritten, SaysSo, Saying, IsRefusal, Ending, Unsaid, okay, is_own, own_said, read_own, refuses_own, ends_said, fine, input_end, only_long, same_fine, silently}
+use Rattle.acq_cli.proofs.Prelude.{AllFault, Ending, EndsAsMade, Err, HasLanguage, HasWritten, IsBrokenOff, IsInTheWay, IsMaking, IsRefusal, IsVocabulary, Language, List, MakesOf, NewEnds, News, None, Ok, Option, Plan, Put, RefusesMaking, Result, SFault, Saying, SaysSo, Some, Unsaid, VocFault, all_of, ap, arith, ended_as, ends_said, fine, get_or, inl, input_end, inr, is_own, made_said, not_refused, okay, one_language, only_long, own_said, read_own, refl, refusal_of_vocabulary, refused_said, refuses_own, same_fine, silently, subst, sym, take, true, voc_refused, ℕ, ⊎_elim, ◌∙◌, ◌≡◌, ◌⊎◌}
 use Rattle.acq_io.specs.declared.streams.Put.TheVariants as put
 use Rattle.answer_journal.specs.declared.fault.JFault.{JFault}
 use Rattle.answer_journal.specs.declared.fault.JFault.TheVariants as journal
@@ -52,39 +52,23 @@ foreign_none : (file : List ℕ) → HasNoSession file → ReadsAs file NotAJour
 foreign_none file (inl short) foreign = let more = foreign.0 in omega arith
 foreign_none file (inr shut) foreign = foreign.1 (ap (λ (l : List ℕ). take 8 l) shut.is)
 
+in_the_way : (file : List ℕ) (f : JFault) → IsInTheWay file f → ((f ≡ journal.SessionThere) × CreateRefused file journal.SessionThere) ⊎ ((f ≡ journal.NotAJournal) × CreateRefused file journal.NotAJournal)
+in_the_way file journal.SessionThere way = inl (refl, way)
+in_the_way file journal.NotAJournal way = inr (refl, way)
+in_the_way file journal.NoSession way = absurd way
+in_the_way file (journal.Damaged at) way = absurd way
+in_the_way file journal.TooManyRecords way = absurd way
+in_the_way file journal.Full way = absurd way
+in_the_way file journal.DiskFault way = absurd way
+in_the_way file journal.Memory way = absurd way
+
 not_in_the_way : (file : List ℕ) (f : JFault) → HasNoSession file → IsInTheWay file f → ⊥
-not_in_the_way file journal.SessionThere none way = there_none file none way
-not_in_the_way file journal.NotAJournal none way = foreign_none file none way
-not_in_the_way file journal.NoSession none way = way
-not_in_the_way file (journal.Damaged at) none way = way
-not_in_the_way file journal.TooManyRecords none way = way
-not_in_the_way file journal.Full none way = way
-not_in_the_way file journal.DiskFault none way = way
-not_in_the_way file journal.Memory none way = way
+not_in_the_way file f none way = ⊎_elim (λ there. there_none file none there.1) (λ foreign. foreign_none file none foreign.1) (in_the_way file f way)
 
 one_way : (file : List ℕ) (f g : JFault) → IsInTheWay file f → IsInTheWay file g → f ≡ g
-one_way file journal.SessionThere journal.SessionThere a b = refl
-one_way file journal.SessionThere journal.NotAJournal a b = absurd (b.1 a.1)
-one_way file journal.NotAJournal journal.SessionThere a b = absurd (a.1 b.1)
-one_way file journal.NotAJournal journal.NotAJournal a b = refl
-one_way file journal.SessionThere journal.NoSession a b = absurd b
-one_way file journal.SessionThere (journal.Damaged at) a b = absurd b
-one_way file journal.SessionThere journal.TooManyRecords a b = absurd b
-one_way file journal.SessionThere journal.Full a b = absurd b
-one_way file journal.SessionThere journal.DiskFault a b = absurd b
-one_way file journal.SessionThere journal.Memory a b = absurd b
-one_way file journal.NotAJournal journal.NoSession a b = absurd b
-one_way file journal.NotAJournal (journal.Damaged at) a b = absurd b
-one_way file journal.NotAJournal journal.TooManyRecords a b = absurd b
-one_way file journal.NotAJournal journal.Full a b = absurd b
-one_way file journal.NotAJournal journal.DiskFault a b = absurd b
-one_way file journal.NotAJournal journal.Memory a b = absurd b
-one_way file journal.NoSession g a b = absurd a
-one_way file (journal.Damaged at) g a b = absurd a
-one_way file journal.TooManyRecords g a b = absurd a
-one_way file journal.Full g a b = absurd a
-one_way file journal.DiskFault g a b = absurd a
-one_way file journal.Memory g a b = absurd a
+one_way file f g a b =
+    let other = in_the_way file g b in
+    ⊎_elim (λ x. ⊎_elim (λ y. x.0 ∙ sym y.0) (λ y. absurd (y.1.1 x.1.1)) other) (λ x. ⊎_elim (λ y. absurd (x.1.1 y.1.1)) (λ y. x.0 ∙ sym y.0) other) (in_the_way file f a)
 
 one_making : (bytes file : List ℕ) (a b : Making) → IsMaking bytes file a → IsMaking bytes file b → a ≡ b
 one_making bytes file (Ok l) (Ok m) x y = ap of_language (same_language bytes l m x.0 y.0)
