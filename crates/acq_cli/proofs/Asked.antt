@@ -1,5 +1,5 @@
 -- What was done about the words.
-use Rattle.acq_cli.proofs.Prelude.{Asks, AsksTruly, Command, Does, Ending, Err, IsAsked, List, Ok, Opened, Option, Put, Result, SFault, Saying, SaysOpening, SaysOver, SaysSo, SaysUnplayed, Solves, Spoke, StaysClosed, TakesNone, Unsaid, UsageFault, [], ap, arith, asked_said, command_asked, command_in, inl, inr, refl, takes_none, terms_with, unbegun, ℕ, ◌≡◌}
+use Rattle.acq_cli.proofs.Prelude.{Asks, AsksTruly, Command, DiskOf, Does, Ending, Err, IsAsked, List, Ok, Opened, Option, Put, Result, SFault, Saying, SaysOpening, SaysOver, SaysSo, SaysUnplayed, Solves, Spoke, Unsaid, UsageFault, [], ap, arith, asked_said, command_asked, command_in, inl, inr, over_refused, refl, takes_none, terms_with, unbegun, ℕ, ◌≡◌}
 use Rattle.acq_io.specs.declared.streams.Put.TheVariants as put
 use Rattle.acq_io.specs.declared.whole.AllFault.TheVariants as all
 use Rattle.acq_words.specs.Request.{IsAnswer, answer_to, contents_of}
@@ -34,44 +34,21 @@ silence = Err unsaid.Memory
 
 module _ {D : Type 0} (disk : DiskOf D) where
   module _ (only_now : (d : D) (c : List ℕ) → disk.left_since d (disk.moment d) c → disk.may_leave d c) (left written : Option (List ℕ)) (d : D) where
-    stays : StaysClosed disk left written left written d d wanting
-    stays = record {
-      fault = store.Memory;
-      why = λ bytes told. tt;
-      some = ([], tt);
-      refuses = (silence, refl, (refl, refl));
-      unread = refl;
-      same = refl;
-      any_moment = started disk d (disk.may_leave d) (only_now d);
-      now = inr (refl, refl);
-      calls = λ bytes told. omega arith;
-    }
-
     -- not a word was said
     over_nothing : (Says : Result Opened SFault → Result Saying Unsaid → Type 0) (IsTrueOf : Opened → Type 0) → Says (Err store.Memory) silence → SaysOver disk Says IsTrueOf d d silence
-    over_nothing Says IsTrueOf says = record {
-      opening = Err store.Memory;
-      opens = λ bytes told. tt;
-      some = ([], tt);
-      session = tt;
-      says = says;
-      so = tt;
-      same = refl;
-      any_moment = started disk d (disk.may_leave d) (only_now d);
-      now = inr (refl, refl);
-      calls = λ bytes told. omega arith;
-    }
+    over_nothing Says IsTrueOf says =
+        over_refused disk Says IsTrueOf d d silence refl (started disk d (disk.may_leave d) (only_now d)) (λ bytes told. omega arith) store.Memory (λ bytes told. tt) ([], tt) (inr (refl, refl)) says
 
     asks_nothing : (a : Ask) → SaysSo (Asks disk a d d) written written wanting
     asks_nothing a = (silence, over_nothing (SaysOpening (asked_said a)) (AsksTruly a) refl, (refl, refl))
 
     pub does_nothing : (asked : Result Command UsageFault) → Does disk asked left written left written d d wanting
     does_nothing (Ok (command.New plan)) = (silence, record { read = Err all.Memory; says = refl; untouched = λ none. refl }, (refl, refl))
-    does_nothing (Ok (command.Run budget)) = inl stays
+    does_nothing (Ok (command.Run budget)) = inl (silence, over_nothing _ (λ o. Unit {0}) (store.Memory, refl, refl, refl), (refl, refl))
     does_nothing (Ok (command.Try plan budget)) = unbegun (terms_with plan budget) left left written (inl ([], omega arith, λ k d low. absurd (omega (arith, low)), takes_none left))
     does_nothing (Ok (command.Play budget)) = inl (silence, over_nothing (SaysUnplayed left left) (λ o. Unit {0}) (refl, refl), (refl, refl))
     does_nothing (Ok command.Show) = asks_nothing ask.Show
-    does_nothing (Ok command.Back) = (silence, inl (over_nothing TakesNone (λ o. Unit {0}) refl), (refl, refl))
+    does_nothing (Ok command.Back) = (silence, inl (over_nothing _ (λ o. Unit {0}) (refl, tt)), (refl, refl))
     does_nothing (Ok (command.Demo number budget)) = inl (refl, refl)
     does_nothing (Ok (command.Reduce budget)) = asks_nothing (ask.Reduce budget)
     does_nothing (Ok command.Cnf) = asks_nothing ask.Cnf
@@ -84,15 +61,8 @@ module _ {D : Type 0} (disk : DiskOf D) where
 
 module _ {D : Type 0} (disk : DiskOf D) (left written left' written' : Option (List ℕ)) (old new : D) (got : Result Ending Put) where
   pub does_speak : (c : Command) → SaysSo (Spoke disk c left left' old new) written written' got → Does disk (Ok c) left written left' written' old new got
-  does_speak command.Show speaks = speaks
-  does_speak (command.Reduce budget) speaks = speaks
-  does_speak command.Cnf speaks = speaks
-  does_speak command.Model speaks = speaks
-  does_speak (command.Certify budget) speaks = speaks
-  does_speak command.Check speaks = speaks
-  does_speak (command.New plan) speaks = speaks
   does_speak (command.Run budget) speaks = absurd speaks.1
   does_speak (command.Try plan budget) speaks = absurd speaks.1
   does_speak (command.Play budget) speaks = absurd speaks.1
-  does_speak command.Back speaks = speaks
   does_speak (command.Demo number budget) speaks = absurd speaks.1
+  does_speak c speaks = speaks

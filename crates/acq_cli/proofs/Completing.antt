@@ -1,5 +1,5 @@
 -- When a command comes to its own end.
-use Rattle.acq_cli.proofs.Prelude.{Acquires, AllFault, Answer, Bool, Candidate, Closing, Command, Completes, Demos, Does, Drove, Ending, EndsExactly, Err, Event, Gathered, Gives, HasEnded, HasFound, HasRoom, HasWritten, HavePlaces, Holds, Idle, IfOk, IfSome, IsAffordable, IsBrokenOff, IsEnough, IsLanguage, IsLeftOpen, IsReached, IsRefusal, IsVocabulary, JournalFull, Language, LineTooLong, List, None, Ok, Opened, OpensAs, Option, Plan, PlaysOn, Quacq, RanTo, ReadOnce, ReadsTarget, ReadsVocabulary, Result, RunsOn, SFault, Saying, SaysNoNetwork, SaysUnplayed, Some, Suspended, Terms, Tries, Turns, Undecided, Unreadable, Unsaid, UsageFault, [], all_of, answers_fit, ap, append-nil, arith, closing_of, cond, drop, ending_of, err_ok, false, fine, fine_long, first_line_of, gathered, gives_got, inl, input_end, inr, length, line_turn, long_one, most_answers, nat_le, net_turn, network_of, not_refused, okay, one_language, opened_as, option_map, point_of, ran, refl, refusal_of_vocabulary, refuses_end, replay_on, same_fine, same_ok, same_session, standing_on, subst, sym, terms_with, true, whole_of, ℕ, ⊎_elim, ◌+◌, ◌∙◌, ◌≡◌, ◌≤◌, ◌⊎◌}
+use Rattle.acq_cli.proofs.Prelude.{Acquires, AllFault, Answer, Bool, Candidate, Closing, Command, Completes, Demos, DiskOf, Does, Drove, Ending, EndsExactly, Err, Event, Gathered, Gives, HasEnded, HasFound, HasRoom, HasWritten, HavePlaces, Holds, Idle, IfOk, IfSome, IsAffordable, IsBrokenOff, IsEnough, IsLanguage, IsLeftOpen, IsReached, IsRefusal, IsVocabulary, JournalFull, Language, LineTooLong, List, None, Ok, Opened, OpensAs, Option, Plan, PlaysOn, Quacq, RanTo, ReadOnce, ReadsTarget, ReadsVocabulary, Refuses, Result, RunsOn, SFault, Saying, SaysNoNetwork, SaysUnplayed, Some, Suspended, Terms, Tries, Turns, Undecided, Unreadable, Unsaid, UsageFault, [], all_of, answers_fit, ap, append-nil, arith, closing_of, cond, drop, ending_of, err_ok, false, fine, fine_long, first_line_of, gathered, gives_got, holds_none, inl, input_end, inr, length, line_turn, long_one, most_answers, nat_le, net_turn, network_of, not_refused, okay, one_language, option_map, point_of, ran, refl, refusal_of_vocabulary, refuses_end, replay_on, same_fine, same_ok, same_session, standing_on, subst, sym, terms_with, true, whole_of, ℕ, ⊎_elim, ◌+◌, ◌∙◌, ◌≡◌, ◌≤◌, ◌⊎◌}
 use Rattle.acq_io.specs.declared.streams.Put.TheVariants as put
 use Rattle.acq_words.specs.declared.request.Command.TheVariants as command
 use Rattle.fd_solver.specs.Outcomes.{outcome_of_candidate}
@@ -8,9 +8,8 @@ use Rattle.acq_loop.specs.declared.driving.Drove.TheVariants as drove
 use Rattle.acq_loop.specs.declared.ending.Ending.TheVariants as ending
 use Rattle.acq_cli.proofs.Answering.{AnswersEach, EndsItself, HasLines, AsMany, ends_itself, lines_answer, network_answers}
 use Rattle.acq_cli.proofs.Enough.{generated_is_settled}
-use Rattle.acq_cli.proofs.Targets.{networked, no_network, none_of, refuses_held}
+use Rattle.acq_cli.proofs.Targets.{networked, no_network, none_of}
 use Rattle.session_store.specs.Opening.{NotOpened}
-use Rattle.acq_said.specs.Journals.{Refuses}
 
 -- ---- a run that ends by itself
 
@@ -103,34 +102,20 @@ gives_rest f left now got bytes gives told = go now (sym (ap (option_map f) told
 
 module _ (terms : Terms) (left written left' written' : Option (List ℕ)) (bytes : List ℕ) (from : left ≡ Some bytes) (line : List ℕ) (l : Language) (first : (first_line_of 4194304 bytes).got ≡ Ok line) (read : IsVocabulary line l)
     (enough : IsEnough l terms [] (first_line_of 4194304 bytes).rest) where
-  reads_end : (end : Ending) → NoFault end → ReadsVocabulary terms left written left' written' end → OwnEnd end
+  reads_end : (end : Ending) → NoFault end → ReadsVocabulary left (λ lang events rest. Tries line_turn lang terms [] events rest written left' written' end) → OwnEnd end
   reads_end end calm reads =
       let rest : reads.rest ≡ Some (first_line_of 4194304 bytes).rest = gives_rest (first_line_of 4194304) left reads.rest (fine reads.line) bytes reads.gives from in
       let same : reads.line ≡ line = same_fine reads.line line (sym (gives_got (first_line_of 4194304) left reads.rest (fine reads.line) bytes reads.gives from) ∙ first) in
       let Reads : List ℕ → Type 0 = λ x. IsVocabulary x reads.lang in
       let Enough : Language → Type 0 = λ m. IsEnough m terms [] (first_line_of 4194304 bytes).rest in
       lines_end reads.lang terms [] reads.events reads.rest written left' written' end (first_line_of 4194304 bytes).rest reads.vocabulary.built.lawful (places_reached reads.lang terms.plan [] (none_placed reads.lang terms.plan)) rest (no_events_room reads.lang reads.vocabulary.built.lawful)
-      (subst Enough (one_language line l reads.lang read (subst Reads same reads.vocabulary)) enough) calm reads.tries
+      (subst Enough (one_language line l reads.lang read (subst Reads same reads.vocabulary)) enough) calm reads.did
 
   try_completes : (end : Ending) → NoFault end → Acquires terms left written left' written' end → OwnEnd end
-  try_completes (ending.Usage fault) calm done = absurd done
-  try_completes ending.Done calm done = absurd done
-  try_completes (ending.JournalRefused fault) calm done = absurd done
-  try_completes ending.DiskFault calm done = absurd done
-  try_completes (ending.NotFresh m) calm done = absurd done
-  try_completes (ending.TargetRefused fault) calm done = absurd done
-  try_completes ending.NothingBack calm done = absurd done
-  try_completes (ending.ReduceSpent i) calm done = absurd done
-  try_completes ending.CnfTooLarge calm done = absurd done
-  try_completes (ending.ModelRefused fault) calm done = absurd done
-  try_completes (ending.NotConverged m) calm done = absurd done
-  try_completes (ending.CertRefused fault) calm done = absurd done
-  try_completes (ending.Flawed flaw) calm done = absurd done
-  try_completes (ending.CertUnread fault) calm done = absurd done
   try_completes (ending.VocRefused fault) calm done =
       let refused = done.0 in
       let Refused : Result (List ℕ) AllFault → Type 0 = IsRefusal fault in
-      let told : refusal_of_vocabulary line ≡ Some fault = subst Refused (sym (gives_got (first_line_of 4194304) left left' refused.got bytes refused.gives from) ∙ first) refused.refused in
+      let told : refusal_of_vocabulary line ≡ Some fault = subst Refused (sym (gives_got (first_line_of 4194304) left left' refused.0 bytes refused.1 from) ∙ first) refused.2 in
       absurd (let bad : None ≡ Some fault = sym (not_refused line l read) ∙ told in let no : ⊥ = cc in no)
   try_completes ending.ReadFault calm done = absurd (calm.read refl)
   try_completes ending.WriteFault calm done = absurd (calm.write refl)
@@ -142,6 +127,7 @@ module _ (terms : Terms) (left written left' written' : Option (List ℕ)) (byte
   try_completes ending.LineTooLong calm done = reads_end ending.LineTooLong calm done
   try_completes ending.Unreadable calm done = reads_end ending.Unreadable calm done
   try_completes ending.JournalFull calm done = reads_end ending.JournalFull calm done
+  try_completes end calm done = absurd done
 
 -- ---- the commands over a journal
 
@@ -178,16 +164,18 @@ target_end l terms start later left rest written left' written' end bytes target
 module _ {D : Type 0} (disk : DiskOf D) (once : ReadOnce) (left written left' written' : Option (List ℕ)) (old new : D) (end : Ending) (calm : NoFault end) where
   -- a journal that isn't opened holds no session
   closed_none : (file : List ℕ) (o : Opened) (fault : SFault) (said : Result Saying Unsaid) → NotOpened file fault → Holds file o → Refuses fault said → HasWritten said written written' (okay end) → ⊥
-  closed_none file o fault said why held refuses has = ⊎_elim (not_broken end calm) (λ is. refuses_held once file fault (is.0, why) o held) (refuses_end fault said written written' end refuses has)
+  closed_none file o fault said why held refuses has = ⊎_elim (not_broken end calm) (λ is. holds_none once file fault o (is.0, why) held) (refuses_end fault said written written' end refuses has)
 
   run_completes : (budget : ℕ) → RunsOn disk budget left written left' written' old new (okay end) → Completes (command.Run budget) left (disk.content old) end
-  run_completes budget (inl closed) = λ bytes from file told o held room enough. absurd (closed_none file o closed.fault closed.refuses.0 (closed.why file told) held closed.refuses.1 closed.refuses.2)
+  run_completes budget (inl (said, over, has)) = λ bytes from file told o held room enough.
+      let As : Result Opened SFault → Type 0 = OpensAs file in
+      absurd (closed_none file o over.says.0 said (subst As over.says.1 (over.opens file told)) held over.says.2 has)
   run_completes budget (inr on) = λ bytes from file told o held room enough.
-      let there : Opened = opened_as on.plan on.voc on.events on.lang in
-      let same : o ≡ there = same_session file o there held (record { says = on.says file told; session = record { read = on.read; places = on.places } }) in
+      let l = on.of.lang in
+      let session = on.some.1.session in
       let Enough : Opened → Type 0 = λ x. HasRoom x.lang x.events × IsEnough x.lang (terms_with x.plan budget) x.events bytes in
-      let has = subst Enough same (room, enough) in
-      lines_end on.lang (terms_with on.plan budget) on.events on.later left written left' written' end bytes on.read.built.lawful (places_reached on.lang on.plan on.events on.places) from has.0 has.1 calm on.tries
+      let has = subst Enough (same_session file o on.of held (on.opens file told)) (room, enough) in
+      lines_end l (terms_with on.of.plan budget) on.of.events on.later left written left' written' end bytes session.read.built.lawful (places_reached l on.of.plan on.of.events session.places) from has.0 has.1 calm on.tries
 
   -- a session without answers, and with a network, comes to a run
   played_none : (bytes file : List ℕ) → left ≡ Some bytes → (said : Result Saying Unsaid) → HasWritten said written written' (okay end) → (o : Opened) (target : List Candidate) → Holds file o → standing_on o.lang o.events ≡ [] → network_of o.lang bytes ≡ Ok target →
@@ -204,11 +192,11 @@ module _ {D : Type 0} (disk : DiskOf D) (once : ReadOnce) (left written left' wr
       absurd (played_none bytes file from said has o target held fresh is over.opening (over.opens file told) over.says)
   play_completes budget (inr played) = λ bytes from file told o target held room fresh is affordable.
       let on = played.on in
-      let there : Opened = opened_as on.plan on.voc on.events on.lang in
-      let same : o ≡ there = same_session file o there held (record { says = on.says file told; session = record { read = on.read; places = on.places } }) in
+      let l = on.of.lang in
+      let session = on.some.1.session in
       let Enough : Opened → Type 0 = λ x. HasRoom x.lang x.events × (network_of x.lang bytes ≡ Ok target) × IsAffordable (net_turn target false) x.lang (terms_with x.plan budget) x.events [] in
-      let has = subst Enough same (room, is, affordable) in
-      target_end on.lang (terms_with on.plan budget) on.events on.later left left' written left' written' end bytes played.target target on.read.built.lawful (places_reached on.lang on.plan on.events on.places) from
+      let has = subst Enough (same_session file o on.of held (on.opens file told)) (room, is, affordable) in
+      target_end l (terms_with on.of.plan budget) on.of.events on.later left left' written left' written' end bytes played.target target session.read.built.lawful (places_reached l on.of.plan on.of.events session.places) from
       has.0 has.1 has.2 played.reads (λ m e. played.answered.no_collapse m (ap okay e)) calm on.tries
 
   -- a budget that is enough for a number's language leaves nothing open
@@ -228,12 +216,5 @@ module _ {D : Type 0} (disk : DiskOf D) (once : ReadOnce) (left written left' wr
   completes (Ok (command.Play budget)) does ends = play_completes budget does
   completes (Ok (command.Try plan budget)) does ends = λ bytes from line l first read enough. try_completes (terms_with plan budget) left written left' written' bytes from line l first read enough end calm does
   completes (Ok (command.Demo number budget)) does ends = demo_completes number budget does
-  completes (Ok (command.New plan)) does ends = exactly ends
-  completes (Ok command.Show) does ends = exactly ends
-  completes (Ok command.Back) does ends = exactly ends
-  completes (Ok (command.Reduce budget)) does ends = exactly ends
-  completes (Ok command.Cnf) does ends = exactly ends
-  completes (Ok command.Model) does ends = exactly ends
-  completes (Ok (command.Certify budget)) does ends = exactly ends
-  completes (Ok command.Check) does ends = exactly ends
   completes (Err fault) does ends = tt
+  completes (Ok c) does ends = exactly ends

@@ -1,5 +1,5 @@
 -- What `check` tells of the input, exactly.
-use Rattle.acq_cli.proofs.Prelude.{AllFault, ConfirmEnds, Confirms, ConfirmsExactly, Ending, Err, HasWritten, IfOk, IsBrokenOff, IsCheck, IsCheckOf, IsJudged, IsReading, List, Ok, Option, Put, Result, SaidSo, Saying, SaysSo, Unsaid, all_of, ap, checked_said, ended_as, inl, input_end, inr, okay, refl, silently, subst, sym, too_many, whole_of, ℕ, ⊎_elim, ◌∙◌, ◌≡◌, ◌⊎◌}
+use Rattle.acq_cli.proofs.Prelude.{AllFault, ConfirmsExactly, Ending, Err, ForSome, HasWritten, IfOk, IsBrokenOff, IsCheck, IsCheckOf, IsJudged, IsReading, List, Ok, Option, Put, Result, SaidSo, Saying, SaysOfInput, SaysSo, Unsaid, all_of, ap, checked_said, ended_as, inl, input_end, inr, okay, refl, silently, subst, sym, too_many, whole_of, ℕ, ⊎_elim, ◌∙◌, ◌≡◌, ◌⊎◌}
 use Rattle.acq_io.specs.declared.streams.Put.TheVariants as put
 use Rattle.cert_check.specs.Certificate.{Certificate}
 use Rattle.cert_check.specs.declared.fault.CertFault.{CertFault}
@@ -37,7 +37,7 @@ said_end : (bytes : List ℕ) (said : Result Saying Unsaid) (written written' : 
 said_end bytes (Ok what) written written' end so has = inr (checked_end bytes what end (all_of 67108864 bytes).got refl so has.0)
 said_end bytes (Err why) written written' end so has = inl (silently why (Err why) written written' end refl has)
 
-pub confirm_ends : (left written left' written' : Option (List ℕ)) (got : Result Ending Put) → SaysSo (Confirms left left') written written' got → ConfirmEnds left (ended_as got)
+pub confirm_ends : (left written left' written' : Option (List ℕ)) (got : Result Ending Put) → SaysSo (SaysOfInput 67108864 (λ read. SaidSo (IsCheckOf read)) left left') written written' got → ForSome left (λ bytes. IsBrokenOff (ended_as got) ⊎ ConfirmsExactly bytes (ended_as got))
 confirm_ends left written left' written' (Err put.Failed) does = λ bytes from. inl (inr (inl refl))
 confirm_ends left written left' written' (Err put.Memory) does = λ bytes from. inl (inr (inr (inr refl)))
 confirm_ends left written left' written' (Ok end) (said, says, has) = λ bytes from.

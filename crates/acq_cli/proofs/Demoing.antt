@@ -156,11 +156,4 @@ module _ (number budget : ℕ) (l : Language) (generated : IsGenerated l) (lawfu
         let Done : Result Ending Put → Type 0 = Demos number budget written written' in
         let Line : Option (List ℕ) → Type 0 = λ w. Adds written w (demo_text number l) in
         subst Done (sym still.0) (demo_stopped written' put.Memory (front_whole written written' (demo_text number l) (subst Line (sym still.1) first)))
-    demo_done (drove.Collapsed m) said got ran says has = absurd ran
-    demo_done (drove.Suspended m) said got ran says has = absurd ran
-    demo_done drove.LineTooLong said got ran says has = absurd ran
-    demo_done drove.Unreadable said got ran says has = absurd ran
-    demo_done drove.ReadFault said got ran says has = absurd ran
-    demo_done drove.WriteFault said got ran says has = absurd ran
-    demo_done drove.DiskFault said got ran says has = absurd ran
-    demo_done drove.JournalFull said got ran says has = absurd ran
+    demo_done how said got ran says has = absurd ran

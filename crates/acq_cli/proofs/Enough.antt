@@ -1,5 +1,5 @@
 -- Budgets that are enough.
-use Rattle.acq_cli.proofs.Prelude.{◌≡◌, ◌∙◌, ℕ, zero, suc, ◌+◌, ◌*◌, ◌≤◌, Bool, List, [], ◌∷◌, length, map, get_or, refl, ap, arith, inr, length-append, ◌<◌, ◌≢◌, IsTrue, filter, All, flat_map, length-map, All-filter, Candidate, Language, candidates, variable_count, kept, IsGenerated, name_of, Answer, is_among, IsLeftOpen, open_candidates, Terms, BudgetIsEnough, GeneratedIsShort}
+use Rattle.acq_cli.proofs.Prelude.{All, All-filter, Answer, Bool, BudgetIsEnough, Candidate, GeneratedIsShort, IsGenerated, IsLeftOpen, IsTrue, Language, List, Terms, [], ap, arith, candidates, filter, flat_map, get_or, inr, is_among, kept, length, length-append, length-map, map, name_of, open_candidates, refl, suc, variable_count, zero, ℕ, ◌*◌, ◌+◌, ◌<◌, ◌∙◌, ◌∷◌, ◌≡◌, ◌≢◌, ◌≤◌}
 use Rattle.std.proofs.lemmas.List.FromFn.{length-range_with_len}
 use Rattle.std.proofs.lemmas.List.Sums.{length-filter, count_by-le-length}
 use Rattle.assign.specs.Sets.{numbers}

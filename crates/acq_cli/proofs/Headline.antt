@@ -1,8 +1,9 @@
 -- What `converged` and `collapsed` say, of what was done.
-use Rattle.acq_cli.proofs.Prelude.{Acquires, Adds, AddsLast, Answer, Assignment, Candidate, Closing, Command, Does, Drove, Ending, Err, Event, FindsNetwork, FindsNone, ForSome, GoesOn, HasEnded, HasFound, IsConverged, IsDemo, IsDone, IsOfJournal, IsSessionOf, Language, List, None, NoneAgrees, Ok, Option, Plan, Put, Quacq, ReadsVocabulary, Result, SaysSo, Some, Spoke, Terms, Tries, Turns, UsageFault, [], any_answer, ap, closing_of, converged_text, ended, err_ok, false, goes_on, inl, inr, is_own, learned_after, learned_in, length, line_turn, loops_by, net_may_say, net_turn, not_loops, not_own, okay, opened_as, refl, refuses_own, standing_on, subst, sym, terms_with, true, ℕ, ⊎_elim, ◌++◌, ◌+◌, ◌∙◌, ◌≡◌, ◌⊎◌}
+use Rattle.acq_cli.proofs.Prelude.{Acquires, Adds, AddsLast, Answer, Assignment, Candidate, Closing, Command, Converged, DiskOf, Does, Drove, Ending, Err, Event, FindsNetwork, FindsNone, ForSome, GoesOn, HasEnded, HasFound, IsConverged, IsDemo, IsDone, IsOfJournal, IsSessionOf, Language, List, None, NoneAgrees, Ok, Option, Plan, Put, Quacq, ReadsVocabulary, Result, Some, Terms, Tries, Turns, UsageFault, [], any_answer, ap, closing_of, ended, ending_line, err_ok, false, goes_on, inl, inr, is_own, learned_after, learned_in, length, line_turn, loops_by, net_may_say, net_turn, not_loops, not_own, okay, refl, refuses_own, standing_on, subst, sym, terms_with, true, ℕ, ⊎_elim, ◌++◌, ◌+◌, ◌∙◌, ◌≡◌, ◌⊎◌}
 use Rattle.acq_io.specs.declared.streams.Put.TheVariants as put
 use Rattle.acq_words.specs.declared.request.Command.TheVariants as command
-use Rattle.target_oracle.specs.Turns.{Told}
+use Rattle.target_oracle.specs.declared.teacher.Told.{Told}
+use Rattle.network.specs.Texts.{network_text}
 use Rattle.acq_loop.specs.declared.driving.Drove.TheVariants as drove
 use Rattle.acq_loop.specs.declared.ending.Ending.TheVariants as ending
 use Rattle.acq_cli.proofs.Speaking.{speaks_own, unplayed_own}
@@ -24,7 +25,7 @@ learned_converges l terms t done = subst (λ (n : List Candidate). IsConverged l
 record HasConverged (l : Language) (terms : Terms) (t : List Answer) (written' : Option (List ℕ)) (m : ℕ) : Type 0 where
   number : m ≡ length t
   converged : IsConverged l (learned_after l terms t) t
-  prints : ForSome written' (λ text. (before : List ℕ) × (text ≡ before ++ converged_text l (learned_after l terms t) m))
+  prints : ForSome written' (λ text. (before : List ℕ) × (text ≡ before ++ (ending_line Converged m ++ network_text l (learned_after l terms t))))
 
 module _ (turns : Turns) (l : Language) (terms : Terms) (start events : List Event) (left written left' written' : Option (List ℕ)) (m : ℕ) where
   converged_run : Tries turns l terms start events left written left' written' (ending.Converged m) → HasConverged l terms (standing_on l events) written' m
@@ -33,11 +34,11 @@ module _ (turns : Turns) (l : Language) (terms : Terms) (start events : List Eve
       let how : tries.how ≡ drove.Converged m = loops_by tries.how (drove.Converged m) (ending.Converged m) tries.is refl in
       let ended : HasEnded l terms t (drove.Converged m) = found_by l terms t tries.how (drove.Converged m) how tries.ended.says in
       let Last : Drove → Type 0 = λ d. AddsLast l terms t tries.middle written' (closing_of d) in
-      let Printed : ℕ → Type 0 = λ k. ForSome written' (λ text. (before : List ℕ) × (text ≡ before ++ converged_text l (learned_after l terms t) k)) in
+      let Printed : ℕ → Type 0 = λ k. ForSome written' (λ text. (before : List ℕ) × (text ≡ before ++ (ending_line Converged k ++ network_text l (learned_after l terms t)))) in
       record {
         number = ended.number;
         converged = learned_converges l terms t ended.found;
-        prints = subst Printed (sym ended.number) (printed_last tries.middle written' (converged_text l (learned_after l terms t) (length t)) (subst Last how tries.adds));
+        prints = subst Printed (sym ended.number) (printed_last tries.middle written' (ending_line Converged (length t) ++ network_text l (learned_after l terms t)) (subst Last how tries.adds));
       }
 
   collapsed_run : Tries turns l terms start events left written left' written' (ending.Collapsed m) → (m ≡ length (standing_on l events)) × NoneAgrees l (standing_on l events)
@@ -69,7 +70,7 @@ run_finds asked left content turns l plan budget start events rest written left'
     record {
       network = λ m is.
           let has = converged_run turns l (terms_with plan budget) start events rest written left' written' m (subst Tried is tries) in
-          record { lang = l; plan = plan; events = events; session = session; number = has.number; converged = has.converged; prints = λ shown. has.prints };
+          record { lang = l; plan = plan; events = events; session = session; number = has.number; network = learned_after l (terms_with plan budget) (standing_on l events); learned = refl; converged = has.converged; prints = λ shown. has.prints };
       none = λ m is.
           let has = collapsed_run turns l (terms_with plan budget) start events rest written left' written' m (subst Tried is tries) in
           record { lang = l; plan = plan; events = events; session = session; number = has.0; none = has.1 };
@@ -80,16 +81,9 @@ module _ {D : Type 0} (disk : DiskOf D) (left written left' written' : Option (L
   abbrev Found : Result Command UsageFault → Type 0
   Found asked = Finds asked left (disk.content old) written' end
 
-  of_journal : (turns : Turns) (may : Language → Assignment → Told → Type 0) (budget : ℕ) (rest : Option (List ℕ)) (got : Result Ending Put) → (on : GoesOn disk turns may budget rest written left' written' old new got) → IsOfJournal (disk.content old) on.lang on.plan on.later
-  of_journal turns may budget rest got on = record {
-    session = opened_as on.plan on.voc on.events on.lang;
-    holds = λ bytes told. record { says = on.says bytes told; session = record { read = on.read; places = on.places } };
-    some = (on.some.0, record { says = on.some.1; session = record { read = on.read; places = on.places } });
-    lang = refl;
-    plan_is = refl;
-    more = on.added.more;
-    goes_on = on.added.is;
-  }
+  of_journal : (turns : Turns) (may : Language → Assignment → Told → Type 0) (budget : ℕ) (rest : Option (List ℕ)) (got : Result Ending Put) → (on : GoesOn disk turns may budget rest written left' written' old new got) →
+      IsOfJournal (disk.content old) on.of.lang on.of.plan on.later
+  of_journal turns may budget rest got on = record { session = on.of; holds = on.opens; some = on.some; lang = refl; plan_is = refl; more = on.added.more; goes_on = on.added.is }
 
   try_finds : (plan : Plan) (budget : ℕ) → Acquires (terms_with plan budget) left written left' written' end → Found (Ok (command.Try plan budget))
   try_finds plan budget does = record {
@@ -101,9 +95,9 @@ module _ {D : Type 0} (disk : DiskOf D) (left written left' written' : Option (L
       Done : Ending → Type 0
       Done = Acquires (terms_with plan budget) left written left' written'
 
-      reads : (x : Ending) → ReadsVocabulary (terms_with plan budget) left written left' written' x → Finds (Ok (command.Try plan budget)) left (disk.content old) written' x
+      reads : (x : Ending) → ReadsVocabulary left (λ lang events rest. Tries line_turn lang (terms_with plan budget) [] events rest written left' written' x) → Finds (Ok (command.Try plan budget)) left (disk.content old) written' x
       reads x does =
-          run_finds (Ok (command.Try plan budget)) left (disk.content old) line_turn does.lang plan budget [] does.events does.rest written left' written' x (does.line, does.rest, does.gives, does.vocabulary, refl) does.tries
+          run_finds (Ok (command.Try plan budget)) left (disk.content old) line_turn does.lang plan budget [] does.events does.rest written left' written' x (does.line, does.rest, does.gives, does.vocabulary, refl) does.did
 
   demo_finds : (number budget : ℕ) → IsDemo number budget written written' (okay end) → Found (Ok (command.Demo number budget))
   demo_finds number budget demo = record {
@@ -117,6 +111,8 @@ module _ {D : Type 0} (disk : DiskOf D) (left written left' written' : Option (L
           events = demo.run.events;
           session = (refl, demo.generated);
           number = same m (length t) (sym is ∙ converged.1);
+          network = learned_after demo.lang terms t;
+          learned = refl;
           converged = learned_converges demo.lang terms t (subst Found' converged.0 demo.found);
           prints = λ never. absurd (never number budget refl);
         })
@@ -136,31 +132,21 @@ module _ {D : Type 0} (disk : DiskOf D) (left written left' written' : Option (L
       same : (m n : ℕ) → ending.Converged m ≡ ending.Converged n → m ≡ n
       same m n e = cc
 
-  spoke_finds : (c : Command) → SaysSo (Spoke disk c left left' old new) written written' (okay end) → Found (Ok c)
-  spoke_finds c does = own_finds (Ok c) left (disk.content old) written' end (speaks_own disk left written left' written' old new end c does)
-
   pub finds : (asked : Result Command UsageFault) → Does disk asked left written left' written' old new (okay end) → Found asked
-  finds (Ok (command.Run budget)) (inl closed) = own_finds (Ok (command.Run budget)) left (disk.content old) written' end (refuses_own written written' end closed.fault closed.refuses)
+  finds (Ok (command.Run budget)) (inl (said, over, has)) = own_finds (Ok (command.Run budget)) left (disk.content old) written' end (refuses_own written written' end over.says.0 (said, over.says.2, has))
   finds (Ok (command.Run budget)) (inr on) =
-      run_finds (Ok (command.Run budget)) left (disk.content old) line_turn on.lang on.plan budget on.events on.later left written left' written' end (of_journal line_turn any_answer budget left (okay end) on) on.tries
+      run_finds (Ok (command.Run budget)) left (disk.content old) line_turn on.of.lang on.of.plan budget on.of.events on.later left written left' written' end (of_journal line_turn any_answer budget left (okay end) on) on.tries
   finds (Ok (command.Try plan budget)) does = try_finds plan budget does
   finds (Ok (command.Play budget)) (inl (said, over, has)) = own_finds (Ok (command.Play budget)) left (disk.content old) written' end (unplayed_own left written left' written' end said has over.opening over.says)
   finds (Ok (command.Play budget)) (inr played) =
       let on = played.on in
-      run_finds (Ok (command.Play budget)) left (disk.content old) (net_turn played.target false) on.lang on.plan budget on.events on.later left' written left' written' end
+      run_finds (Ok (command.Play budget)) left (disk.content old) (net_turn played.target false) on.of.lang on.of.plan budget on.of.events on.later left' written left' written' end
       (of_journal (net_turn played.target false) (net_may_say played.target) budget left' (okay end) on) on.tries
   finds (Ok (command.Demo number budget)) (inl none) = absurd (err_ok put.Memory end (sym none.0))
   finds (Ok (command.Demo number budget)) (inr demo) = demo_finds number budget demo
-  finds (Ok (command.New plan)) does = spoke_finds (command.New plan) does
-  finds (Ok command.Show) does = spoke_finds command.Show does
-  finds (Ok command.Back) does = spoke_finds command.Back does
-  finds (Ok (command.Reduce budget)) does = spoke_finds (command.Reduce budget) does
-  finds (Ok command.Cnf) does = spoke_finds command.Cnf does
-  finds (Ok command.Model) does = spoke_finds command.Model does
-  finds (Ok (command.Certify budget)) does = spoke_finds (command.Certify budget) does
-  finds (Ok command.Check) does = spoke_finds command.Check does
   finds (Err fault) does = record {
     network = λ m is. absurd (let bad : ending.Usage fault ≡ ending.Converged m = sym does.0 ∙ is in let no : ⊥ = cc in no);
     none = λ m is. absurd (let bad : ending.Usage fault ≡ ending.Collapsed m = sym does.0 ∙ is in let no : ⊥ = cc in no);
     usage = λ other is. ap (λ (f : UsageFault). let r : Result Command UsageFault = Err f in r) (let same : ending.Usage fault ≡ ending.Usage other = sym does.0 ∙ is in cc);
   }
+  finds (Ok c) does = own_finds (Ok c) left (disk.content old) written' end (speaks_own disk left written left' written' old new end c does)

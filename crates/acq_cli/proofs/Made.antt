@@ -1,5 +1,5 @@
 -- What `new` tells of the input and a file, exactly.
-use Rattle.acq_cli.proofs.Prelude.{AllFault, Ending, EndsAsMade, Err, HasLanguage, HasWritten, IsBrokenOff, IsInTheWay, IsMaking, IsRefusal, IsVocabulary, Language, List, MakesOf, NewEnds, News, None, Ok, Option, Plan, Put, RefusesMaking, Result, SFault, Saying, SaysSo, Some, Unsaid, VocFault, all_of, ap, arith, ended_as, ends_said, fine, get_or, inl, input_end, inr, is_own, made_said, not_refused, okay, one_language, only_long, own_said, read_own, refl, refusal_of_vocabulary, refused_said, refuses_own, same_fine, silently, subst, sym, take, true, voc_refused, ℕ, ⊎_elim, ◌∙◌, ◌≡◌, ◌⊎◌}
+use Rattle.acq_cli.proofs.Prelude.{AllFault, DiskOf, Ending, EndsAsMade, Err, ForSome, HasLanguage, HasWritten, IsBrokenOff, IsInTheWay, IsMaking, IsRefusal, IsVocabulary, Language, List, MakesOf, News, None, Ok, Option, Plan, Put, RefusesMaking, Result, SFault, Saying, SaysSo, Some, Unsaid, VocFault, all_of, ap, arith, ended_as, ends_said, fine, get_or, inl, input_end, inr, is_own, made_said, not_refused, okay, one_language, only_long, own_said, read_own, refl, refusal_of_vocabulary, refused_said, refuses_own, same_fine, silently, subst, sym, take, true, voc_refused, ℕ, ⊎_elim, ◌∙◌, ◌≡◌, ◌⊎◌}
 use Rattle.acq_io.specs.declared.streams.Put.TheVariants as put
 use Rattle.answer_journal.specs.declared.fault.JFault.{JFault}
 use Rattle.answer_journal.specs.declared.fault.JFault.TheVariants as journal
@@ -55,12 +55,7 @@ foreign_none file (inr shut) foreign = foreign.1 (ap (λ (l : List ℕ). take 8 
 in_the_way : (file : List ℕ) (f : JFault) → IsInTheWay file f → ((f ≡ journal.SessionThere) × CreateRefused file journal.SessionThere) ⊎ ((f ≡ journal.NotAJournal) × CreateRefused file journal.NotAJournal)
 in_the_way file journal.SessionThere way = inl (refl, way)
 in_the_way file journal.NotAJournal way = inr (refl, way)
-in_the_way file journal.NoSession way = absurd way
-in_the_way file (journal.Damaged at) way = absurd way
-in_the_way file journal.TooManyRecords way = absurd way
-in_the_way file journal.Full way = absurd way
-in_the_way file journal.DiskFault way = absurd way
-in_the_way file journal.Memory way = absurd way
+in_the_way file f way = absurd way
 
 not_in_the_way : (file : List ℕ) (f : JFault) → HasNoSession file → IsInTheWay file f → ⊥
 not_in_the_way file f none way = ⊎_elim (λ there. there_none file none there.1) (λ foreign. foreign_none file none foreign.1) (in_the_way file f way)
@@ -74,20 +69,15 @@ one_making : (bytes file : List ℕ) (a b : Making) → IsMaking bytes file a �
 one_making bytes file (Ok l) (Ok m) x y = ap of_language (same_language bytes l m x.0 y.0)
 one_making bytes file (Ok l) (Err (store.Voc f)) x y = absurd (read_refused (all_of 4194304 bytes).got x.0.voc f x.0.whole (not_refused x.0.voc l x.0.read) y)
 one_making bytes file (Ok l) (Err (store.Journal f)) x y = absurd (not_in_the_way file f x.1 y.1)
-one_making bytes file (Ok l) (Err (store.Stray i)) x y = absurd y
-one_making bytes file (Ok l) (Err store.Memory) x y = absurd y
 one_making bytes file (Err (store.Voc f)) (Ok l) x y = absurd (read_refused (all_of 4194304 bytes).got y.0.voc f y.0.whole (not_refused y.0.voc l y.0.read) x)
 one_making bytes file (Err (store.Voc f)) (Err (store.Voc g)) x y = ap (λ (v : VocFault). unmade (store.Voc v)) (one_refusal (all_of 4194304 bytes).got f g x y)
 one_making bytes file (Err (store.Voc f)) (Err (store.Journal g)) x y = absurd (read_refused (all_of 4194304 bytes).got y.0.voc f y.0.whole y.0.taken x)
-one_making bytes file (Err (store.Voc f)) (Err (store.Stray i)) x y = absurd y
-one_making bytes file (Err (store.Voc f)) (Err store.Memory) x y = absurd y
 one_making bytes file (Err (store.Journal f)) (Ok l) x y = absurd (not_in_the_way file f y.1 x.1)
 one_making bytes file (Err (store.Journal f)) (Err (store.Voc g)) x y = absurd (read_refused (all_of 4194304 bytes).got x.0.voc g x.0.whole x.0.taken y)
 one_making bytes file (Err (store.Journal f)) (Err (store.Journal g)) x y = ap (λ (j : JFault). unmade (store.Journal j)) (one_way file f g x.1 y.1)
-one_making bytes file (Err (store.Journal f)) (Err (store.Stray i)) x y = absurd y
-one_making bytes file (Err (store.Journal f)) (Err store.Memory) x y = absurd y
 one_making bytes file (Err (store.Stray i)) b x y = absurd x
 one_making bytes file (Err store.Memory) b x y = absurd x
+one_making bytes file a b x y = absurd y
 
 -- ---- exactly when
 
@@ -105,11 +95,7 @@ module _ (bytes file voc : List ℕ) (whole : (all_of 4194304 bytes).got ≡ fin
   not_made (store.Journal journal.NotAJournal) why says =
       inr (ends_so bytes file end (unmade (store.Journal journal.NotAJournal)) (record { voc = voc; whole = whole; taken = why.0 }, why.1) (ends_said (refused_said (store.Journal journal.NotAJournal)) said written written' end says has))
   not_made (store.Journal journal.DiskFault) why says = inl (silently unsaid.DiskFault said written written' end says has)
-  not_made (store.Journal journal.NoSession) why says = absurd why.1
-  not_made (store.Journal (journal.Damaged at)) why says = absurd why.1
-  not_made (store.Journal journal.TooManyRecords) why says = absurd why.1
-  not_made (store.Journal journal.Full) why says = absurd why.1
-  not_made (store.Journal journal.Memory) why says = absurd why.1
+  not_made (store.Journal f) why says = absurd why.1
   not_made (store.Stray i) why says = absurd why
   not_made store.Memory why says = inl (silently unsaid.Memory said written written' end says has)
 
@@ -120,7 +106,7 @@ making_own (store.Stray i) end said written written' refuses has = refuses_own w
 making_own store.Memory end said written written' refuses has = refuses_own written written' end store.Memory (said, refuses, has)
 
 module _ {D : Type 0} (disk : DiskOf D) (plan : Plan) (left written left' written' : Option (List ℕ)) (old new : D) where
-  pub new_ends : (got : Result Ending Put) → SaysSo (News disk plan left left' old new) written written' got → NewEnds left (disk.content old) (ended_as got)
+  pub new_ends : (got : Result Ending Put) → SaysSo (News disk plan left left' old new) written written' got → ForSome left (λ bytes. ForSome (disk.content old) (λ file. IsBrokenOff (ended_as got) ⊎ EndsAsMade bytes file (ended_as got)))
   new_ends (Err put.Failed) news = λ bytes from file told. inl (inr (inl refl))
   new_ends (Err put.Memory) news = λ bytes from file told. inl (inr (inr (inr refl)))
   new_ends (Ok end) (said, news, has) = λ bytes from file told.

@@ -1,5 +1,5 @@
 -- What `play` has done, of what its target said, and exactly when it refuses.
-use Rattle.acq_cli.proofs.Prelude.{All, All-cons, All-head, All-nil, All-tail, AllFault, Answer, Asks, AsksTruly, Assignment, Bool, Candidate, Command, Does, Drove, Ending, EndsExactly, Err, Event, HasEnded, HasSameSolutions, HasWritten, Holds, IfOk, IsAdded, IsAnsweredBy, IsBrokenOff, IsDone, IsLanguage, IsNetwork, IsSaid, Language, List, MayAdd, MayEnd, NetFault, None, Ok, Opened, OpensAs, Option, Plan, PlaysExactly, PlaysOn, Put, ReadOnce, RefusesOpening, Result, SFault, SaidEnds, Saying, SaysNoNetwork, SaysSo, SaysUnplayed, Some, TellsFull, Terms, Tries, Turns, Unsaid, UsageFault, [], accepts, agrees, all_of, answer, ap, append-nil, append_assoc, arith, asked_said, back_ends, cond, cut_to-standing-push, due_reached, ended, ends_said, false, few_answers, fine, gives_got, holds_none, inl, input_end, inr, is_told, json_of, learned_after, learned_in, length, long_one, loop_end, loops_by, net_may_say, network_in, network_of, not_fresh_text, not_loops, ok_or, okay, only_long, opened_as, opens_once, over_ends, refl, refuses_end, same_session, saying, solve_ends, standing_on, subst, suc, sym, target_refused, told_of_answer, too_many, true, variable_count, whole_of, ℕ, ⊎_elim, ◌&&◌, ◌++◌, ◌+◌, ◌↔◌, ◌∙◌, ◌∷◌, ◌≡◌, ◌≢◌, ◌≤◌, ◌⊎◌}
+use Rattle.acq_cli.proofs.Prelude.{All, All-cons, All-head, All-nil, All-tail, AllFault, Answer, Asks, AsksTruly, Assignment, Bool, Candidate, Command, DiskOf, Does, Drove, Ending, EndsAsOpened, EndsExactly, Err, Event, ForSome, HasEnded, HasSameSolutions, HasWritten, Holds, IfOk, IsAdded, IsAnsweredBy, IsBrokenOff, IsDone, IsLanguage, IsNetwork, IsSaid, Language, List, MayAdd, MayEnd, NetFault, None, Ok, Opened, OpensAs, Option, Plan, PlaysExactly, PlaysOn, Put, ReadOnce, RefusesOpening, Result, SFault, Saying, SaysNoNetwork, SaysSo, SaysUnplayed, Some, TellsFull, Terms, Tries, Turns, Unsaid, UsageFault, [], accepts, agrees, all_of, answer, ap, append-nil, append_assoc, arith, asked_said, back_ends, cond, cut_to-standing-push, due_reached, ended, ends_said, false, few_answers, fine, gives_got, holds_none, inl, input_end, inr, is_told, json_of, learned_after, learned_in, length, long_one, loop_end, loops_by, net_may_say, network_in, network_of, not_loops, ok_or, okay, only_long, opens_once, over_ends, refl, refuses_end, same_session, solve_ends, stale_said, standing_on, subst, suc, sym, target_refused, told_of_answer, too_many, true, variable_count, whole_of, ℕ, ⊎_elim, ◌&&◌, ◌++◌, ◌+◌, ◌↔◌, ◌∙◌, ◌∷◌, ◌≡◌, ◌≢◌, ◌≤◌, ◌⊎◌}
 use Rattle.std.specs.Bool.{beq}
 use Rattle.std.proofs.lemmas.Bool.{lt-ltb}
 use Rattle.acq_io.specs.declared.whole.AllFault.TheVariants as long
@@ -11,7 +11,7 @@ use Rattle.acq_said.specs.declared.ask.Ask.{Ask}
 use Rattle.acq_said.specs.declared.ask.Ask.TheVariants as ask
 use Rattle.acq_loop.specs.declared.driving.Drove.TheVariants as drove
 use Rattle.acq_loop.specs.declared.ending.Ending.TheVariants as ending
-use Rattle.acq_said.proofs.Exactly.{told_of_bytes, closed_exactly, run_ends}
+use Rattle.acq_said.proofs.Exactly.{closed_exactly, run_ends}
 use Rattle.acq_cli.proofs.Made.{new_ends}
 
 -- ---- what its target said
@@ -58,17 +58,17 @@ own_growth l target (e ∷ more) past each = go (All-head (OwnEvent l target) e 
   where
     go : OwnEvent l target e → IsOwnGrowth l target (past ++ e ∷ []) more → IsOwnGrowth l target past (e ∷ more)
     go (inl own) rest =
-        let q : Assignment = own.answer.question in
-        let a : Answer = answer q own.answer.yes in
+        let q : Assignment = own.0.question in
+        let a : Answer = answer q own.0.yes in
         let one : standing_on l (past ++ e ∷ []) ≡ standing_on l past ++ a ∷ [] =
-        ap (λ (x : Event). standing_on l (past ++ x ∷ [])) own.is ∙ cut_to-standing-push (variable_count l) past q own.answer.yes own.fits.size in
+        ap (λ (x : Event). standing_on l (past ++ x ∷ [])) own.1 ∙ cut_to-standing-push (variable_count l) past q own.0.yes own.2.size in
         record {
           answers = a ∷ rest.answers;
-          given = All-cons (Given l target) a rest.answers own.may_be rest.given;
+          given = All-cons (Given l target) a rest.answers own.3 rest.given;
           stand = ap (standing_on l) (sym (append_assoc past (e ∷ []) more)) ∙ rest.stand ∙ ap (λ (t : List Answer). t ++ rest.answers) one ∙ append_assoc (standing_on l past) (a ∷ []) rest.answers;
           count = ap (λ n. suc n) rest.count;
         }
-    go (inr back) rest = absurd back.may_be
+    go (inr back) rest = absurd back.2
 
 -- answers that were added to none are its own
 pub agreeing_added : (l : Language) (plan : Plan) (target : List Candidate) (before after : List Event) → standing_on l before ≡ [] → IsAdded l plan (net_may_say target l) before after → agrees l target (standing_on l after) ≡ true
@@ -81,12 +81,12 @@ pub not_filled : (l : Language) (terms : Terms) (target : List Candidate) (befor
 not_filled l terms target before after how lawful none added tells is =
     let full = tells.0 is in
     let own = own_growth l target added.more before added.each in
-    let few = few_answers l terms.plan (standing_on l after) lawful (due_reached l terms (standing_on l after) _ full.puts) in
+    let few = few_answers l terms.plan (standing_on l after) lawful (due_reached l terms (standing_on l after) _ full.0.1) in
     let start : standing_on l before ≡ [] = ap (standing_on l) none in
     let stand : length (standing_on l after) ≡ length own.answers =
     ap (λ (t : List Answer). length t) (ap (standing_on l) added.is ∙ own.stand ∙ ap (λ (t : List Answer). t ++ own.answers) start) in
     let all : length after ≡ length added.more = ap (λ (es : List Event). length es) (added.is ∙ ap (λ (es : List Event). es ++ added.more) none) in
-    omega (arith, few, stand, own.count, all, full.full)
+    omega (arith, few, stand, own.count, all, full.1)
 
 -- what was found is true of it
 pub found_by : (l : Language) (terms : Terms) (t : List Answer) (how was : Drove) → how ≡ was → HasEnded l terms t how → HasEnded l terms t was
@@ -137,27 +137,7 @@ broken_or ending.ReadFault = inl (inl refl)
 broken_or ending.WriteFault = inl (inr (inl refl))
 broken_or ending.DiskFault = inl (inr (inr (inl refl)))
 broken_or ending.Memory = inl (inr (inr (inr refl)))
-broken_or ending.Done = inr refl
-broken_or (ending.Usage fault) = inr refl
-broken_or (ending.VocRefused fault) = inr refl
-broken_or (ending.JournalRefused fault) = inr refl
-broken_or (ending.Converged m) = inr refl
-broken_or (ending.Collapsed m) = inr refl
-broken_or (ending.Undecided m) = inr refl
-broken_or (ending.Suspended m) = inr refl
-broken_or ending.LineTooLong = inr refl
-broken_or ending.Unreadable = inr refl
-broken_or ending.JournalFull = inr refl
-broken_or (ending.NotFresh m) = inr refl
-broken_or (ending.TargetRefused fault) = inr refl
-broken_or ending.NothingBack = inr refl
-broken_or (ending.ReduceSpent i) = inr refl
-broken_or ending.CnfTooLarge = inr refl
-broken_or (ending.ModelRefused fault) = inr refl
-broken_or (ending.NotConverged m) = inr refl
-broken_or (ending.CertRefused fault) = inr refl
-broken_or (ending.Flawed flaw) = inr refl
-broken_or (ending.CertUnread fault) = inr refl
+broken_or end = inr refl
 
 -- what else may be so, where its ending is told
 told_end : {P : Type 0} (end : Ending) → is_told end ≡ true → IsBrokenOff end ⊎ P → P
@@ -210,16 +190,12 @@ no_network target f e = cc
 same_refusal : (stated : Result (List Candidate) NetFault) (f g : NetFault) → stated ≡ Err f → stated ≡ Err g → f ≡ g
 same_refusal stated f g a b = let same : (let r : Result (List Candidate) NetFault = Err f in r) ≡ Err g = sym a ∙ b in cc
 
--- a file that is refused holds no session
-pub refuses_held : ReadOnce → (file : List ℕ) (f : SFault) → RefusesOpening file f → (o : Opened) → Holds file o → ⊥
-refuses_held once file f why o held = holds_none once file f o (told_of_bytes f why.0, why.1) held
-
 -- the file isn't opened
 play_closed : ReadOnce → (bytes file : List ℕ) (end : Ending) (f : SFault) → RefusesOpening file f → end ≡ ending.JournalRefused f → PlaysExactly bytes file end
 play_closed once bytes file end f why is = record {
   opens = closed_exactly once file end f why is;
-  stale = λ m. (λ e. absurd (journal_stale end f m is e), λ holds. absurd (refuses_held once file f why holds.0 holds.1));
-  refused = λ g. (λ e. absurd (journal_target end f g is e), λ holds. absurd (refuses_held once file f why holds.0 holds.1));
+  stale = λ m. (λ e. absurd (journal_stale end f m is e), λ holds. absurd (holds_none once file f holds.0 why holds.1));
+  refused = λ g. (λ e. absurd (journal_target end f g is e), λ holds. absurd (holds_none once file f holds.0 why holds.1));
 }
 
 -- A session is there, so the journal isn't refused, and what holds of one session of the file holds of this one.
@@ -227,7 +203,7 @@ play_held : ReadOnce → (bytes file : List ℕ) (end : Ending) (o : Opened) →
     ((m : ℕ) → (end ≡ ending.NotFresh m) ↔ ((1 ≤ m) × (m ≡ length (standing_on o.lang o.events)))) →
     ((f : NetFault) → (end ≡ ending.TargetRefused f) ↔ ((standing_on o.lang o.events ≡ []) × (network_of o.lang bytes ≡ Err f))) → PlaysExactly bytes file end
 play_held once bytes file end o held other stale refused = record {
-  opens = record { refused = λ f. (λ e. absurd (other f e), λ why. absurd (refuses_held once file f why o held)) };
+  opens = record { refused = λ f. (λ e. absurd (other f e), λ why. absurd (holds_none once file f o why held)) };
   stale = λ m. (
     λ e. let so = (stale m).0 e in (o, held, so.0, so.1),
     λ there. let So : Opened → Type 0 = λ x. (1 ≤ m) × (m ≡ length (standing_on x.lang x.events)) in (stale m).1 (subst So (same_session file there.0 o there.1 held) (there.2, there.3)),
@@ -249,7 +225,7 @@ module _ {D : Type 0} (disk : DiskOf D) (once : ReadOnce) (left written left' wr
       ⊎_elim (λ broken. inl broken) (λ is. inr (play_closed once bytes file end f (is.0, opens) is.1)) (refuses_end f said written written' end refuses has)
   unplayed_ends bytes file from said has (Ok o) opens (inl (some, is, unread)) =
       let t = standing_on o.lang o.events in
-      let so : end ≡ ending.NotFresh (length t) = ends_said (saying (not_fresh_text (length t)) (ending.NotFresh (length t))) said written written' end is has in
+      let so : end ≡ ending.NotFresh (length t) = ends_said (stale_said (length t)) said written written' end is has in
       inr (play_held once bytes file end o opens (λ f e. journal_stale end f (length t) e so)
       (λ m. (λ e. let same = stale_is end (length t) m so e in let Some' : ℕ → Type 0 = λ k. 1 ≤ k in (subst Some' same some, sym same), λ holds. so ∙ ap (λ (k : ℕ). ending.NotFresh k) (sym holds.1)))
       (λ f. (λ e. absurd (stale_target end (length t) f so e), λ holds. absurd (no_count t (length t) holds.0 refl some))))
@@ -270,16 +246,14 @@ module _ {D : Type 0} (disk : DiskOf D) (once : ReadOnce) (left written left' wr
   play_ends budget (inl (said, over, has)) bytes file from told = unplayed_ends bytes file from said has over.opening (over.opens file told) over.says
   play_ends budget (inr played) bytes file from told =
       let on = played.on in
-      let o = opened_as on.plan on.voc on.events on.lang in
       let whole : bytes ≡ played.reads.bytes = whole_of 4194304 bytes played.reads.bytes (gives_got (all_of 4194304) left left' (fine played.reads.bytes) bytes played.reads.gives from) in
-      let reads : network_of on.lang bytes ≡ networked played.target = ap (network_of on.lang) whole ∙ played.reads.is in
+      let reads : network_of on.of.lang bytes ≡ networked played.target = ap (network_of on.of.lang) whole ∙ played.reads.is in
       let loops : (other : Ending) → loop_end other ≡ None → end ≡ other → ⊥ = λ other apart is. not_loops on.tries.how other (on.tries.is ∙ ap okay is) apart in
-      inr (play_held once bytes file end o (record { says = on.says file told; session = record { read = on.read; places = on.places } })
-      (λ f. loops (ending.JournalRefused f) refl)
-      (λ m. (λ e. absurd (loops (ending.NotFresh m) refl e), λ holds. absurd (no_count (standing_on on.lang on.events) m played.fresh holds.1 holds.0)))
+      inr (play_held once bytes file end on.of (on.opens file told) (λ f. loops (ending.JournalRefused f) refl)
+      (λ m. (λ e. absurd (loops (ending.NotFresh m) refl e), λ holds. absurd (no_count (standing_on on.of.lang on.of.events) m played.fresh holds.1 holds.0)))
       (λ f. (λ e. absurd (loops (ending.TargetRefused f) refl e), λ holds. absurd (no_network played.target f (sym reads ∙ holds.1)))))
 
-  asked_ends : (a : Ask) → SaysSo (Asks disk a old new) written written' (okay end) → SaidEnds (asked_said a) (disk.content old) end
+  asked_ends : (a : Ask) → SaysSo (Asks disk a old new) written written' (okay end) → ForSome (disk.content old) (λ file. IsBrokenOff end ⊎ EndsAsOpened (asked_said a) file end)
   asked_ends a does = over_ends disk (opens_once once) (asked_said a) (AsksTruly a) written written' old new (okay end) does
 
   pub ends_exactly : is_told end ≡ true → (asked : Result Command UsageFault) → Does disk asked left written left' written' old new (okay end) → IfOk asked (λ c. EndsExactly c left (disk.content old) end)

@@ -1,18 +1,7 @@
 -- Exactly when the commands are done and refused.
-use Rattle.std.specs.Prelude.{ℕ, List, Option}
-use Rattle.std.specs.Option.{ForSome}
-use Rattle.acq_io.specs.Whole.{all_of}
-use Rattle.acq_words.specs.declared.request.Command.{Command}
+use Rattle.acq_cli.specs.Prelude.{Command, ConfirmsExactly, Ending, EndsAsMade, EndsAsOpened, ForSome, List, OpensExactly, Option, all_of, asked_said, back_said, solved_said, ℕ}
 use Rattle.acq_words.specs.declared.request.Command.TheVariants as command
-use Rattle.acq_said.specs.Asks.{asked_said}
-use Rattle.acq_said.specs.Confirming.{ConfirmsExactly}
-use Rattle.acq_said.specs.Exactly.{OpensExactly}
-use Rattle.acq_said.specs.Making.{EndsAsMade}
-use Rattle.acq_said.specs.Over.{EndsAsOpened}
-use Rattle.acq_said.specs.Solving.{solved_said}
-use Rattle.acq_said.specs.TakingBack.{back_said}
 use Rattle.acq_said.specs.declared.ask.Ask.TheVariants as ask
-use Rattle.acq_loop.specs.declared.ending.Ending.{Ending}
 use Rattle.acq_cli.specs.Playing.{PlaysExactly}
 
 -- Where they are told, what the bytes of the input and of the file are says how a command ends that asks nothing. The others refuse a

@@ -1,33 +1,7 @@
 -- When a command comes to its own end, and to no other.
-use Rattle.std.specs.Prelude.{◌≡◌, ◌⊎◌, ◌<◌, ◌≤◌, ◌+◌, ℕ, Bool, false, List, [], ◌∷◌, ◌++◌, length, All, Option, Some, Ok}
-use Rattle.std.specs.List.{flat_map}
-use Rattle.std.specs.Option.{ForSome}
-use Rattle.acq_io.specs.Lines.{LacksNewline, newline}
-use Rattle.acq_io.specs.Whole.{first_line_of}
-use Rattle.acq_words.specs.declared.request.Command.{Command}
+use Rattle.acq_cli.specs.Prelude.{All, Answer, At, Bool, Candidate, Command, Ending, Event, ForSome, Holds, Idle, IsVocabulary, LacksNewline, Language, List, Ok, Opened, Option, Ran, Runs, Said, Scopes, Some, Terms, Turns, WalkEnd, [], false, first_line_of, flat_map, kept, length, line_turn, most_answers, net_turn, network_of, newline, plain_size, reply_of, standing_on, state_after, terms_with, trimmed, ℕ, ◌++◌, ◌+◌, ◌<◌, ◌∷◌, ◌≡◌, ◌≤◌, ◌⊎◌}
 use Rattle.acq_words.specs.declared.request.Command.TheVariants as command
-use Rattle.assign.specs.Events.{Answer}
-use Rattle.assign.specs.declared.events.Event.{Event}
-use Rattle.assign.specs.declared.events.Plan.TheVariants.{Scopes}
-use Rattle.language.specs.declared.candidates.Candidate.{Candidate}
-use Rattle.language.specs.Language.{Language}
-use Rattle.language.specs.Answers.{kept, standing_on}
-use Rattle.language.specs.Search.{plain_size}
-use Rattle.network.specs.Target.{network_of}
-use Rattle.session_laws.specs.Bound.{most_answers}
-use Rattle.session_laws.specs.Session.{Idle, At, state_after}
-use Rattle.session_laws.specs.Walk.{WalkEnd}
-use Rattle.session_store.specs.Opened.{Opened, Holds}
-use Rattle.target_oracle.specs.Lines.{line_turn}
-use Rattle.target_oracle.specs.NetTurns.{net_turn}
-use Rattle.target_oracle.specs.Turns.{Turns, Said}
-use Rattle.target_oracle.specs.Words.{trimmed, reply_of}
-use Rattle.voc_read.specs.Vocabulary.{IsVocabulary}
-use Rattle.acq_loop.specs.Points.{terms_with}
-use Rattle.acq_loop.specs.Run.{Ran, Runs}
-use Rattle.acq_loop.specs.declared.ending.Ending.{Ending}
 use Rattle.acq_loop.specs.declared.ending.Ending.TheVariants as ending
-use Rattle.acq_loop.specs.declared.terms.Terms.{Terms}
 use Rattle.acq_cli.specs.Commands.{EndsExactly}
 
 -- ---- Enough of a session

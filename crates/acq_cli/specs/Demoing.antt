@@ -1,28 +1,7 @@
 -- What `demo` has done.
-use Rattle.std.specs.Prelude.{◌≡◌, ◌⊎◌, ℕ, List, [], ◌∷◌, ◌++◌, true, length, Option, Result, Err, IfOk, OnErr, codes}
-use Rattle.std.specs.Fmt.{decimal}
-use Rattle.acq_io.specs.Streams.{Adds, AddsFront}
-use Rattle.acq_io.specs.declared.streams.Put.{Put}
-use Rattle.assign.specs.Events.{Answer}
-use Rattle.assign.specs.declared.events.Event.{Event}
-use Rattle.assign.specs.declared.events.Plan.TheVariants.{Quacq}
-use Rattle.language.specs.declared.candidates.Candidate.{Candidate}
-use Rattle.language.specs.Language.{Language, variable_count, candidates}
-use Rattle.language.specs.Answers.{standing_on}
-use Rattle.target_oracle.specs.Generator.{IsGenerated, target_of}
-use Rattle.target_oracle.specs.NetTurns.{net_turn}
-use Rattle.acq_loop.specs.Driven.{HasFound}
-use Rattle.acq_said.specs.Said.{IsSaid}
-use Rattle.acq_said.specs.Saying.{Saying, saying}
-use Rattle.acq_said.specs.declared.said.Unsaid.{Unsaid}
+use Rattle.acq_cli.specs.Prelude.{Adds, AddsFront, Answer, Candidate, Closing, Collapsed, Converged, Drove, Ending, Err, Event, HasFound, IfOk, IsGenerated, IsSaid, JournalFull, Language, LineTooLong, List, OnErr, Option, Put, Quacq, Ran, Result, Runs, Saying, Suspended, Terms, Undecided, Unreadable, Unsaid, [], candidates, codes, decimal, ending_line, learned_after, length, net_turn, saying, standing_on, target_of, terms_with, true, variable_count, ℕ, ◌++◌, ◌∷◌, ◌≡◌, ◌⊎◌}
 use Rattle.acq_said.specs.declared.said.Unsaid.TheVariants as unsaid
 use Rattle.acq_cli.specs.Playing.{IsAnsweredBy}
-use Rattle.acq_loop.specs.Points.{terms_with}
-use Rattle.acq_loop.specs.Run.{Closing, Converged, Collapsed, Undecided, Suspended, LineTooLong, Unreadable, JournalFull, Ran, Runs}
-use Rattle.acq_loop.specs.Texts.{collapsed_text, full_text, learned_after, refused_text, suspended_text, too_long_text}
-use Rattle.acq_loop.specs.declared.terms.Terms.{Terms}
-use Rattle.acq_loop.specs.declared.driving.Drove.{Drove}
-use Rattle.acq_loop.specs.declared.ending.Ending.{Ending}
 use Rattle.acq_io.specs.declared.streams.Put.TheVariants as put
 use Rattle.acq_loop.specs.declared.driving.Drove.TheVariants as drove
 use Rattle.acq_loop.specs.declared.ending.Ending.TheVariants as ending
@@ -34,19 +13,9 @@ abbrev pub demo_text : ℕ → Language → List ℕ
 demo_text number l =
     codes "demo " ++ (decimal number ++ (codes " variables " ++ (decimal (variable_count l) ++ (codes " scopes " ++ (decimal (length l.scopes) ++ (codes " candidates " ++ (decimal (length (candidates l)) ++ 10 ∷ [])))))))
 
--- the first one of the last lines of a session that ends so, after so many answers
-abbrev pub first_line : Closing → ℕ → List ℕ
-first_line Converged m = codes "converged " ++ (decimal m ++ 10 ∷ [])
-first_line Collapsed m = collapsed_text m
-first_line Undecided m = codes "undecided " ++ (decimal m ++ 10 ∷ [])
-first_line Suspended m = suspended_text m
-first_line LineTooLong m = too_long_text
-first_line Unreadable m = refused_text
-first_line JournalFull m = full_text
-
--- it, and how many candidates were learned
+-- the first one of its last lines, and how many candidates were learned
 abbrev pub summary_text : Closing → (m learned : ℕ) → List ℕ
-summary_text closing m learned = first_line closing m ++ (codes "learned " ++ (decimal learned ++ 10 ∷ []))
+summary_text closing m learned = ending_line closing m ++ (codes "learned " ++ (decimal learned ++ 10 ∷ []))
 
 -- the whole text: no question, and of the network how many candidates it has
 abbrev pub whole_demo : ℕ → Language → Terms → List Answer → Closing → List ℕ

@@ -1,30 +1,10 @@
 -- What the program has done, by what the words ask for.
-use Rattle.std.specs.Prelude.{ℕ, List, Option, Result, Ok, Err}
-use Rattle.disk_model.specs.declared.disk.Disk.{Ghosts as DiskOf}
-use Rattle.acq_io.specs.declared.streams.Put.{Put}
-use Rattle.acq_words.specs.declared.request.Command.{Command}
+use Rattle.acq_cli.specs.Prelude.{Acquires, Ask, AsksTruly, Command, Ending, EndsWith, Err, DiskOf, IsCheckOf, List, News, Ok, Option, Put, Result, RunsOn, SaidSo, Saying, SaysOfInput, SaysOpening, SaysOver, SaysSo, Solves, TakesBack, Unsaid, UsageFault, asked_said, ended_as, terms_with, usage_text, ℕ}
 use Rattle.acq_words.specs.declared.request.Command.TheVariants as command
-use Rattle.acq_words.specs.declared.request.UsageFault.{UsageFault}
-use Rattle.acq_said.specs.Asks.{AsksTruly, asked_said}
-use Rattle.acq_said.specs.Confirming.{Confirms}
 use Rattle.acq_cli.specs.Demoing.{Demos}
-use Rattle.acq_said.specs.Said.{EndsWith, SaysSo}
-use Rattle.acq_said.specs.Saying.{Saying}
-use Rattle.acq_said.specs.Making.{News}
-use Rattle.acq_said.specs.Over.{SaysOpening, SaysOver}
 use Rattle.acq_cli.specs.Playing.{PlaysOn}
-use Rattle.acq_loop.specs.Points.{terms_with}
-use Rattle.acq_loop.specs.Program.{ended_as}
-use Rattle.acq_said.specs.Running.{RunsOn}
-use Rattle.acq_said.specs.Solving.{Solves}
-use Rattle.acq_said.specs.TakingBack.{TakesBack}
-use Rattle.acq_loop.specs.Texts.{usage_text}
-use Rattle.acq_said.specs.Trying.{Acquires}
-use Rattle.acq_said.specs.declared.ask.Ask.{Ask}
 use Rattle.acq_said.specs.declared.ask.Ask.TheVariants as ask
-use Rattle.acq_loop.specs.declared.ending.Ending.{Ending}
 use Rattle.acq_loop.specs.declared.ending.Ending.TheVariants as ending
-use Rattle.acq_said.specs.declared.said.Unsaid.{Unsaid}
 
 -- the meanings of a disk
 module _ {D : Type 0} (disk : DiskOf D) where
@@ -41,7 +21,7 @@ module _ {D : Type 0} (disk : DiskOf D) where
   Spoke command.Cnf left left' old new said = Asks ask.Cnf old new said
   Spoke command.Model left left' old new said = SaysOver disk (Solves left left') (λ o. Unit {0}) old new said
   Spoke (command.Certify budget) left left' old new said = Asks (ask.Certify budget) old new said
-  Spoke command.Check left left' old new said = Confirms left left' said
+  Spoke command.Check left left' old new said = SaysOfInput 67108864 (λ read. SaidSo (IsCheckOf read)) left left' said
   Spoke c left left' old new said = ⊥
 
   -- each other command has what it does in a file of its own; refused words are told by the usage line

@@ -1,20 +1,6 @@
 -- What `converged` and `collapsed` say, whichever command says them.
-use Rattle.std.specs.Prelude.{◌≡◌, ◌≢◌, ℕ, List, [], ◌++◌, length, Option, Result, Ok}
-use Rattle.std.specs.Option.{ForSome}
-use Rattle.acq_io.specs.Whole.{Gives, first_line_of}
-use Rattle.acq_words.specs.declared.request.Command.{Command}
+use Rattle.acq_cli.specs.Prelude.{Candidate, Command, Converged, Event, ForSome, Gives, Holds, IsConverged, IsGenerated, IsVocabulary, Language, List, NoneAgrees, Ok, Opened, Option, Plan, Quacq, Result, UsageFault, [], ending_line, first_line_of, learned_in, length, network_text, standing_on, state_after, ℕ, ◌++◌, ◌≡◌, ◌≢◌}
 use Rattle.acq_words.specs.declared.request.Command.TheVariants as command
-use Rattle.acq_words.specs.declared.request.UsageFault.{UsageFault}
-use Rattle.assign.specs.declared.events.Event.{Event}
-use Rattle.assign.specs.declared.events.Plan.{Plan}
-use Rattle.assign.specs.declared.events.Plan.TheVariants.{Quacq}
-use Rattle.language.specs.Language.{Language}
-use Rattle.language.specs.Answers.{IsConverged, NoneAgrees, standing_on}
-use Rattle.session_store.specs.Opened.{Opened, Holds}
-use Rattle.target_oracle.specs.Generator.{IsGenerated}
-use Rattle.voc_read.specs.Vocabulary.{IsVocabulary}
-use Rattle.acq_said.specs.Reducing.{network_after}
-use Rattle.acq_loop.specs.Texts.{converged_text}
 
 -- It goes on from the session of the journal, where the disk tells its bytes, and else from that of some bytes.
 pub record IsOfJournal (content : Option (List ℕ)) (l : Language) (plan : Plan) (events : List Event) : Type 0 where
@@ -43,9 +29,12 @@ pub record FindsNetwork (asked : Result Command UsageFault) (left content writte
   pub events : List Event
   pub session : IsSessionOf asked left content lang plan events
   pub number : m ≡ length (standing_on lang events)
-  pub converged : IsConverged lang (network_after lang plan events) (standing_on lang events)
+  -- the learned one
+  pub network : List Candidate
+  pub learned : network ≡ learned_in (state_after lang plan (standing_on lang events))
+  pub converged : IsConverged lang network (standing_on lang events)
   -- where the output tells, it ends with the network
-  pub prints : ((number budget : ℕ) → asked ≢ Ok (command.Demo number budget)) → ForSome written (λ text. (before : List ℕ) × (text ≡ before ++ converged_text lang (network_after lang plan events) m))
+  pub prints : ((number budget : ℕ) → asked ≢ Ok (command.Demo number budget)) → ForSome written (λ text. (before : List ℕ) × (text ≡ before ++ (ending_line Converged m ++ network_text lang network)))
 
 -- no network of candidates agrees with so many answers that stand
 pub record FindsNone (asked : Result Command UsageFault) (left content : Option (List ℕ)) (m : ℕ) : Type 0 where

@@ -1,30 +1,5 @@
 -- What `play` has done.
-use Rattle.std.specs.Prelude.{◌≡◌, ◌≢◌, ◌⊎◌, ◌↔◌, ◌≤◌, ℕ, false, IsTrue, List, [], length, Option, Result, Ok, Err, IfOk}
-use Rattle.disk_model.specs.declared.disk.Disk.{Ghosts as DiskOf}
-use Rattle.acq_io.specs.Whole.{Gives, all_of}
-use Rattle.acq_io.specs.declared.streams.Put.{Put}
-use Rattle.acq_io.specs.declared.whole.AllFault.{AllFault}
-use Rattle.assign.specs.Events.{Answer}
-use Rattle.language.specs.declared.candidates.Candidate.{Candidate}
-use Rattle.language.specs.Language.{Language, HasSameSolutions}
-use Rattle.language.specs.Answers.{IsNetwork, agrees, standing_on}
-use Rattle.network.specs.Target.{network_of}
-use Rattle.network.specs.declared.fault.NetFault.{NetFault}
-use Rattle.session_store.specs.Opened.{Opened, Holds}
-use Rattle.session_store.specs.declared.fault.SFault.{SFault}
-use Rattle.target_oracle.specs.NetTurns.{net_turn, net_may_say}
-use Rattle.acq_said.specs.Exactly.{OpensExactly}
-use Rattle.acq_said.specs.Inputs.{SaysOfInput}
-use Rattle.acq_said.specs.Journals.{Refuses}
-use Rattle.acq_said.specs.Over.{SaysOver}
-use Rattle.acq_said.specs.Said.{IsSaid, SaysSo}
-use Rattle.acq_said.specs.Saying.{Saying, saying}
-use Rattle.acq_said.specs.declared.said.Unsaid.{Unsaid}
-use Rattle.acq_loop.specs.Points.{terms_with}
-use Rattle.acq_said.specs.Running.{GoesOn}
-use Rattle.acq_loop.specs.Texts.{learned_after, not_fresh_text, target_refusal_text}
-use Rattle.acq_loop.specs.declared.ending.Ending.{Ending}
-use Rattle.acq_loop.specs.declared.terms.Terms.{Terms}
+use Rattle.acq_cli.specs.Prelude.{AllFault, Answer, Candidate, Ending, Err, DiskOf, Gives, GoesOn, HasSameSolutions, Holds, IfOk, IsNetwork, IsSaid, IsTrue, Language, List, NetFault, Ok, Opened, OpensExactly, Option, Put, Refuses, Result, SFault, Saying, SaysOfInput, SaysOver, SaysSo, Terms, Unsaid, [], agrees, all_of, codes, decimal, false, learned_after, length, net_fault_text, net_may_say, net_turn, network_of, saying, standing_on, terms_with, ℕ, ◌++◌, ◌↔◌, ◌∷◌, ◌≡◌, ◌≢◌, ◌≤◌, ◌⊎◌}
 use Rattle.network.specs.declared.fault.NetFault.TheVariants as net
 use Rattle.acq_loop.specs.declared.ending.Ending.TheVariants as ending
 
@@ -32,7 +7,7 @@ use Rattle.acq_loop.specs.declared.ending.Ending.TheVariants as ending
 
 -- what is said of a refused target
 abbrev pub target_refused : NetFault → Saying
-target_refused fault = saying (target_refusal_text fault) (ending.TargetRefused fault)
+target_refused fault = saying (codes "refused target " ++ (net_fault_text fault ++ 10 ∷ [])) (ending.TargetRefused fault)
 
 -- why what was read of the input is no network of this language; too many bytes are none
 abbrev pub SaysNoNetwork : Language → Result (List ℕ) AllFault → Result Saying Unsaid → Type 0
@@ -46,12 +21,16 @@ pub record ReadsTarget (l : Language) (left left' : Option (List ℕ)) (target :
   pub is : network_of l bytes ≡ Ok target
   pub lawful : IsNetwork l target
 
+-- what is said of answers that stand
+abbrev pub stale_said : ℕ → Saying
+stale_said m = saying (codes "refused not fresh " ++ (decimal m ++ 10 ∷ [])) (ending.NotFresh m)
+
 -- Of a session: how many answers stand, before anything is read; or where none does, why the input is no network, where it didn't
 -- fail and memory was enough. Of a refusal, which one it is; nothing is read then.
 abbrev pub SaysUnplayed : (left left' : Option (List ℕ)) → Result Opened SFault → Result Saying Unsaid → Type 0
 SaysUnplayed left left' (Ok o) said =
     let m = length (standing_on o.lang o.events) in
-    ((1 ≤ m) × IsSaid (saying (not_fresh_text m) (ending.NotFresh m)) said × (left' ≡ left)) ⊎ ((standing_on o.lang o.events ≡ []) × SaysOfInput 4194304 (SaysNoNetwork o.lang) left left' said)
+    ((1 ≤ m) × IsSaid (stale_said m) said × (left' ≡ left)) ⊎ ((standing_on o.lang o.events ≡ []) × SaysOfInput 4194304 (SaysNoNetwork o.lang) left left' said)
 SaysUnplayed left left' (Err fault) said = Refuses fault said × (left' ≡ left)
 
 -- ---- Its answers
@@ -72,9 +51,9 @@ module _ {D : Type 0} (disk : DiskOf D) where
   pub record IsPlayed (budget : ℕ) (left written left' written' : Option (List ℕ)) (old new : D) (got : Result Ending Put) : Type 0 where
     pub target : List Candidate
     pub on : GoesOn disk (net_turn target false) (net_may_say target) budget left' written left' written' old new got
-    pub fresh : standing_on on.lang on.events ≡ []
-    pub reads : ReadsTarget on.lang left left' target
-    pub answered : IsAnsweredBy target on.lang (terms_with on.plan budget) (standing_on on.lang on.later) got
+    pub fresh : standing_on on.of.lang on.of.events ≡ []
+    pub reads : ReadsTarget on.of.lang left left' target
+    pub answered : IsAnsweredBy target on.of.lang (terms_with on.of.plan budget) (standing_on on.of.lang on.later) got
 
   abbrev pub PlaysOn : ℕ → (left written left' written' : Option (List ℕ)) → D → D → Result Ending Put → Type 0
   PlaysOn budget left written left' written' old new got =

@@ -1,12 +1,6 @@
 -- What the words ask of the program.
-use Rattle.std.specs.Prelude.{◌≡◌, ℕ, Bool, true, false, List, Option, Result, Ok, Err}
-use Rattle.acq_io.specs.Streams.{TakesSome}
-use Rattle.acq_words.specs.Request.{Contents, answer_to}
-use Rattle.acq_words.specs.declared.request.Command.{Command}
+use Rattle.acq_cli.specs.Prelude.{Bool, Command, Contents, Err, List, Memory, Ok, Option, Result, TakesSome, Usage, UsageFault, WordsFault, answer_to, false, true, ℕ, ◌≡◌}
 use Rattle.acq_words.specs.declared.request.Command.TheVariants as command
-use Rattle.acq_words.specs.declared.request.UsageFault.{UsageFault}
-use Rattle.acq_words.specs.declared.request.WordsFault.{WordsFault}
-use Rattle.acq_words.specs.declared.request.WordsFault.TheVariants.{Usage, Memory}
 
 abbrev pub command_in : Result Contents UsageFault → Result Command UsageFault
 command_in (Ok contents) = Ok contents.command

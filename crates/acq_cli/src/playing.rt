@@ -8,9 +8,7 @@ ghost use Rattle.language.specs.Answers.{standing_on};
 ghost use Rattle.network.specs.Learned.{Learned};
 ghost use Rattle.acq_said.specs.Inputs.{SaysOfInput};
 ghost use Rattle.acq_said.specs.Said.{IsSaid};
-ghost use Rattle.acq_said.specs.Saying.{saying};
-ghost use Rattle.acq_loop.specs.Texts.{not_fresh_text};
-ghost use Rattle.acq_cli.specs.Playing.{PlaysOn, ReadsTarget, SaysNoNetwork, target_refused};
+ghost use Rattle.acq_cli.specs.Playing.{PlaysOn, ReadsTarget, SaysNoNetwork, stale_said, target_refused};
 
 use crate::commands::refuse_journal;
 use crate::top::ask_on;
@@ -39,7 +37,7 @@ fn answers_of<D: Disk, P: Keep<D>>(keep: &P) -> u32
 
 /// Says that some answers stand.
 fn stale(alloc: Global, m: u32) -> Result<Said, Memory>
-    ensures { IfOk result (λ said. said ≡ saying (not_fresh_text m) (Ending.NotFresh m)) }
+    ensures { IfOk result (λ said. said ≡ stale_said m) }
 {
     let text = format!(in alloc; "refused not fresh {m}\n")?;
     Ok(Said::new(text, Ending::NotFresh(m)))

@@ -1,12 +1,9 @@
-use Rattle.acq_cli.proofs.Prelude.{Bool, Candidate, Err, Event, Holds, IfOk, IsAnsweredBy, IsDisk, IsSaid, Language, List, Loses, Ok, OnErr, Option, Plan, ReadsTarget, Result, Saying, SaysNoNetwork, Tries, Unsaid, [], ap, arith, called_as, false, goes_on_with, inl, inr, net_may_say, net_turn, opened_as, opened_now, opened_raised, point_of, question_of, refl, said_as, saying, silent_not, standing_on, subst, sym, takes_then, terms_with, voc_of, ℕ, ◌∙◌, ◌≡◌, ◌≤◌}
+use Rattle.acq_cli.proofs.Prelude.{Bool, Candidate, Err, Event, GoesOn, Holds, IfOk, IsAnsweredBy, IsDisk, IsSaid, Language, List, Loses, Ok, OnErr, Option, Plan, ReadsTarget, Result, Saying, SaysNoNetwork, SaysUnplayed, Tries, Unsaid, [], ap, arith, called_as, false, goes_on_with, inl, inr, net_may_say, net_turn, ok_any, opened_raised, over_opened, over_refused, point_of, question_of, refl, said_as, silent_not, stale_said, standing_on, subst, sym, takes_then, terms_with, voc_of, ℕ, ◌∙◌, ◌≡◌, ◌≤◌}
 use Rattle.acq_io.proofs.CallLemmas.{called_on}
 use Rattle.session_store.specs.Keeping.{FailsWith}
 use Rattle.session_store.specs.Store.{lang_of, plan_of, events_of}
 use Rattle.acq_said.specs.Breaks.{BreaksRun}
 use Rattle.acq_said.specs.Inputs.{SaysOfInput}
-use Rattle.acq_said.proofs.Spoken.{ok_any}
-use Rattle.acq_loop.specs.Texts.{not_fresh_text}
-use Rattle.acq_loop.specs.declared.ending.Ending.TheVariants as ending
 use Rattle.acq_cli.proofs.Targets.{answered, none_at_all}
 use Rattle.acq_cli.proofs.Causes.{called_unless, ends_read}
 use Rattle.acq_said.specs.declared.said.Unsaid.TheVariants as unsaid
@@ -30,68 +27,42 @@ lacks_none target said e = cc
 
 pub returns-in-Err-clause-plays : goal.returns-in-Err-clause-plays
 returns-in-Err-clause-plays g c =
+    let left = g.S.Source.left c.args.input.now in
     let refused = c.refuse_journal.ensures.refuses in
     inl (
       refused.0,
-      record {
-        opening = Err c.in-Err.fault;
-        opens = c.in-Err.ensures.refused;
-        some = c.in-Err.ensures.some;
-        session = tt;
-        says = (refused.1, refl);
-        so = ok_any refused.0 tt;
-        same = c.open.ensures.only_read.same;
-        any_moment = c.open.ensures.only_read.any_moment;
-        now = inl c.in-Err.ensures.synced;
-        calls = c.open.ensures.few_calls;
-      },
+      over_refused g.D.Disk (SaysUnplayed left left) (λ o. Unit {0}) c.args.disk.now c.open.new.disk refused.0 c.open.ensures.only_read.same c.open.ensures.only_read.any_moment c.open.ensures.few_calls
+          c.in-Err.fault c.in-Err.ensures.refused c.in-Err.ensures.some (inl c.in-Err.ensures.synced) (refused.1, refl),
       refused.2,
     )
 
 pub returns-then-count-ge1-clause-plays : goal.returns-then-count-ge1-clause-plays
 returns-then-count-ge1-clause-plays g c =
-    let store = c.in-Ok.store in
-    let Stale : ℕ → Type 0 = λ m. (1 ≤ m) × IsSaid (saying (not_fresh_text m) (ending.NotFresh m)) c.or_silent.result in
-    let what = saying (not_fresh_text c.answers_of-count.result) (ending.NotFresh c.answers_of-count.result) in
-    let stale : Stale c.answers_of-count.result = (omega (arith, c.if-count-ge1.true), said_as c.stale.result c.or_silent.result what what c.or_silent.ensures refl c.stale.ensures) in
+    let left = g.S.Source.left c.args.input.now in
+    let said = c.or_silent.result in
+    let m = c.answers_of-count.result in
+    let Stale : ℕ → Type 0 = λ n. (1 ≤ n) × IsSaid (stale_said n) said in
+    let stale : Stale m = (omega (arith, c.if-count-ge1.true), said_as c.stale.result said (stale_said m) (stale_said m) c.or_silent.ensures refl c.stale.ensures) in
     let told = subst Stale c.answers_of-count.ensures.is stale in
     inl (
-      c.or_silent.result,
-      record {
-        opening = Ok (opened_as (plan_of store) (voc_of store) (events_of store) (lang_of store));
-        opens = λ bytes told. record { says = c.in-Ok.ensures.opened bytes told; session = record { read = c.in-Ok.ensures.sound.read; places = c.in-Ok.ensures.places } };
-        some = let said = c.in-Ok.ensures.some in (said.0, record { says = said.1; session = record { read = c.in-Ok.ensures.sound.read; places = c.in-Ok.ensures.places } });
-        session = record { read = c.in-Ok.ensures.sound.read; places = c.in-Ok.ensures.places };
-        says = inl (told.0, told.1, refl);
-        so = ok_any c.or_silent.result tt;
-        same = c.open.ensures.only_read.same;
-        any_moment = c.open.ensures.only_read.any_moment;
-        now = λ bytes told. let was = c.open.ensures.only_read.same ∙ told in opened_now g.D.Disk c.open.new.disk store bytes was (c.in-Ok.ensures.sits c.in-Ok.ensures.live bytes was);
-        calls = c.open.ensures.few_calls;
-      },
+      said,
+      over_opened g.D.Disk (SaysUnplayed left left) (λ o. Unit {0}) c.args.disk.now c.open.new.disk said c.open.ensures.only_read.same c.open.ensures.only_read.any_moment c.open.ensures.few_calls
+          c.in-Ok.store c.in-Ok.ensures.opened c.in-Ok.ensures.some c.in-Ok.ensures.sound.read c.in-Ok.ensures.places (c.in-Ok.ensures.sits c.in-Ok.ensures.live) (inl (told.0, told.1, refl)) (ok_any said tt),
       c.put.ensures.writes,
     )
 
 pub returns-clause-plays : goal.returns-clause-plays
 returns-clause-plays g c =
     let store = c.in-Ok.store in
+    let left = g.S.Source.left c.args.input.now in
+    let left' = g.S.Source.left c.read_target.new.input in
     let said = c.in-Err-read_target.said in
-    let Lacks : Language → Type 0 = λ l. SaysOfInput 4194304 (SaysNoNetwork l) (g.S.Source.left c.args.input.now) (g.S.Source.left c.read_target.new.input) said in
+    let Lacks : Language → Type 0 = λ l. SaysOfInput 4194304 (SaysNoNetwork l) left left' said in
     let fresh : standing_on (lang_of store) (events_of store) ≡ [] = none_at_all (standing_on (lang_of store) (events_of store)) (let few = c.if-count-ge1.false in let is = c.answers_of-count.ensures.is in omega (arith, few, is)) in
     inl (
       said,
-      record {
-        opening = Ok (opened_as (plan_of store) (voc_of store) (events_of store) (lang_of store));
-        opens = λ bytes told. record { says = c.in-Ok.ensures.opened bytes told; session = record { read = c.in-Ok.ensures.sound.read; places = c.in-Ok.ensures.places } };
-        some = let some = c.in-Ok.ensures.some in (some.0, record { says = some.1; session = record { read = c.in-Ok.ensures.sound.read; places = c.in-Ok.ensures.places } });
-        session = record { read = c.in-Ok.ensures.sound.read; places = c.in-Ok.ensures.places };
-        says = inr (fresh, subst Lacks c.lang_of.ensures.is c.in-Err-read_target.ensures.lacks);
-        so = ok_any said tt;
-        same = c.open.ensures.only_read.same;
-        any_moment = c.open.ensures.only_read.any_moment;
-        now = λ bytes told. let was = c.open.ensures.only_read.same ∙ told in opened_now g.D.Disk c.open.new.disk store bytes was (c.in-Ok.ensures.sits c.in-Ok.ensures.live bytes was);
-        calls = c.open.ensures.few_calls;
-      },
+      over_opened g.D.Disk (SaysUnplayed left left') (λ o. Unit {0}) c.args.disk.now c.open.new.disk said c.open.ensures.only_read.same c.open.ensures.only_read.any_moment c.open.ensures.few_calls
+          store c.in-Ok.ensures.opened c.in-Ok.ensures.some c.in-Ok.ensures.sound.read c.in-Ok.ensures.places (c.in-Ok.ensures.sits c.in-Ok.ensures.live) (inr (fresh, subst Lacks c.lang_of.ensures.is c.in-Err-read_target.ensures.lacks)) (ok_any said tt),
       c.put-in-Err-read_target.ensures.writes,
     )
 
@@ -129,8 +100,8 @@ returns-in-Ok-read_target-clause-plays g c =
     tries (subst Part c.new-teacher.ensures.quiet c.ask_on.ensures.asked.part)
     (fresh, reads, answered (net_turn target false) l terms target (events_of store) (events_of after) rest written left' written' c.ask_on.result reads.lawful fresh c.ask_on.ensures.taught.added c.ask_on.ensures.taught.said tries) in
     let Played : Option (List ℕ) → Type 0 = λ r.
-    (on : GoesOn D (net_turn target false) (net_may_say target) c.args.budget r written left' written' c.args.disk.now c.ask_on.new.disk c.ask_on.result) × (standing_on on.lang on.events ≡ []) × ReadsTarget on.lang left r target
-    × IsAnsweredBy target on.lang (terms_with on.plan c.args.budget) (standing_on on.lang on.later) c.ask_on.result in
+    (on : GoesOn D (net_turn target false) (net_may_say target) c.args.budget r written left' written' c.args.disk.now c.ask_on.new.disk c.ask_on.result) × (standing_on on.of.lang on.of.events ≡ []) × ReadsTarget on.of.lang left r target
+    × IsAnsweredBy target on.of.lang (terms_with on.of.plan c.args.budget) (standing_on on.of.lang on.later) c.ask_on.result in
     let played = subst Played (sym (ap g.S.Source.left (c.ask_on.ensures.unread refl))) (on.0, on.1.0, on.1.1, on.1.2) in
     inr (record { target = target; on = played.0; fresh = played.1; reads = played.2; answered = played.3 })
 

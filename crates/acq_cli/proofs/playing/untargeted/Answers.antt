@@ -1,4 +1,4 @@
-use Rattle.acq_cli.proofs.Prelude.{refl, target_refused, said_as, silent_not}
+use Rattle.acq_cli.proofs.Prelude.{refl, said_as, silent_not, target_refused}
 use Rattle.acq_said.specs.declared.said.Unsaid.TheVariants as unsaid
 use Rattle.acq_cli.proofs.playing.untargeted.Goals as goal
 

@@ -1,4 +1,4 @@
-use Rattle.acq_cli.proofs.Prelude.{◌≡◌, ◌⊎◌, ◌≤◌, ◌∙◌, ℕ, inl, inr, ⊎_elim, Result, Ok, Err, sym, subst, refl, arith, Put, Language, IsLanguage, standing_on, knowledge_of, keeps_still, keeps_as, rose_later, terms_with, Ending, called_as, okay, begun_part, at_turn, said_of}
+use Rattle.acq_cli.proofs.Prelude.{Ending, Err, IsLanguage, Language, Ok, Put, Result, arith, at_turn, begun_part, called_as, failed, inl, inr, keeps_as, keeps_still, knowledge_of, okay, refl, rose_later, rules, said_of, standing_on, subst, sym, terms_with, ℕ, ⊎_elim, ◌∙◌, ◌≡◌, ◌≤◌, ◌⊎◌}
 use Rattle.acq_io.specs.Streams.{Rose}
 use Rattle.acq_io.specs.declared.streams.Put.TheVariants as puts
 use Rattle.query_gen.specs.Marks.{IsMadeFor}
@@ -12,17 +12,8 @@ use Rattle.acq_cli.proofs.top.ask_on.Goals as goal
 
 -- whether the output failed in the loop
 write_failed : (how : Drove) → (how ≡ drove.WriteFault) ⊎ (how ≡ drove.WriteFault → ⊥)
-write_failed (drove.Converged m) = inr (λ e. cc)
-write_failed (drove.Collapsed m) = inr (λ e. cc)
-write_failed (drove.Undecided m) = inr (λ e. cc)
-write_failed (drove.Suspended m) = inr (λ e. cc)
-write_failed drove.LineTooLong = inr (λ e. cc)
-write_failed drove.Unreadable = inr (λ e. cc)
-write_failed drove.ReadFault = inr (λ e. cc)
 write_failed drove.WriteFault = inl refl
-write_failed drove.DiskFault = inr (λ e. cc)
-write_failed drove.JournalFull = inr (λ e. cc)
-write_failed drove.Memory = inr (λ e. cc)
+write_failed how = inr (λ e. cc)
 
 rose_still : (a b c : ℕ) → Rose a b → b ≤ c → Rose a c
 rose_still a b c rose le = omega arith
