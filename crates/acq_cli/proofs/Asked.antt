@@ -48,7 +48,7 @@ module _ {D : Type 0} (disk : DiskOf D) where
     does_nothing (Ok (command.Try plan budget)) = unbegun (terms_with plan budget) left left written (inl ([], omega arith, λ k d low. absurd (omega (arith, low)), takes_none left))
     does_nothing (Ok (command.Play budget)) = inl (silence, over_nothing (SaysUnplayed left left) (λ o. Unit {0}) (refl, refl), (refl, refl))
     does_nothing (Ok command.Show) = asks_nothing ask.Show
-    does_nothing (Ok command.Back) = (silence, inl (over_nothing _ (λ o. Unit {0}) (refl, tt)), (refl, refl))
+    does_nothing (Ok command.Back) = (silence, inl (over_nothing _ (λ o. Unit {0}) refl), (refl, refl))
     does_nothing (Ok (command.Demo number budget)) = inl (refl, refl)
     does_nothing (Ok (command.Reduce budget)) = asks_nothing (ask.Reduce budget)
     does_nothing (Ok command.Cnf) = asks_nothing ask.Cnf

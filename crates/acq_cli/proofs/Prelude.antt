@@ -14,28 +14,28 @@ pub use Rattle.acq_loop.proofs.Reached.{IsReached, standing_size}
 pub use Rattle.acq_loop.proofs.Running.{next_ends, next_put, placed, puts_next, room_not_full, run_exists, sized_at}
 pub use Rattle.acq_loop.proofs.Standings.{at_turn, due_reached, few_answers, run_laws, stands_at}
 pub use Rattle.acq_loop.proofs.Taking.{takes_then}
-pub use Rattle.acq_loop.proofs.Short.{RanTo, TellsFull, turned_on, whole_text}
+pub use Rattle.acq_loop.proofs.Short.{RanTo, TellsFull, puts_or, turned_on, whole_text}
 pub use Rattle.acq_loop.specs.Added.{IsAdded, MayAdd, MayEnd}
 pub use Rattle.acq_loop.specs.Closings.{closing_of, ending_of}
 pub use Rattle.acq_loop.specs.Driven.{Drives, HasEnded, IsDone, IsLeftOpen, IsOwned, Loses}
 pub use Rattle.acq_loop.specs.Points.{point_of}
 pub use Rattle.acq_loop.specs.Program.{TellsCauses}
-pub use Rattle.acq_loop.specs.Run.{Ends, Next, Puts, after_text, answer, ended, heard_on, idle_next, next_after, next_at, next_in, next_on, number_on, put_on, puts_or, searched}
+pub use Rattle.acq_loop.specs.Run.{JournalFull, Ends, Next, Puts, after_text, answer, ended, heard_on, idle_next, next_after, next_at, next_in, next_on, number_on, put_on, searched}
 unfoldable pub use Rattle.acq_loop.specs.Run.{ran}
 pub use Rattle.acq_loop.specs.Texts.{open_candidates, refusal_text}
-pub use Rattle.acq_said.proofs.Closings.{err_ok, failed, loop_end, loops_by, not_loops, okay, same_ok}
-pub use Rattle.acq_said.proofs.Journals.{IsDisk, any_answer, goes_on, goes_on_with, opened_in, opened_now, opened_raised, over_opened, over_refused}
+pub use Rattle.acq_said.proofs.Closings.{AddsLast, err_ok, failed, loop_end, loops_by, not_loops, okay, same_ok}
+pub use Rattle.acq_said.proofs.Journals.{MakesOf, IsDisk, any_answer, goes_on, goes_on_with, opened_in, opened_now, opened_raised, over_opened, over_refused}
 pub use Rattle.acq_said.proofs.Parts.{acquires_as, acquires_in, begun, begun_part, breaks_in, breaks_refused, ends_ok, ends_part, unbegun}
-pub use Rattle.acq_said.proofs.SaidOver.{asked_own, check_own, is_own, not_own, opening_own, over_ends, own_said, read_own, refuses_own, so_own, solve_ends, solves_own}
-pub use Rattle.acq_said.proofs.Spoken.{RefusesMaking, ends_as, ends_said, fine, fine_long, gives_got, input_end, long_one, ok_any, only_long, refuses_end, said_as, same_fine, silent_not, silently, too_many, whole_of}
+pub use Rattle.acq_said.proofs.SaidOver.{EndsAsMade, OpensAs, asked_own, check_own, is_own, not_own, opening_own, over_ends, own_said, read_own, refuses_own, so_own, solve_ends, solves_own}
+pub use Rattle.acq_said.proofs.Spoken.{EndsWith, IsReading, SaidSo, SaysOpening, RefusesMaking, ends_as, ends_said, fine, fine_long, gives_got, input_end, long_one, ok_any, only_long, refuses_end, said_as, same_fine, silent_not, silently, too_many, whole_of}
 pub use Rattle.acq_said.proofs.TakenBack.{back_ends, back_own}
 pub use Rattle.acq_said.proofs.Tries.{fresh_part, fresh_tries, said_of}
-pub use Rattle.acq_said.specs.Confirming.{IsCheck, IsJudged, IsReading, checked_said}
-pub use Rattle.acq_said.specs.Endings.{AddsLast, Tries}
-pub use Rattle.acq_said.specs.Exactly.{IsBrokenOff, IsInTheWay}
+pub use Rattle.acq_said.specs.Confirming.{IsCheck, IsJudged, checked_said}
+pub use Rattle.acq_said.specs.Endings.{Tries}
+pub use Rattle.acq_said.specs.Exactly.{IsBrokenOff}
 pub use Rattle.acq_said.specs.Journals.{refused_said}
-pub use Rattle.acq_said.specs.Making.{HasLanguage, IsMaking, MakesOf, made_said, voc_refused}
-pub use Rattle.acq_said.specs.Over.{OpensAs}
+pub use Rattle.acq_said.specs.Making.{IsMaking, News, made_said, voc_refused}
+pub use Rattle.acq_said.specs.Over.{EndsAsOpened}
 pub use Rattle.acq_said.specs.Said.{HasWritten, or_silent}
 pub use Rattle.acq_said.specs.Saying.{is_told}
 pub use Rattle.acq_said.specs.Trying.{IsRefusal, IsTextOfRun, ReadsVocabulary}
@@ -68,7 +68,7 @@ pub use Rattle.voc_read.proofs.OneReading.{one_language}
 pub use Rattle.voc_read.proofs.Refused.{not_refused}
 pub use Rattle.voc_read.specs.Vocabulary.{refusal_of_vocabulary}
 pub use Rattle.voc_read.specs.declared.fault.VocFault.{VocFault}
-pub use Rattle.acq_cli.specs.Prelude.{Acquires, Adds, AddsFront, All, AllFault, Answer, AsksTruly, Candidate, Closing, Collapsed, Command, ConfirmsExactly, Converged, DiskOf, Drove, Ending, EndsAsMade, EndsAsOpened, EndsWith, Event, ForSome, Gives, GoesOn, HasFound, HasSameSolutions, Holds, Idle, IfOk, IsAnswer, IsCheckOf, IsConverged, IsGenerated, IsLanguage, IsNetwork, IsSaid, IsVocabulary, JournalFull, Language, LineTooLong, NetFault, News, NoneAgrees, OnErr, Opened, OpensExactly, Plan, Put, Quacq, Ran, Refuses, Runs, RunsOn, SFault, Said, SaidSo, Saying, SaysOfInput, SaysOpening, SaysOver, SaysSo, Scopes, Solves, Suspended, Terms, Turns, Undecided, Unreadable, Unsaid, UsageFault, agrees, asked_said, back_said, candidates, codes, ended_as, ending_line, first_line_of, flat_map, kept, learned_after, learned_in, line_turn, most_answers, net_may_say, net_turn, saying, solved_said, standing_on, state_after, target_of, terms_with, usage_text, variable_count, ◌↔◌, ◌≢◌}
+pub use Rattle.acq_cli.specs.Prelude.{Acquires, Adds, AddsFront, All, AllFault, Answer, AsksTruly, Candidate, Closing, Collapsed, Command, ConfirmsExactly, Converged, DiskOf, Drove, Ending, EndsAsOpened, Event, ForSome, Gives, GoesOn, HasFound, HasSameSolutions, Holds, Idle, IfOk, IsAnswer, IsCheckOf, IsConverged, IsGenerated, IsLanguage, IsNetwork, IsSaid, IsVocabulary, Language, LineTooLong, NetFault, News, NoneAgrees, OnErr, Opened, Plan, Put, Quacq, Ran, Refuses, Runs, RunsOn, SFault, Said, Saying, SaysOfInput, SaysOver, SaysSo, Scopes, Solves, Suspended, Terms, Turns, Undecided, Unreadable, Unsaid, UsageFault, agrees, asked_said, back_said, candidates, codes, ended_as, ending_line, first_line_of, flat_map, kept, learned_after, learned_in, line_turn, most_answers, net_may_say, net_turn, saying, solved_said, standing_on, state_after, target_of, terms_with, usage_text, variable_count, ◌↔◌, ◌≢◌}
 pub use Rattle.acq_cli.specs.Commands.{EndsExactly}
 pub use Rattle.acq_cli.specs.Completing.{Completes, HasRoom, IsAffordable, IsAnswerLine, IsEnough}
 pub use Rattle.acq_cli.specs.Demoing.{ClosesQuietly, Demos, HasDriven, IsDemo, SaysSum, demo_text, summary_text, whole_demo}

@@ -203,7 +203,7 @@ play_held : ReadOnce → (bytes file : List ℕ) (end : Ending) (o : Opened) →
     ((m : ℕ) → (end ≡ ending.NotFresh m) ↔ ((1 ≤ m) × (m ≡ length (standing_on o.lang o.events)))) →
     ((f : NetFault) → (end ≡ ending.TargetRefused f) ↔ ((standing_on o.lang o.events ≡ []) × (network_of o.lang bytes ≡ Err f))) → PlaysExactly bytes file end
 play_held once bytes file end o held other stale refused = record {
-  opens = record { refused = λ f. (λ e. absurd (other f e), λ why. absurd (holds_none once file f o why held)) };
+  opens = λ f. (λ e. absurd (other f e), λ why. absurd (holds_none once file f o why held));
   stale = λ m. (
     λ e. let so = (stale m).0 e in (o, held, so.0, so.1),
     λ there. let So : Opened → Type 0 = λ x. (1 ≤ m) × (m ≡ length (standing_on x.lang x.events)) in (stale m).1 (subst So (same_session file there.0 o there.1 held) (there.2, there.3)),

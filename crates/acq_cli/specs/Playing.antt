@@ -1,5 +1,5 @@
 -- What `play` has done.
-use Rattle.acq_cli.specs.Prelude.{AllFault, Answer, Candidate, Ending, Err, DiskOf, Gives, GoesOn, HasSameSolutions, Holds, IfOk, IsNetwork, IsSaid, IsTrue, Language, List, NetFault, Ok, Opened, OpensExactly, Option, Put, Refuses, Result, SFault, Saying, SaysOfInput, SaysOver, SaysSo, Terms, Unsaid, [], agrees, all_of, codes, decimal, false, learned_after, length, net_fault_text, net_may_say, net_turn, network_of, saying, standing_on, terms_with, ℕ, ◌++◌, ◌↔◌, ◌∷◌, ◌≡◌, ◌≢◌, ◌≤◌, ◌⊎◌}
+use Rattle.acq_cli.specs.Prelude.{AllFault, Answer, Candidate, DiskOf, Ending, Err, Gives, GoesOn, HasSameSolutions, Holds, IfOk, IsNetwork, IsSaid, IsTrue, Language, List, NetFault, Ok, Opened, Option, Put, Refuses, RefusesOpening, Result, SFault, Saying, SaysOfInput, SaysOver, SaysSo, Terms, Unsaid, [], agrees, all_of, codes, decimal, false, learned_after, length, net_fault_text, net_may_say, net_turn, network_of, saying, standing_on, terms_with, ℕ, ◌++◌, ◌+◌, ◌↔◌, ◌∷◌, ◌≡◌, ◌≢◌, ◌≤◌, ◌⊎◌}
 use Rattle.network.specs.declared.fault.NetFault.TheVariants as net
 use Rattle.acq_loop.specs.declared.ending.Ending.TheVariants as ending
 
@@ -64,6 +64,6 @@ module _ {D : Type 0} (disk : DiskOf D) where
 -- A journal is refused exactly for what its bytes say, answers are told exactly where some stand, and a target is refused
 -- exactly where none stand, for what the input's bytes say.
 pub record PlaysExactly (bytes file : List ℕ) (end : Ending) : Type 0 where
-  pub opens : OpensExactly file end
+  pub opens : (f : SFault) → (end ≡ ending.JournalRefused f) ↔ RefusesOpening file f
   pub stale : (m : ℕ) → (end ≡ ending.NotFresh m) ↔ ((o : Opened) × Holds file o × (1 ≤ m) × (m ≡ length (standing_on o.lang o.events)))
   pub refused : (f : NetFault) → (end ≡ ending.TargetRefused f) ↔ ((o : Opened) × Holds file o × (standing_on o.lang o.events ≡ []) × (network_of o.lang bytes ≡ Err f))

@@ -1,5 +1,5 @@
 -- The names from outside that these definitions use, passed on from one place. Declares nothing.
-pub use Rattle.acq_said.specs.Prelude.{Adds, AddsFront, AllFault, Answer, At, Bool, Candidate, Closing, Converged, Drove, Ending, Err, Event, ForSome, DiskOf, Gives, HasSameSolutions, Holds, Idle, IfOk, IsConverged, IsNetwork, IsTrue, IsVocabulary, JournalFull, Language, List, Ok, OnErr, Opened, Option, Plan, Put, Quacq, Ran, Result, Runs, SFault, Scopes, Some, Terms, Turns, [], agrees, all_of, candidates, codes, decimal, ending_line, false, first_line_of, learned_in, length, line_turn, network_text, standing_on, state_after, terms_with, true, variable_count, ℕ, ◌++◌, ◌+◌, ◌<◌, ◌↔◌, ◌∷◌, ◌≡◌, ◌≢◌, ◌≤◌, ◌⊎◌}
+pub use Rattle.acq_said.specs.Prelude.{Adds, AddsFront, AllFault, Answer, At, Bool, Candidate, Closing, Converged, DiskOf, Drove, Ending, Err, Event, ForSome, Gives, HasSameSolutions, Holds, Idle, IfOk, IsConverged, IsNetwork, IsTrue, IsVocabulary, Language, List, MatchResult, Ok, OnErr, Opened, Option, Plan, Put, Quacq, Ran, RefusesOpening, Result, Runs, SFault, Scopes, Some, Terms, Turns, [], agrees, all_of, candidates, codes, decimal, ending_line, false, first_line_of, learned_in, length, line_turn, network_text, standing_on, state_after, terms_with, true, variable_count, ℕ, ◌++◌, ◌+◌, ◌<◌, ◌↔◌, ◌∷◌, ◌≡◌, ◌≢◌, ◌≤◌, ◌⊎◌}
 pub use Rattle.std.specs.List.{flat_map}
 pub use Rattle.std.specs.Prelude.{All}
 pub use Rattle.acq_io.specs.Lines.{LacksNewline, newline}
@@ -10,13 +10,12 @@ pub use Rattle.acq_loop.specs.Run.{Collapsed, LineTooLong, Suspended, Undecided,
 pub use Rattle.acq_loop.specs.Texts.{learned_after, usage_text}
 pub use Rattle.acq_said.specs.Asks.{AsksTruly, asked_said}
 pub use Rattle.acq_said.specs.Confirming.{ConfirmsExactly, IsCheckOf}
-pub use Rattle.acq_said.specs.Exactly.{OpensExactly}
 pub use Rattle.acq_said.specs.Inputs.{SaysOfInput}
 pub use Rattle.acq_said.specs.Journals.{Refuses}
-pub use Rattle.acq_said.specs.Making.{EndsAsMade, News}
-pub use Rattle.acq_said.specs.Over.{EndsAsOpened, SaysOpening, SaysOver}
+pub use Rattle.acq_said.specs.Making.{IsMaking, News, made_said}
+pub use Rattle.acq_said.specs.Over.{EndsAsOpened, EndsAsSaid, SaysOver}
 pub use Rattle.acq_said.specs.Running.{GoesOn, RunsOn}
-pub use Rattle.acq_said.specs.Said.{EndsWith, IsSaid, SaidSo, SaysSo}
+pub use Rattle.acq_said.specs.Said.{HasWritten, IsSaid, SaysSo}
 pub use Rattle.acq_said.specs.Saying.{Saying, saying}
 pub use Rattle.acq_said.specs.Solving.{Solves, solved_said}
 pub use Rattle.acq_said.specs.TakingBack.{TakesBack, back_said}

@@ -21,7 +21,8 @@ ghost use Rattle.acq_said.specs.Exactly.{IsBrokenOff};
 ghost use Rattle.acq_said.specs.Endings.{HasAsked, Says, SaysPart, Tries};
 ghost use Rattle.acq_loop.specs.Program.{TellsCauses, ended_as};
 ghost use Rattle.acq_words.specs.Request.{IsBudget, IsWithin};
-ghost use Rattle.acq_said.specs.Said.{EndsWith};
+ghost use Rattle.acq_said.specs.Said.{HasWritten};
+ghost use Rattle.acq_said.specs.Saying.{saying};
 ghost use Rattle.acq_cli.specs.Commands.{EndsExactly};
 ghost use Rattle.acq_cli.specs.Doing.{Does};
 ghost use Rattle.acq_cli.specs.Headline.{FindsNetwork, FindsNone};
@@ -224,7 +225,7 @@ fn try_input<R: Threads + Sync, S: Source, K: Sink, G: Gate>(
 
 /// Says how the program is used, where the words are refused.
 fn refuse_words<K: Sink>(alloc: Global, fault: UsageFault, out: &mut K) -> Result<Ending, Put>
-    ensures tells { EndsWith (Ending.Usage fault) usage_text (K.written out.old) (K.written out.new) result }
+    ensures tells { HasWritten (Ok (saying usage_text (Ending.Usage fault))) (K.written out.old) (K.written out.new) result }
     ensures failed { result ≡ Err Put.Failed → Rose (K.faults out.old) (K.faults out.new) }
 {
     let usage = "usage: acquire JOURNAL COMMAND [--plan P] [--budget N] [--number N]\n";
@@ -308,7 +309,7 @@ pub fn acquire<R: Threads + Sync, S: Source, K: Sink, D: Disk, G: Gate>(
         × Does D.Disk (command_asked (map string_bytes words.now)) (S.left input.old) (K.written out.old) (S.left input.new) (K.written out.new) disk.old disk.new got }
     ensures spares { Spares (command_asked (map string_bytes words.now)) (S.left input.old) (S.left input.new) disk.old disk.new }
     ensures refuses { (fault : UsageFault)
-        → (command_asked (map string_bytes words.now) ≡ Err fault → (got : _) × (result ≡ ended_as got) × EndsWith (Ending.Usage fault) usage_text (K.written out.old) (K.written out.new) got)
+        → (command_asked (map string_bytes words.now) ≡ Err fault → (got : _) × (result ≡ ended_as got) × HasWritten (Ok (saying usage_text (Ending.Usage fault))) (K.written out.old) (K.written out.new) got)
         × (result ≡ Ending.Usage fault → command_asked (map string_bytes words.now) ≡ Err fault) }
     ensures causes { TellsCauses (S.faults input.old) (S.faults input.new) (S.late input.old) (S.late input.new) (K.faults out.old) (K.faults out.new) (D.faults disk.old) (D.faults disk.new) result }
     ensures exactly { IsBrokenOff result ⊎ IfOk (command_asked (map string_bytes words.now)) (λ command. EndsExactly command (S.left input.old) (D.content disk.old) result) }
