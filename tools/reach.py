@@ -67,10 +67,14 @@ def reached(crate, file, function):
             continue
         if path not in modules:
             modules[path] = module(path)
-        if not modules[path] or name not in modules[path][0]:
+        if not modules[path]:
+            continue
+        parts, names = modules[path]
+        if name not in parts:
+            # a prelude passes the name on
+            todo.extend([names[name]] if name in names else [])
             continue
         seen.add((path, name))
-        parts, names = modules[path]
         look(parts[name], names, (path, parts))
     return seen
 

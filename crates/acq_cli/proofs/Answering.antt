@@ -13,10 +13,7 @@ abbrev pub EndsItself : Closing → Type 0
 EndsItself Converged = Unit {0}
 EndsItself Collapsed = Unit {0}
 EndsItself Undecided = Unit {0}
-EndsItself JournalFull = ⊥
-EndsItself Suspended = ⊥
-EndsItself LineTooLong = ⊥
-EndsItself Unreadable = ⊥
+EndsItself closing = ⊥
 
 abbrev NextIsFine : Next → Type 0
 NextIsFine (Puts q) = Unit {0}

@@ -1,5 +1,5 @@
 -- What a command that has ended says of the faults that it met.
-use Rattle.acq_cli.proofs.Prelude.{◌≡◌, ℕ, List, Option, Result, Ok, Err, ap, subst, ◌≢◌, IfOk, Put, HasCalled, called_as, called_not, TellsCauses, Ending, HasWritten, Saying, Unsaid, okay, same_ok}
+use Rattle.acq_cli.proofs.Prelude.{Ending, Err, HasCalled, HasWritten, IfOk, List, Ok, Option, Put, Result, Saying, TellsCauses, Unsaid, ap, called_as, called_not, okay, same_ok, subst, ℕ, ◌≡◌, ◌≢◌}
 use Rattle.disk_model.specs.Disk.{Rose as DiskRose}
 use Rattle.acq_loop.specs.declared.ending.Ending.TheVariants as ending
 use Rattle.acq_said.specs.declared.said.Unsaid.TheVariants as unsaid

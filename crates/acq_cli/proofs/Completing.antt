@@ -1,17 +1,15 @@
 -- When a command comes to its own end.
-use Rattle.acq_cli.proofs.Prelude.{◌≡◌, ◌∙◌, ◌⊎◌, ℕ, ◌+◌, ◌≤◌, Bool, true, false, cond, drop, List, [], length, Option, Some, None, Result, Ok, Err, refl, sym, ap, subst, inl, inr, ⊎_elim, arith, IfSome, nat_le, option_map, append-nil, DiskOf, Gathered, gathered, Gives, first_line_of, all_of, AllFault, Command, UsageFault, Answer, Event, Plan, Quacq, Candidate, Language, IsLanguage, standing_on, network_of, NetFault, most_answers, Idle, answers_fit, Opened, HavePlaces, replay_on, IsGenerated, line_turn, net_turn, Turns, IsVocabulary, refusal_of_vocabulary, VocFault, closing_of, ending_of, EndsExactly, HasRoom, IsAffordable, IsEnough, TryHasEnough, RunHasEnough, HasTarget, PlayHasEnough, SaysItsOwn, Converges, ConvergesOrCollapses, Completes, Demos, Tells, HasEnded, IsLeftOpen, RanTo, Tries, IsBrokenOff, MayLack, PlaysOn, ReadsTarget, SaysWithout, point_of, terms_with, Closing, Undecided, Suspended, LineTooLong, Unreadable, JournalFull, asked_said, SaidEnds, SaysSo, Saying, solved_said, RunsOn, back_said, Does, Acquires, IsRefusal, ReadsVocabulary, Drove, Ending, NoTarget, Terms, okay, same_ok, err_ok, silent_ends, closed_end, fine, fine_long, gives_got, long_one, whole_of, IsReached}
+use Rattle.acq_cli.proofs.Prelude.{Acquires, AllFault, Answer, Bool, Candidate, Closing, Command, Completes, Demos, DiskOf, Does, Drove, Ending, EndsExactly, Err, Event, Gathered, Gives, HasEnded, HasFound, HasRoom, HasWritten, HavePlaces, Holds, Idle, IfOk, IfSome, IsAffordable, IsBrokenOff, IsEnough, IsLanguage, IsLeftOpen, IsReached, IsRefusal, IsVocabulary, JournalFull, Language, LineTooLong, List, None, Ok, Opened, OpensAs, Option, Plan, PlaysOn, Quacq, RanTo, ReadOnce, ReadsTarget, ReadsVocabulary, Refuses, Result, RunsOn, SFault, Saying, SaysNoNetwork, SaysUnplayed, Some, Suspended, Terms, Tries, Turns, Undecided, Unreadable, Unsaid, UsageFault, [], all_of, answers_fit, ap, append-nil, arith, closing_of, cond, drop, ending_of, err_ok, false, fine, fine_long, first_line_of, gathered, gives_got, holds_none, inl, input_end, inr, length, line_turn, long_one, most_answers, nat_le, net_turn, network_of, not_refused, okay, one_language, option_map, point_of, ran, refl, refusal_of_vocabulary, refuses_end, replay_on, same_fine, same_ok, same_session, standing_on, subst, sym, terms_with, true, whole_of, ℕ, ⊎_elim, ◌+◌, ◌∙◌, ◌≡◌, ◌≤◌, ◌⊎◌}
 use Rattle.acq_io.specs.declared.streams.Put.TheVariants as put
 use Rattle.acq_words.specs.declared.request.Command.TheVariants as command
 use Rattle.fd_solver.specs.Outcomes.{outcome_of_candidate}
 use Rattle.session_store.proofs.Fronts.{replay_is_state}
-use Rattle.acq_said.specs.declared.said.Unsaid.TheVariants as unsaid
-use Rattle.acq_said.specs.declared.ask.Ask.TheVariants as ask
 use Rattle.acq_loop.specs.declared.driving.Drove.TheVariants as drove
 use Rattle.acq_loop.specs.declared.ending.Ending.TheVariants as ending
-use Rattle.acq_cli.specs.declared.playing.NoTarget.TheVariants as without
 use Rattle.acq_cli.proofs.Answering.{AnswersEach, EndsItself, HasLines, AsMany, ends_itself, lines_answer, network_answers}
 use Rattle.acq_cli.proofs.Enough.{generated_is_settled}
-use Rattle.acq_cli.proofs.Targets.{none_of}
+use Rattle.acq_cli.proofs.Targets.{networked, no_network, none_of}
+use Rattle.session_store.specs.Opening.{NotOpened}
 
 -- ---- a run that ends by itself
 
@@ -37,7 +35,7 @@ module _ (turns : Turns) (Left : ℕ → List ℕ → Type 0) (each : AnswersEac
       let some = undone.undecided.some in
       ⊎_elim (λ scopes. undone.plan scopes)
       (λ affords.
-      let fits = affords ran.run (standing_on l later) [] ran.runs (ap (standing_on l) ran.events ∙ sym (append-nil (standing_on l later))) undone.network undone.end undone.idle some.0 some.1 some.2 in
+      let fits = affords ran.run (standing_on l later) [] undone.network undone.end ran.runs (ap (standing_on l) ran.events ∙ sym (append-nil (standing_on l later))) undone.idle some.0 some.1 some.2 in
       let long = undone.undecided.each some.0 some.1 some.2 (ap (λ (c : Candidate). outcome_of_candidate l undone.network c terms.budget) some.3 ∙ some.4) in
       omega (arith, fits, long))
       affordable
@@ -58,23 +56,22 @@ module _ (turns : Turns) (Left : ℕ → List ℕ → Type 0) (each : AnswersEac
   pub own_end : Tries turns l terms start later left written left' written' end → (end ≡ ending.ReadFault → ⊥) → (end ≡ ending.DiskFault → ⊥) → OwnEnd end
   own_end tries read kept = by_how tries.middle tries.how tries.is tries.ended.says tries.ended.closed read kept
 
--- it is no fault
+-- it is no fault, and memory wasn't wanting
 pub record NoFault (end : Ending) : Type 0 where
   pub read : end ≡ ending.ReadFault → ⊥
   pub write : end ≡ ending.WriteFault → ⊥
   pub kept : end ≡ ending.DiskFault → ⊥
+  pub memory : end ≡ ending.Memory → ⊥
+
+not_broken : (end : Ending) → NoFault end → IsBrokenOff end → ⊥
+not_broken end calm broken = ⊎_elim calm.read (λ b. ⊎_elim calm.write (λ c. ⊎_elim calm.kept calm.memory c) b) broken
 
 -- with the answers and the budget that are enough
 lines_end : (l : Language) (terms : Terms) (start later : List Event) (left written left' written' : Option (List ℕ)) (end : Ending) (bytes : List ℕ) → IsLanguage l → IsReached l terms.plan (standing_on l start) → left ≡ Some bytes →
-    HasRoom l start → IsEnough l terms start bytes → NoFault end → Tries line_turn l terms start later left written left' written' end → ConvergesOrCollapses end
-lines_end l terms start later left written left' written' end bytes lawful reached from room enough calm tries =
-    let a = enough.answers in
+    HasRoom l start → IsEnough l terms start bytes → NoFault end → Tries line_turn l terms start later left written left' written' end → OwnEnd end
+lines_end l terms start later left written left' written' end bytes lawful reached from room a calm tries =
     let has : HasLines (length a.lines) bytes = record { lines = a.lines; rest = a.rest; is = a.is; each = a.each; many = omega arith } in
-    ⊎_elim (λ converged. inl converged) (λ collapsed. inr (inl collapsed))
-    (own_end line_turn HasLines lines_answer l lawful terms (length a.lines) start later left written left' written' end bytes from reached a.enough has room enough.affordable tries calm.read calm.kept)
-
-broken_memory : (end : Ending) → IsBrokenOff end → NoFault end → end ≡ ending.Memory
-broken_memory end broken calm = ⊎_elim (λ e. absurd (calm.read e)) (λ o. ⊎_elim (λ e. absurd (calm.write e)) (λ more. ⊎_elim (λ e. absurd (calm.kept e)) (λ e. e) more) o) broken
+    own_end line_turn HasLines lines_answer l lawful terms (length a.lines) start later left written left' written' end bytes from reached a.enough has room a.affordable tries calm.read calm.kept
 
 -- without events there is room
 no_events_room : (l : Language) → IsLanguage l → HasRoom l []
@@ -103,59 +100,34 @@ gives_rest f left now got bytes gives told = go now (sym (ap (option_map f) told
 
 -- ---- `try`
 
-one_line : (a b : List ℕ) → fine a ≡ fine b → a ≡ b
-one_line a b e = cc
-
-fine_err : (a : List ℕ) (e : AllFault) → fine a ≡ Err e → ⊥
-fine_err a e h = cc
-
-not_both : (line : List ℕ) (f : VocFault) → refusal_of_vocabulary line ≡ None → refusal_of_vocabulary line ≡ Some f → ⊥
-not_both line f a b = let bad : None ≡ Some f = sym a ∙ b in cc
-
-not_refused : (line : List ℕ) (got : Result (List ℕ) AllFault) (f : VocFault) → fine line ≡ got → refusal_of_vocabulary line ≡ None → IsRefusal f got → ⊥
-not_refused line (Ok other) f is taken refused = not_both line f taken (ap refusal_of_vocabulary (one_line line other is) ∙ refused)
-not_refused line (Err e) f is taken refused = fine_err line e is
-
-module _ (terms : Terms) (left written left' written' : Option (List ℕ)) (bytes : List ℕ) (from : left ≡ Some bytes) (has : TryHasEnough terms bytes) where
-  abbrev first : Gathered
-  first = first_line_of 4194304 bytes
-
-  reads_end : (end : Ending) → NoFault end → ReadsVocabulary terms left written left' written' end → ConvergesOrCollapses end
+module _ (terms : Terms) (left written left' written' : Option (List ℕ)) (bytes : List ℕ) (from : left ≡ Some bytes) (line : List ℕ) (l : Language) (first : (first_line_of 4194304 bytes).got ≡ Ok line) (read : IsVocabulary line l)
+    (enough : IsEnough l terms [] (first_line_of 4194304 bytes).rest) where
+  reads_end : (end : Ending) → NoFault end → ReadsVocabulary left (λ lang events rest. Tries line_turn lang terms [] events rest written left' written' end) → OwnEnd end
   reads_end end calm reads =
-      let rest : reads.rest ≡ Some first.rest = gives_rest (first_line_of 4194304) left reads.rest (fine reads.line) bytes reads.gives from in
-      let line : reads.line ≡ has.line = one_line reads.line has.line (sym (gives_got (first_line_of 4194304) left reads.rest (fine reads.line) bytes reads.gives from) ∙ has.first) in
+      let rest : reads.rest ≡ Some (first_line_of 4194304 bytes).rest = gives_rest (first_line_of 4194304) left reads.rest (fine reads.line) bytes reads.gives from in
+      let same : reads.line ≡ line = same_fine reads.line line (sym (gives_got (first_line_of 4194304) left reads.rest (fine reads.line) bytes reads.gives from) ∙ first) in
       let Reads : List ℕ → Type 0 = λ x. IsVocabulary x reads.lang in
-      lines_end reads.lang terms [] reads.events reads.rest written left' written' end first.rest reads.vocabulary.built.lawful (places_reached reads.lang terms.plan [] (none_placed reads.lang terms.plan)) rest (no_events_room reads.lang reads.vocabulary.built.lawful)
-      (has.enough reads.lang (subst Reads line reads.vocabulary)) calm reads.tries
+      let Enough : Language → Type 0 = λ m. IsEnough m terms [] (first_line_of 4194304 bytes).rest in
+      lines_end reads.lang terms [] reads.events reads.rest written left' written' end (first_line_of 4194304 bytes).rest reads.vocabulary.built.lawful (places_reached reads.lang terms.plan [] (none_placed reads.lang terms.plan)) rest (no_events_room reads.lang reads.vocabulary.built.lawful)
+      (subst Enough (one_language line l reads.lang read (subst Reads same reads.vocabulary)) enough) calm reads.did
 
-  try_completes : (end : Ending) → NoFault end → Acquires terms left written left' written' end → ConvergesOrCollapses end
-  try_completes (ending.Usage fault) calm done = absurd done
-  try_completes ending.Done calm done = absurd done
-  try_completes (ending.JournalRefused fault) calm done = absurd done
-  try_completes ending.DiskFault calm done = absurd done
-  try_completes (ending.NotFresh m) calm done = absurd done
-  try_completes (ending.TargetRefused fault) calm done = absurd done
-  try_completes ending.NothingBack calm done = absurd done
-  try_completes (ending.ReduceSpent i) calm done = absurd done
-  try_completes ending.CnfTooLarge calm done = absurd done
-  try_completes (ending.ModelRefused fault) calm done = absurd done
-  try_completes (ending.NotConverged m) calm done = absurd done
-  try_completes (ending.CertRefused fault) calm done = absurd done
-  try_completes (ending.Flawed flaw) calm done = absurd done
-  try_completes (ending.CertUnread fault) calm done = absurd done
+  try_completes : (end : Ending) → NoFault end → Acquires terms left written left' written' end → OwnEnd end
   try_completes (ending.VocRefused fault) calm done =
       let refused = done.0 in
-      absurd (not_refused has.line refused.got fault (sym has.first ∙ gives_got (first_line_of 4194304) left left' refused.got bytes refused.gives from) has.taken refused.refused)
+      let Refused : Result (List ℕ) AllFault → Type 0 = IsRefusal fault in
+      let told : refusal_of_vocabulary line ≡ Some fault = subst Refused (sym (gives_got (first_line_of 4194304) left left' refused.0 bytes refused.1 from) ∙ first) refused.2 in
+      absurd (let bad : None ≡ Some fault = sym (not_refused line l read) ∙ told in let no : ⊥ = cc in no)
   try_completes ending.ReadFault calm done = absurd (calm.read refl)
   try_completes ending.WriteFault calm done = absurd (calm.write refl)
-  try_completes ending.Memory calm done = inr (inr refl)
+  try_completes ending.Memory calm done = absurd (calm.memory refl)
   try_completes (ending.Converged m) calm done = inl (m, refl)
-  try_completes (ending.Collapsed m) calm done = inr (inl (m, refl))
+  try_completes (ending.Collapsed m) calm done = inr (m, refl)
   try_completes (ending.Undecided m) calm done = reads_end (ending.Undecided m) calm done
   try_completes (ending.Suspended m) calm done = reads_end (ending.Suspended m) calm done
   try_completes ending.LineTooLong calm done = reads_end ending.LineTooLong calm done
   try_completes ending.Unreadable calm done = reads_end ending.Unreadable calm done
   try_completes ending.JournalFull calm done = reads_end ending.JournalFull calm done
+  try_completes end calm done = absurd done
 
 -- ---- the commands over a journal
 
@@ -168,125 +140,81 @@ none_left bytes got is = go (nat_le (length bytes) 4194304) is
     go true e = refl
     go false e = absurd (fine_long got (sym e))
 
-none_stale : (t : List Answer) (n : ℕ) → t ≡ [] → n ≡ length t → 1 ≤ n → ⊥
-none_stale t n none number some = let few : length t ≡ 0 = ap length none in omega (arith, few, number, some)
+none_stale : (t : List Answer) → t ≡ [] → 1 ≤ length t → ⊥
+none_stale t none some = let few : length t ≡ 0 = ap length none in omega (arith, few, some)
 
-abbrev taking : List Candidate → Result (List Candidate) NetFault
-taking target = Ok target
-
-same_target : (a b : List Candidate) → taking a ≡ taking b → a ≡ b
+same_target : (a b : List Candidate) → networked a ≡ networked b → a ≡ b
 same_target a b e = cc
 
-not_target : (target : List Candidate) (f : NetFault) → taking target ≡ Err f → ⊥
-not_target target f e = cc
-
--- a session with a target lacks none
-lacks_none : (l : Language) (terms : Terms) (events : List Event) (left left' written written' : Option (List ℕ)) (bytes : List ℕ) (end : Ending) → HasTarget l terms events bytes → left ≡ Some bytes → NoFault end →
-    (why : NoTarget) → MayLack l left left' why → SaysSo (SaysWithout why) written written' (okay end) → ⊥
-lacks_none l terms events left left' written written' bytes end has from calm (without.Refused f) lacks ends = not_target has.target f (sym has.is ∙ none_of l left left' bytes f lacks from)
-lacks_none l terms events left left' written written' bytes end has from calm without.ReadFault lacks (said, is, wrote) = calm.read (same_ok end ending.ReadFault (silent_ends unsaid.ReadFault said written written' end is wrote))
-lacks_none l terms events left left' written written' bytes end has from calm without.Memory lacks (said, is, wrote) = err_ok put.Memory end (sym (silent_ends unsaid.Memory said written written' end is wrote))
-
 -- with a target and a budget that is enough
-target_end : (l : Language) (terms : Terms) (start later : List Event) (left rest written left' written' : Option (List ℕ)) (end : Ending) (bytes : List ℕ) (target : List Candidate) → IsLanguage l → IsReached l terms.plan (standing_on l start) → left ≡ Some bytes →
-    HasTarget l terms start bytes → ReadsTarget l left rest target → ((m : ℕ) → end ≡ ending.Collapsed m → ⊥) → NoFault end → Tries (net_turn target false) l terms start later rest written left' written' end → Converges end
-target_end l terms start later left rest written left' written' end bytes target lawful reached from has reads agreed calm tries =
+target_end : (l : Language) (terms : Terms) (start later : List Event) (left rest written left' written' : Option (List ℕ)) (end : Ending) (bytes : List ℕ) (target own : List Candidate) → IsLanguage l → IsReached l terms.plan (standing_on l start) → left ≡ Some bytes →
+    HasRoom l start → network_of l bytes ≡ Ok own → IsAffordable (net_turn own false) l terms start [] → ReadsTarget l left rest target → ((m : ℕ) → end ≡ ending.Collapsed m → ⊥) → NoFault end → Tries (net_turn target false) l terms start later rest written left' written' end →
+    (m : ℕ) × (end ≡ ending.Converged m)
+target_end l terms start later left rest written left' written' end bytes target own lawful reached from room is affordable reads agreed calm tries =
     let got = gives_got (all_of 4194304) left rest (fine reads.bytes) bytes reads.gives from in
     let whole : bytes ≡ reads.bytes = whole_of 4194304 bytes reads.bytes got in
     let nothing : rest ≡ Some [] = gives_rest (all_of 4194304) left rest (fine reads.bytes) bytes reads.gives from ∙ ap (λ (x : List ℕ). let o : Option (List ℕ) = Some x in o) (none_left bytes reads.bytes got) in
-    let same : has.target ≡ target = same_target has.target target (sym has.is ∙ ap (network_of l) whole ∙ reads.is) in
+    let same : own ≡ target = same_target own target (sym is ∙ ap (network_of l) whole ∙ reads.is) in
     let Afforded : List Candidate → Type 0 = λ x. IsAffordable (net_turn x false) l terms start [] in
-    ⊎_elim (λ converged. inl converged) (λ collapsed. absurd (agreed collapsed.0 collapsed.1))
-    (own_end (net_turn target false) AsMany (network_answers target false) l lawful terms (most_answers l) start later rest written left' written' end [] nothing reached (omega arith) tt has.room (subst Afforded same has.affordable) tries calm.read calm.kept)
+    ⊎_elim (λ converged. converged) (λ collapsed. absurd (agreed collapsed.0 collapsed.1))
+    (own_end (net_turn target false) AsMany (network_answers target false) l lawful terms (most_answers l) start later rest written left' written' end [] nothing reached (omega arith) tt room (subst Afforded same affordable) tries calm.read calm.kept)
 
--- ---- a number's language
+-- ---- the commands
 
--- with a budget that is enough for it
-told_end : (number : ℕ) (l : Language) (terms : Terms) (events : List Event) (written written' : Option (List ℕ)) (end : Ending) → IsGenerated l → 88573 ≤ terms.budget → Tells number l terms events written written' end → Converges end
-told_end number l terms events written written' (ending.Converged m) made enough tells = inl (m, refl)
-told_end number l terms events written written' (ending.Undecided m) made enough tells = absurd (generated_is_settled l terms (standing_on l events) made enough tells.0.found)
-told_end number l terms events written written' (ending.Usage fault) made enough tells = absurd tells
-told_end number l terms events written written' ending.Done made enough tells = absurd tells
-told_end number l terms events written written' (ending.VocRefused fault) made enough tells = absurd tells
-told_end number l terms events written written' (ending.JournalRefused fault) made enough tells = absurd tells
-told_end number l terms events written written' (ending.Collapsed m) made enough tells = absurd tells
-told_end number l terms events written written' (ending.Suspended m) made enough tells = absurd tells
-told_end number l terms events written written' ending.LineTooLong made enough tells = absurd tells
-told_end number l terms events written written' ending.Unreadable made enough tells = absurd tells
-told_end number l terms events written written' ending.ReadFault made enough tells = absurd tells
-told_end number l terms events written written' ending.WriteFault made enough tells = absurd tells
-told_end number l terms events written written' ending.DiskFault made enough tells = absurd tells
-told_end number l terms events written written' ending.Memory made enough tells = absurd tells
-told_end number l terms events written written' ending.JournalFull made enough tells = absurd tells
-told_end number l terms events written written' (ending.NotFresh m) made enough tells = absurd tells
-told_end number l terms events written written' (ending.TargetRefused fault) made enough tells = absurd tells
-told_end number l terms events written written' ending.NothingBack made enough tells = absurd tells
-told_end number l terms events written written' (ending.ReduceSpent i) made enough tells = absurd tells
-told_end number l terms events written written' ending.CnfTooLarge made enough tells = absurd tells
-told_end number l terms events written written' (ending.ModelRefused fault) made enough tells = absurd tells
-told_end number l terms events written written' (ending.NotConverged m) made enough tells = absurd tells
-told_end number l terms events written written' (ending.CertRefused fault) made enough tells = absurd tells
-told_end number l terms events written written' (ending.Flawed flaw) made enough tells = absurd tells
-told_end number l terms events written written' (ending.CertUnread fault) made enough tells = absurd tells
+module _ {D : Type 0} (disk : DiskOf D) (once : ReadOnce) (left written left' written' : Option (List ℕ)) (old new : D) (end : Ending) (calm : NoFault end) where
+  -- a journal that isn't opened holds no session
+  closed_none : (file : List ℕ) (o : Opened) (fault : SFault) (said : Result Saying Unsaid) → NotOpened file fault → Holds file o → Refuses fault said → HasWritten said written written' (okay end) → ⊥
+  closed_none file o fault said why held refuses has = ⊎_elim (not_broken end calm) (λ is. holds_none once file fault o (is.0, why) held) (refuses_end fault said written written' end refuses has)
 
-module _ {D : Type 0} (disk : DiskOf D) (left written left' written' : Option (List ℕ)) (old new : D) (end : Ending) (calm : NoFault end) where
-  run_completes : (budget : ℕ) → RunsOn disk budget left written left' written' old new (okay end) → (bytes file : List ℕ) → left ≡ Some bytes → disk.content old ≡ Some file → RunHasEnough budget bytes file → ConvergesOrCollapses end
-  run_completes budget (inl closed) bytes file from told has =
-      ⊎_elim (λ broken. inr (inr (broken_memory end broken calm))) (λ is. absurd (has.opens closed.fault (is.0, closed.why file told))) (closed_end written written' end closed.fault closed.refuses)
-  run_completes budget (inr on) bytes file from told has =
-      lines_end on.lang (terms_with on.plan budget) on.events on.later left written left' written' end bytes on.read.built.lawful (places_reached on.lang on.plan on.events on.places) from
-      (has.room on.plan on.voc on.events on.lang (on.says file told) on.read) (has.enough on.plan on.voc on.events on.lang (on.says file told) on.read) calm on.tries
+  run_completes : (budget : ℕ) → RunsOn disk budget left written left' written' old new (okay end) → Completes (command.Run budget) left (disk.content old) end
+  run_completes budget (inl (said, over, has)) = λ bytes from file told o held room enough.
+      let As : Result Opened SFault → Type 0 = OpensAs file in
+      absurd (closed_none file o over.says.0 said (subst As over.says.1 (over.opens file told)) held over.says.2 has)
+  run_completes budget (inr on) = λ bytes from file told o held room enough.
+      let l = on.of.lang in
+      let session = on.some.1.session in
+      let Enough : Opened → Type 0 = λ x. HasRoom x.lang x.events × IsEnough x.lang (terms_with x.plan budget) x.events bytes in
+      let has = subst Enough (same_session file o on.of held (on.opens file told)) (room, enough) in
+      lines_end l (terms_with on.of.plan budget) on.of.events on.later left written left' written' end bytes session.read.built.lawful (places_reached l on.of.plan on.of.events session.places) from has.0 has.1 calm on.tries
 
-  play_completes : (budget : ℕ) → PlaysOn disk budget left written left' written' old new (okay end) → (bytes file : List ℕ) → left ≡ Some bytes → disk.content old ≡ Some file → PlayHasEnough budget bytes file → Converges end
-  play_completes budget (inl closed) bytes file from told has =
-      ⊎_elim (λ broken. inr (broken_memory end broken calm)) (λ is. absurd (has.opens closed.fault (is.0, closed.why file told))) (closed_end written written' end closed.fault closed.refuses)
-  play_completes budget (inr (inl stale)) bytes file from told has =
-      let o = stale.opened in
-      let given = has.enough o.plan o.voc o.events o.lang (o.says file told) o.read in
-      absurd (none_stale (standing_on o.lang o.events) stale.number given.fresh stale.is stale.some)
-  play_completes budget (inr (inr (inl lacks))) bytes file from told has =
-      let o = lacks.opened in
-      let given = has.enough o.plan o.voc o.events o.lang (o.says file told) o.read in
-      absurd (lacks_none o.lang (terms_with o.plan budget) o.events left left' written written' bytes end given from calm lacks.why lacks.lacks lacks.ends)
-  play_completes budget (inr (inr (inr played))) bytes file from told has =
+  -- a session without answers, and with a network, comes to a run
+  played_none : (bytes file : List ℕ) → left ≡ Some bytes → (said : Result Saying Unsaid) → HasWritten said written written' (okay end) → (o : Opened) (target : List Candidate) → Holds file o → standing_on o.lang o.events ≡ [] → network_of o.lang bytes ≡ Ok target →
+      (opening : Result Opened SFault) → OpensAs file opening → SaysUnplayed left left' opening said → ⊥
+  played_none bytes file from said has o target held fresh is (Err fault) opens says = closed_none file o fault said opens held says.0 has
+  played_none bytes file from said has o target held fresh is (Ok x) opens says =
+      let So : Opened → Type 0 = λ y. (standing_on y.lang y.events ≡ []) × (network_of y.lang bytes ≡ Ok target) in
+      let so = subst So (same_session file o x held opens) (fresh, is) in
+      ⊎_elim (λ stale. none_stale (standing_on x.lang x.events) so.0 stale.0)
+      (λ lacks. ⊎_elim (not_broken end calm) (λ untaken. let none = none_of x.lang bytes said untaken in no_network target none.0 (sym so.1 ∙ none.1)) (input_end 4194304 (SaysNoNetwork x.lang) left left' written written' said end bytes from lacks.1 has)) says
+
+  play_completes : (budget : ℕ) → PlaysOn disk budget left written left' written' old new (okay end) → Completes (command.Play budget) left (disk.content old) end
+  play_completes budget (inl (said, over, has)) = λ bytes from file told o target held room fresh is affordable.
+      absurd (played_none bytes file from said has o target held fresh is over.opening (over.opens file told) over.says)
+  play_completes budget (inr played) = λ bytes from file told o target held room fresh is affordable.
       let on = played.on in
-      target_end on.lang (terms_with on.plan budget) on.events on.later left played.rest written left' written' end bytes played.target on.read.built.lawful (places_reached on.lang on.plan on.events on.places) from
-      (has.enough on.plan on.voc on.events on.lang (on.says file told) on.read) played.reads (λ m is. played.answered.no_collapse m (ap okay is)) calm on.tries
+      let l = on.of.lang in
+      let session = on.some.1.session in
+      let Enough : Opened → Type 0 = λ x. HasRoom x.lang x.events × (network_of x.lang bytes ≡ Ok target) × IsAffordable (net_turn target false) x.lang (terms_with x.plan budget) x.events [] in
+      let has = subst Enough (same_session file o on.of held (on.opens file told)) (room, is, affordable) in
+      target_end l (terms_with on.of.plan budget) on.of.events on.later left left' written left' written' end bytes played.target target session.read.built.lawful (places_reached l on.of.plan on.of.events session.places) from
+      has.0 has.1 has.2 played.reads (λ m e. played.answered.no_collapse m (ap okay e)) calm on.tries
 
-  says_its_own : (says : Opened → Saying) (content' : Option (List ℕ)) → SaidEnds says content' end → SaysItsOwn says content' end
-  says_its_own says content' ends = λ file told. ⊎_elim (λ broken. inr (broken_memory end broken calm)) (λ said. inl said) (ends file told)
+  -- a budget that is enough for a number's language leaves nothing open
+  demo_completes : (number budget : ℕ) → Demos number budget written written' (okay end) → Completes (command.Demo number budget) left (disk.content old) end
+  demo_completes number budget (inl none) = absurd (err_ok put.Memory end (sym none.0))
+  demo_completes number budget (inr demo) = λ enough.
+      let t = standing_on demo.lang demo.run.events in
+      let Found : Closing → Type 0 = HasFound demo.lang (terms_with Quacq budget) t in
+      ⊎_elim (λ converged. (length t, converged.1)) (λ undecided. absurd (generated_is_settled demo.lang (terms_with Quacq budget) t demo.generated enough (subst Found undecided.0 demo.found))) demo.ends
 
-  demo_completes : (number budget : ℕ) → Demos number budget written written' (okay end) → 88573 ≤ budget → Converges end
-  demo_completes number budget (inl none) enough = absurd (err_ok put.Memory end (sym none.0))
-  demo_completes number budget (inr demo) enough = told_end number demo.lang (terms_with Quacq budget) demo.events written written' end demo.generated enough demo.ends
+  exactly : {P : Type 0} → IsBrokenOff end ⊎ P → P
+  exactly ends = ⊎_elim (λ broken. absurd (not_broken end calm broken)) (λ holds. holds) ends
 
-  pub completes : (asked : Result Command UsageFault) → Does disk asked left written left' written' old new (okay end) → EndsExactly asked left (disk.content old) end → Completes asked left (disk.content old) end
-  completes (Ok (command.New plan)) does ends = λ bytes from file told. ⊎_elim (λ broken. inr (broken_memory end broken calm)) (λ made. inl made) (ends bytes from file told)
-  completes (Ok (command.Run budget)) does ends = λ bytes from file told. run_completes budget does bytes file from told
-  completes (Ok (command.Play budget)) does ends = λ bytes from file told. play_completes budget does bytes file from told
-  completes (Ok command.Show) does ends = says_its_own (asked_said ask.Show) (disk.content old) ends
-  completes (Ok command.Back) does ends = says_its_own back_said (disk.content old) ends
-  completes (Ok (command.Try plan budget)) does ends = λ bytes from has. try_completes (terms_with plan budget) left written left' written' bytes from has end calm does
-  completes (Ok (command.Demo number budget)) does ends = λ enough. demo_completes number budget does enough
-  completes (Ok (command.Reduce budget)) does ends = says_its_own (asked_said (ask.Reduce budget)) (disk.content old) ends
-  completes (Ok command.Cnf) does ends = says_its_own (asked_said ask.Cnf) (disk.content old) ends
-  completes (Ok command.Model) does ends = λ bytes from. says_its_own (solved_said (all_of 4194304 bytes).got) (disk.content old) (ends bytes from)
-  completes (Ok (command.Certify budget)) does ends = says_its_own (asked_said (ask.Certify budget)) (disk.content old) ends
-  completes (Ok command.Check) does ends = λ bytes from. ⊎_elim (λ broken. inr (broken_memory end broken calm)) (λ exactly. inl exactly) (ends bytes from)
+  -- the others do so exactly
+  pub completes : (asked : Result Command UsageFault) → Does disk asked left written left' written' old new (okay end) → IsBrokenOff end ⊎ IfOk asked (λ c. EndsExactly c left (disk.content old) end) → IfOk asked (λ c. Completes c left (disk.content old) end)
+  completes (Ok (command.Run budget)) does ends = run_completes budget does
+  completes (Ok (command.Play budget)) does ends = play_completes budget does
+  completes (Ok (command.Try plan budget)) does ends = λ bytes from line l first read enough. try_completes (terms_with plan budget) left written left' written' bytes from line l first read enough end calm does
+  completes (Ok (command.Demo number budget)) does ends = demo_completes number budget does
   completes (Err fault) does ends = tt
-
--- want of memory is always an answer
-pub memory_completes : (asked : Result Command UsageFault) (left content : Option (List ℕ)) → Completes asked left content ending.Memory
-memory_completes (Ok (command.New plan)) left content = λ bytes from file told. inr refl
-memory_completes (Ok (command.Run budget)) left content = λ bytes from file told has. inr (inr refl)
-memory_completes (Ok (command.Play budget)) left content = λ bytes from file told has. inr refl
-memory_completes (Ok command.Show) left content = λ file told. inr refl
-memory_completes (Ok command.Back) left content = λ file told. inr refl
-memory_completes (Ok (command.Try plan budget)) left content = λ bytes from has. inr (inr refl)
-memory_completes (Ok (command.Demo number budget)) left content = λ enough. inr refl
-memory_completes (Ok (command.Reduce budget)) left content = λ file told. inr refl
-memory_completes (Ok command.Cnf) left content = λ file told. inr refl
-memory_completes (Ok command.Model) left content = λ bytes from file told. inr refl
-memory_completes (Ok (command.Certify budget)) left content = λ file told. inr refl
-memory_completes (Ok command.Check) left content = λ bytes from. inr refl
-memory_completes (Err fault) left content = tt
+  completes (Ok c) does ends = exactly ends

@@ -1,18 +1,10 @@
 -- What `demo` has done, of its loop and what was said of it.
-use Rattle.acq_cli.proofs.Prelude.{◌≡◌, ◌∙◌, ℕ, Bool, true, IsTrue, List, [], ◌++◌, length, Option, Some, Result, Ok, Err, refl, sym, ap, subst, inr, ⊎_elim, IfOk, IfSome, OnErr, Adds, AddsFront, adds_then, Put, Answer, Event, Plan, Quacq, Candidate, Language, IsLanguage, HasSameSolutions, IsNetwork, agrees, standing_on, Stands, knowledge_of, state_after, IsGenerated, target_of, net_turn, net_may_say, MayEnd, closing_of, ending_of, ClosesQuietly, Demos, HasDriven, IsQuietEnd, SaysSum, Tells, TellsFront, demo_text, summary_text, whole_demo, Drives, IsOwned, EndsWith, HasWritten, or_silent, Saying, saying, Unsaid, IsAnsweredBy, IsUnstopped, point_of, terms_with, Closing, Converged, Undecided, learned_in, learned_after, Drove, Ending, Terms, failed, same_ok, err_ok, begun, run_exists, ends_as, said_as, run_laws, stands_at}
+use Rattle.acq_cli.proofs.Prelude.{Adds, AddsFront, Answer, Bool, Candidate, ClosesQuietly, Closing, Converged, Demos, Drives, Drove, Ending, EndsWith, Err, Event, HasDriven, HasFound, HasWritten, IfOk, IfSome, IsAnsweredBy, IsGenerated, IsLanguage, IsNetwork, IsOwned, IsTrue, Language, List, MayEnd, Ok, Option, Put, Quacq, Ran, Result, Runs, Saying, SaysSum, Some, Terms, Undecided, Unsaid, [], adds_then, agrees, ap, begun, closing_of, demo_text, ending_of, ends_as, failed, false, inl, inr, learned_after, length, net_may_say, net_turn, okay, or_silent, point_of, ran, refl, run_exists, run_laws, said_as, same_ok, saying, standing_on, subst, summary_text, sym, target_of, terms_with, true, whole_demo, ℕ, ⊎_elim, ◌++◌, ◌+◌, ◌∙◌, ◌≡◌, ◌⊎◌}
+use Rattle.acq_cli.proofs.Targets.{has_same}
 use Rattle.target_oracle.proofs.Fronts.{front_longer, front_none, front_then, front_whole}
 use Rattle.acq_io.specs.declared.streams.Put.TheVariants as put
-use Rattle.session_core.specs.declared.session.Session.{Session}
 use Rattle.acq_loop.specs.declared.driving.Drove.TheVariants as drove
 use Rattle.acq_loop.specs.declared.ending.Ending.TheVariants as ending
-
--- ---- what the session has learned
-
-pub learned_as : (session : Session) (l : Language) (plan : Plan) (t : List Answer) → (knowledge_of session).lang ≡ l → (knowledge_of session).plan ≡ plan → Stands session t →
-    (knowledge_of session).network.list ≡ learned_in (state_after l plan t)
-learned_as session l plan t lang planned stands =
-    let there = stands_at session t stands in
-    sym (ap learned_in (sym (λ i. state_after (lang i) (planned i) t) ∙ there.at) ∙ there.network)
 
 -- ---- the loop
 
@@ -51,27 +43,7 @@ driven_from net target quiet l terms start events left written left' written' ho
 pub not_collapsed : (l : Language) (terms : Terms) (owner : List Candidate) (t : List Answer) (how : Drove) → IfSome (closing_of how) (IsOwned l terms owner t) → (m : ℕ) → how ≡ drove.Collapsed m → ⊥
 not_collapsed l terms owner t how owned m is = let P : Drove → Type 0 = λ x. IfSome (closing_of x) (IsOwned l terms owner t) in subst P is owned
 
-pub quiet_end : (target : List Candidate) (l : Language) (terms : Terms) (events : List Event) (how : Drove) → HasDriven target l terms events how → IsQuietEnd how
-quiet_end target l terms events (drove.Converged m) driven = tt
-quiet_end target l terms events (drove.Undecided m) driven = tt
-quiet_end target l terms events drove.Memory driven = tt
-quiet_end target l terms events (drove.Collapsed m) driven = driven
-quiet_end target l terms events (drove.Suspended m) driven = driven
-quiet_end target l terms events drove.LineTooLong driven = driven
-quiet_end target l terms events drove.Unreadable driven = driven
-quiet_end target l terms events drove.ReadFault driven = driven
-quiet_end target l terms events drove.WriteFault driven = driven
-quiet_end target l terms events drove.DiskFault driven = driven
-quiet_end target l terms events drove.JournalFull driven = driven
-
 -- ---- the command
-
--- how it ends where the loop did so, of a network of so many candidates
-abbrev SumsUp : (learned : ℕ) → (written written' : Option (List ℕ)) → Result Ending Put → Drove → Type 0
-SumsUp learned written written' got (drove.Converged m) = EndsWith (ending.Converged m) (summary_text Converged m learned) written written' got
-SumsUp learned written written' got (drove.Undecided m) = EndsWith (ending.Undecided m) (summary_text Undecided m learned) written written' got
-SumsUp learned written written' got drove.Memory = (got ≡ Err put.Memory) × (written' ≡ written)
-SumsUp learned written written' got how = ⊥
 
 -- the first line was put
 pub line_put : {E : Type 0} (number : ℕ) (l : Language) (made : Result Saying E) (said : Result Saying Unsaid) (written written' : Option (List ℕ)) (got : Result Ending Put) → said ≡ or_silent made → IfOk made (λ s. s ≡ saying (demo_text number l) ending.Done) →
@@ -79,162 +51,109 @@ pub line_put : {E : Type 0} (number : ℕ) (l : Language) (made : Result Saying 
 line_put number l made said written written' got is so has =
     let what = saying (demo_text number l) ending.Done in ends_as what said written written' got (said_as made said what what is refl so) has
 
--- by what was said
-pub sums_up : (learned : ℕ) (said : Result Saying Unsaid) (written written' : Option (List ℕ)) (got : Result Ending Put) (how : Drove) → SaysSum learned how said → HasWritten said written written' got → SumsUp learned written written' got how
-sums_up learned said written written' got (drove.Converged m) says has = ends_as (saying (summary_text Converged m learned) (ending.Converged m)) said written written' got says has
-sums_up learned said written written' got (drove.Undecided m) says has = ends_as (saying (summary_text Undecided m learned) (ending.Undecided m)) said written written' got says has
-sums_up learned said written written' got drove.Memory says has = let Written : Result Saying Unsaid → Type 0 = λ s. HasWritten s written written' got in subst Written says has
-sums_up learned said written written' got (drove.Collapsed m) says has = says
-sums_up learned said written written' got (drove.Suspended m) says has = says
-sums_up learned said written written' got drove.LineTooLong says has = says
-sums_up learned said written written' got drove.Unreadable says has = says
-sums_up learned said written written' got drove.ReadFault says has = says
-sums_up learned said written written' got drove.WriteFault says has = says
-sums_up learned said written written' got drove.DiskFault says has = says
-sums_up learned said written written' got drove.JournalFull says has = says
+-- converged and undecided alone
+abbrev is_quiet : Ending → Bool
+is_quiet (ending.Converged m) = true
+is_quiet (ending.Undecided m) = true
+is_quiet end = false
 
-module _ (number : ℕ) (l : Language) (terms : Terms) (lawful : IsLanguage l) where
-  -- there is a run, of whose text a front of the first line is one
-  pub front_of_first : (written written' : Option (List ℕ)) → AddsFront written written' (demo_text number l) → TellsFront number l terms written written'
-  front_of_first written written' adds =
-      let has = run_exists run_laws (net_turn (target_of number l) true) l terms lawful [] [] (begun l terms.plan) in
-      record { run = has.run; runs = has.runs; adds = front_longer written written' (demo_text number l) (summary_text has.run.closing (length (standing_on l has.run.events)) (length (learned_after l terms (standing_on l has.run.events)))) adds }
-
-  pub front_of_none : (written written' : Option (List ℕ)) → written' ≡ written → TellsFront number l terms written written'
-  front_of_none written written' same = front_of_first written written' (front_none written written' (demo_text number l) same)
-
-  -- the first line was written, and no more
-  pub front_of_line : (written written' : Option (List ℕ)) → Adds written written' (demo_text number l) → TellsFront number l terms written written'
-  front_of_line written written' adds = front_of_first written written' (front_whole written written' (demo_text number l) adds)
-
-  module _ (events : List Event) (written middle written' : Option (List ℕ)) (first : Adds written middle (demo_text number l)) (learned : ℕ) (learned_is : learned ≡ length (learned_after l terms (standing_on l events))) where
-    abbrev Run : Closing → ℕ → Type 0
-    Run closing m = ClosesQuietly (target_of number l) l terms events closing m
-
-    abbrev whole : Closing → List ℕ
-    whole closing = whole_demo number l terms (standing_on l events) closing
-
-    -- the summary of a run is that of its answers
-    whole_is : (closing : Closing) (m : ℕ) → Run closing m → demo_text number l ++ summary_text closing m learned ≡ whole closing
-    whole_is closing m ran = λ i. demo_text number l ++ summary_text closing (ran.count i) (learned_is i)
-
-    all_told : (closing : Closing) (m : ℕ) → Run closing m → Adds middle written' (summary_text closing m learned) → Adds written written' (whole closing)
-    all_told closing m ran adds = let P : List ℕ → Type 0 = Adds written written' in subst P (whole_is closing m ran) (adds_then written middle written' (demo_text number l) (summary_text closing m learned) first adds)
-
-    part_told : (closing : Closing) (m : ℕ) → Run closing m → AddsFront middle written' (summary_text closing m learned) → TellsFront number l terms written written'
-    part_told closing m ran adds =
-        let P : List ℕ → Type 0 = AddsFront written written' in
-        let same : whole closing ≡ whole_demo number l terms (standing_on l ran.run.events) ran.run.closing = sym (λ i. whole_demo number l terms (standing_on l (ran.events i)) (ran.closing i)) in
-        record { run = ran.run; runs = ran.runs; adds = subst P (whole_is closing m ran ∙ same) (front_then written middle written' (demo_text number l) (summary_text closing m learned) first adds) }
-
-    pub tells_by : (how : Drove) (got : Result Ending Put) → HasDriven (target_of number l) l terms events how → SumsUp learned middle written' got how → IfOk got (Tells number l terms events written written')
-    tells_by (drove.Converged m) (Ok end) ran (is, adds) = let P : Ending → Type 0 = Tells number l terms events written written' in subst P (sym is) (ran, all_told Converged m ran adds)
-    tells_by (drove.Undecided m) (Ok end) ran (is, adds) = let P : Ending → Type 0 = Tells number l terms events written written' in subst P (sym is) (ran, all_told Undecided m ran adds)
-    tells_by drove.Memory (Ok end) ran (is, same) = absurd (err_ok put.Memory end (sym is))
-    tells_by (drove.Collapsed m) (Ok end) ran sums = absurd ran
-    tells_by (drove.Suspended m) (Ok end) ran sums = absurd ran
-    tells_by drove.LineTooLong (Ok end) ran sums = absurd ran
-    tells_by drove.Unreadable (Ok end) ran sums = absurd ran
-    tells_by drove.ReadFault (Ok end) ran sums = absurd ran
-    tells_by drove.WriteFault (Ok end) ran sums = absurd ran
-    tells_by drove.DiskFault (Ok end) ran sums = absurd ran
-    tells_by drove.JournalFull (Ok end) ran sums = absurd ran
-    tells_by how (Err e) ran sums = tt
-
-    stopped : (closing : Closing) (m : ℕ) (end : Ending) (e : Put) → Run closing m → EndsWith end (summary_text closing m learned) middle written' (Err e) → TellsFront number l terms written written'
-    stopped closing m end put.Failed ran front = part_told closing m ran front
-    stopped closing m end put.Memory ran same = part_told closing m ran (front_none middle written' (summary_text closing m learned) same)
-
-    pub part_by : (how : Drove) (got : Result Ending Put) → HasDriven (target_of number l) l terms events how → SumsUp learned middle written' got how → OnErr got (TellsFront number l terms written written')
-    part_by how (Ok end) ran sums = tt
-    part_by (drove.Converged m) (Err e) ran sums = stopped Converged m (ending.Converged m) e ran sums
-    part_by (drove.Undecided m) (Err e) ran sums = stopped Undecided m (ending.Undecided m) e ran sums
-    part_by drove.Memory (Err e) ran (is, same) = let P : Option (List ℕ) → Type 0 = λ w. Adds written w (demo_text number l) in front_of_line written written' (subst P (sym same) first)
-    part_by (drove.Collapsed m) (Err e) ran sums = absurd ran
-    part_by (drove.Suspended m) (Err e) ran sums = absurd ran
-    part_by drove.LineTooLong (Err e) ran sums = absurd ran
-    part_by drove.Unreadable (Err e) ran sums = absurd ran
-    part_by drove.ReadFault (Err e) ran sums = absurd ran
-    part_by drove.WriteFault (Err e) ran sums = absurd ran
-    part_by drove.DiskFault (Err e) ran sums = absurd ran
-    part_by drove.JournalFull (Err e) ran sums = absurd ran
-
--- ---- its target gave each answer
-
-module _ (number : ℕ) (l : Language) (terms : Terms) (events : List Event) (written written' : Option (List ℕ)) where
-  abbrev Told : Ending → Type 0
-  Told = Tells number l terms events written written'
-
-  goes_on : (end : Ending) → Told end → IsUnstopped end
-  goes_on (ending.Converged m) told = tt
-  goes_on (ending.Undecided m) told = tt
-  goes_on ending.Done told = tt
-  goes_on (ending.Usage fault) told = tt
-  goes_on (ending.VocRefused fault) told = tt
-  goes_on (ending.JournalRefused fault) told = tt
-  goes_on (ending.Collapsed m) told = tt
-  goes_on (ending.Suspended m) told = told
-  goes_on ending.LineTooLong told = told
-  goes_on ending.Unreadable told = told
-  goes_on ending.ReadFault told = told
-  goes_on ending.WriteFault told = tt
-  goes_on ending.DiskFault told = tt
-  goes_on ending.Memory told = tt
-  goes_on ending.JournalFull told = tt
-  goes_on (ending.NotFresh m) told = tt
-  goes_on (ending.TargetRefused fault) told = tt
-  goes_on ending.NothingBack told = tt
-  goes_on (ending.ReduceSpent i) told = tt
-  goes_on ending.CnfTooLarge told = tt
-  goes_on (ending.ModelRefused fault) told = tt
-  goes_on (ending.NotConverged m) told = tt
-  goes_on (ending.CertRefused fault) told = tt
-  goes_on (ending.Flawed flaw) told = tt
-  goes_on (ending.CertUnread fault) told = tt
-
-  pub demo_answered : (got : Result Ending Put) → IsNetwork l (target_of number l) → IsTrue (agrees l (target_of number l) (standing_on l events)) → IfOk got Told → IsAnsweredBy (target_of number l) l terms (standing_on l events) got
-  demo_answered (Err e) lawful agreeing told = record {
-    agreeing = agreeing;
-    no_collapse = λ m is. err_ok e (ending.Collapsed m) is;
-    unstopped = tt;
-    same = λ m is. absurd (err_ok e (ending.Converged m) is);
-  }
-  demo_answered (Ok end) lawful agreeing told = record {
-    agreeing = agreeing;
-    no_collapse = λ m is. subst Told (same_ok end (ending.Collapsed m) is) told;
-    unstopped = goes_on end told;
-    same = λ m is.
-        let found = (subst Told (same_ok end (ending.Converged m) is) told).0.found in
-        let P : List Candidate → Type 0 = HasSameSolutions l (target_of number l) in
-        subst P (sym (ap learned_in found.idle)) (found.converged.only (target_of number l) lawful agreeing);
-  }
-
--- ---- the whole
+-- how it ends by its run
+abbrev QuietEnd : Language → Ran → Ending → Type 0
+QuietEnd l run end = ((run.closing ≡ Converged) × (end ≡ ending.Converged (length (standing_on l run.events)))) ⊎ ((run.closing ≡ Undecided) × (end ≡ ending.Undecided (length (standing_on l run.events))))
 
 module _ (number budget : ℕ) (l : Language) (generated : IsGenerated l) (lawful : IsLanguage l) (network : IsNetwork l (target_of number l)) (written : Option (List ℕ)) where
   abbrev terms : Terms
   terms = terms_with Quacq budget
 
-  -- it broke off before its loop
-  pub demo_stopped : (written' : Option (List ℕ)) (e : Put) → TellsFront number l terms written written' → Demos number budget written written' (failed e)
-  demo_stopped written' e front = inr (record {
-    lang = l;
-    generated = generated;
-    events = [];
-    ends = tt;
-    part = front;
-    answered = demo_answered number l terms [] written written' (failed e) network refl tt;
-  })
+  abbrev target : List Candidate
+  target = target_of number l
 
-  pub demo_done : (events : List Event) (middle written' : Option (List ℕ)) (learned : ℕ) (how : Drove) (got : Result Ending Put) → Adds written middle (demo_text number l) → learned ≡ length (learned_after l terms (standing_on l events)) →
-      HasDriven (target_of number l) l terms events how → SumsUp learned middle written' got how → IsTrue (agrees l (target_of number l) (standing_on l events)) → Demos number budget written written' got
-  demo_done events middle written' learned how got first learned_is driven sums agreeing =
-      let told = tells_by number l terms lawful events written middle written' first learned learned_is how got driven sums in
-      inr (record {
-        lang = l;
-        generated = generated;
-        events = events;
-        ends = told;
-        part = part_by number l terms lawful events written middle written' first learned learned_is how got driven sums;
-        answered = demo_answered number l terms events written written' got network agreeing told;
-      })
+  -- of its run, what was found is true
+  run_answered : (run : Ran) (end : Ending) → QuietEnd l run end → HasFound l terms (standing_on l run.events) run.closing → IsTrue (agrees l target (standing_on l run.events)) → IsAnsweredBy target l terms (standing_on l run.events) (okay end)
+  run_answered run end ends found agreeing = record {
+    agreeing = agreeing;
+    no_collapse = λ m is. apart (ending.Collapsed m) refl (same_ok end (ending.Collapsed m) is);
+    unstopped = (λ m is. apart (ending.Suspended m) refl is, λ is. apart ending.LineTooLong refl is, λ is. apart ending.Unreadable refl is, λ is. apart ending.ReadFault refl is);
+    same = λ m is.
+        let t = standing_on l run.events in
+        let Found : Closing → Type 0 = HasFound l terms t in
+        ⊎_elim (λ converged. has_same l terms t target network agreeing (subst Found converged.0 found))
+        (λ undecided. absurd (let bad : ending.Undecided (length t) ≡ ending.Converged m = sym undecided.1 ∙ same_ok end (ending.Converged m) is in let no : ⊥ = cc in no)) ends;
+  }
+    where
+      quiet : is_quiet end ≡ true
+      quiet = ⊎_elim (λ converged. ap is_quiet converged.1) (λ undecided. ap is_quiet undecided.1) ends
+
+      apart : (other : Ending) → is_quiet other ≡ false → end ≡ other → ⊥
+      apart other not is = let bad : true ≡ false = sym quiet ∙ (ap is_quiet is ∙ not) in cc
+
+  part_of : (written' : Option (List ℕ)) (e : Put) (run : Ran) → Runs (net_turn target true) l terms [] [] run → AddsFront written written' (whole_demo number l terms (standing_on l run.events) run.closing) → Demos number budget written written' (failed e)
+  part_of written' e run runs front = inr (record { lang = l; generated = generated; run = run; runs = runs; ends = tt; found = tt; whole = tt; part = front; answered = tt })
+
+  -- it broke off before its run was told: there is a run, of whose text a front of the first line is one
+  pub demo_stopped : (written' : Option (List ℕ)) (e : Put) → AddsFront written written' (demo_text number l) → Demos number budget written written' (failed e)
+  demo_stopped written' e adds =
+      let has = run_exists run_laws (net_turn target true) l terms lawful [] [] (begun l terms.plan) in
+      let t = standing_on l has.run.events in
+      part_of written' e has.run has.runs (front_longer written written' (demo_text number l) (summary_text has.run.closing (length t) (length (learned_after l terms t))) adds)
+
+  module _ (events : List Event) (middle written' : Option (List ℕ)) (learned : ℕ) (first : Adds written middle (demo_text number l)) (learned_is : learned ≡ length (learned_after l terms (standing_on l events))) (agreeing : IsTrue (agrees l target (standing_on l events))) where
+    module _ (closing : Closing) (m : ℕ) (end : Ending) (ran : ClosesQuietly target l terms events closing m) (quiet : QuietEnd l ran.run end) where
+      abbrev run : Ran
+      run = ran.run
+
+      abbrev whole : List ℕ
+      whole = whole_demo number l terms (standing_on l run.events) run.closing
+
+      same : demo_text number l ++ summary_text closing m learned ≡ whole
+      same =
+          let stand : standing_on l events ≡ standing_on l run.events = ap (standing_on l) (sym ran.events) in
+          let count : m ≡ length (standing_on l run.events) = ran.count ∙ ap length stand in
+          let known : learned ≡ length (learned_after l terms (standing_on l run.events)) = learned_is ∙ ap (λ (t : List Answer). length (learned_after l terms t)) stand in
+          λ i. demo_text number l ++ summary_text (sym ran.closing i) (count i) (known i)
+
+      found : HasFound l terms (standing_on l run.events) run.closing
+      found = let Found : List Event → Closing → Type 0 = λ es c. HasFound l terms (standing_on l es) c in let Of : Closing → Type 0 = Found run.events in let At : List Event → Type 0 = λ es. Found es closing in subst Of (sym ran.closing) (subst At (sym ran.events) ran.found)
+
+      agrees_so : IsTrue (agrees l target (standing_on l run.events))
+      agrees_so = let Agrees : List Event → Type 0 = λ es. IsTrue (agrees l target (standing_on l es)) in subst Agrees (sym ran.events) agreeing
+
+      broke : (e : Put) → AddsFront middle written' (summary_text closing m learned) → Demos number budget written written' (failed e)
+      broke e adds =
+          let P : List ℕ → Type 0 = AddsFront written written' in
+          part_of written' e run ran.runs (subst P same (front_then written middle written' (demo_text number l) (summary_text closing m learned) first adds))
+
+      demo_ends : (got : Result Ending Put) → EndsWith end (summary_text closing m learned) middle written' got → Demos number budget written written' got
+      demo_ends (Err put.Failed) adds = broke put.Failed adds
+      demo_ends (Err put.Memory) still = broke put.Memory (front_none middle written' (summary_text closing m learned) still)
+      demo_ends (Ok x) (is, adds) =
+          let P : List ℕ → Type 0 = Adds written written' in
+          let Quiet : Ending → Type 0 = QuietEnd l run in
+          let so = subst Quiet (sym is) quiet in
+          inr (record {
+            lang = l;
+            generated = generated;
+            run = run;
+            runs = ran.runs;
+            ends = so;
+            found = found;
+            whole = subst P same (adds_then written middle written' (demo_text number l) (summary_text closing m learned) first adds);
+            part = tt;
+            answered = run_answered run x so found agrees_so;
+          })
+
+    -- by how the loop ended, and what was said of it
+    pub demo_done : (how : Drove) (said : Result Saying Unsaid) (got : Result Ending Put) → HasDriven target l terms events how → SaysSum learned how said → HasWritten said middle written' got → Demos number budget written written' got
+    demo_done (drove.Converged m) said got ran says has =
+        let count : ending.Converged m ≡ ending.Converged (length (standing_on l ran.run.events)) = ap (λ (k : ℕ). ending.Converged k) (ran.count ∙ ap (λ (es : List Event). length (standing_on l es)) (sym ran.events)) in
+        demo_ends Converged m (ending.Converged m) ran (inl (ran.closing, count)) got (ends_as (saying (summary_text Converged m learned) (ending.Converged m)) said middle written' got says has)
+    demo_done (drove.Undecided m) said got ran says has =
+        let count : ending.Undecided m ≡ ending.Undecided (length (standing_on l ran.run.events)) = ap (λ (k : ℕ). ending.Undecided k) (ran.count ∙ ap (λ (es : List Event). length (standing_on l es)) (sym ran.events)) in
+        demo_ends Undecided m (ending.Undecided m) ran (inr (ran.closing, count)) got (ends_as (saying (summary_text Undecided m learned) (ending.Undecided m)) said middle written' got says has)
+    demo_done drove.Memory said got ran says has =
+        let Written : Result Saying Unsaid → Type 0 = λ s. HasWritten s middle written' got in
+        let still = subst Written says has in
+        let Done : Result Ending Put → Type 0 = Demos number budget written written' in
+        let Line : Option (List ℕ) → Type 0 = λ w. Adds written w (demo_text number l) in
+        subst Done (sym still.0) (demo_stopped written' put.Memory (front_whole written written' (demo_text number l) (subst Line (sym still.1) first)))
+    demo_done how said got ran says has = absurd ran

@@ -1,5 +1,5 @@
 -- Budgets that are enough.
-use Rattle.acq_cli.proofs.Prelude.{◌≡◌, ◌∙◌, ℕ, zero, suc, ◌+◌, ◌*◌, ◌≤◌, Bool, List, [], ◌∷◌, length, map, get_or, refl, ap, arith, inr, length-append, ◌<◌, ◌≢◌, IsTrue, filter, All, flat_map, length-map, All-filter, Candidate, Language, candidates, variable_count, kept, IsGenerated, name_of, Answer, is_among, IsLeftOpen, open_candidates, Terms, BudgetIsEnough, GeneratedIsShort}
+use Rattle.acq_cli.proofs.Prelude.{All, All-filter, Answer, Bool, BudgetIsEnough, Candidate, GeneratedIsShort, IsGenerated, IsLeftOpen, IsTrue, Language, List, Terms, [], ap, arith, candidates, filter, flat_map, get_or, inr, is_among, kept, length, length-append, length-map, map, name_of, open_candidates, refl, suc, variable_count, zero, ℕ, ◌*◌, ◌+◌, ◌<◌, ◌∙◌, ◌∷◌, ◌≡◌, ◌≢◌, ◌≤◌}
 use Rattle.std.proofs.lemmas.List.FromFn.{length-range_with_len}
 use Rattle.std.proofs.lemmas.List.Sums.{length-filter, count_by-le-length}
 use Rattle.assign.specs.Sets.{numbers}
@@ -8,7 +8,7 @@ use Rattle.fd_solver.proofs.Outcomes.{plain_is_less}
 
 pub budget_is_enough : BudgetIsEnough
 budget_is_enough turns l terms events bytes all =
-    inr (λ run t more runs is network end at.
+    inr (λ run t more network end runs is at.
     let Fits : Candidate → Type 0 = λ c. plain_size l network c ≤ terms.budget in
     let fits : All Fits (candidates l) = λ k d low. (let less = plain_is_less l [] network (get_or (candidates l) k d) in let enough = all k d low in omega arith) in
     All-filter _ Fits (candidates l) fits)

@@ -1,5 +1,5 @@
 -- One run, and one text.
-use Rattle.acq_cli.proofs.Prelude.{◌≡◌, ◌∙◌, ℕ, zero, suc, List, [], ◌∷◌, ◌++◌, ap, sym, subst, refl, Option, Some, None, Result, Ok, Err, inl, inr, option_map, Gathered, first_line_of, AllFault, Assignment, Event, Language, answer_event, line_turn, Turns, Turned, Reply, Said, TakenBack, Stopped, Ended, Overlong, Unread, IsVocabulary, refusal_of_vocabulary, VocFault, one_language, not_refused, Closing, Next, Puts, Ends, next_on, number_on, Ran, Runs, after_text, ended, heard_on, turned_on, put_on, ran, refusal_text, whole_text, IsRefusal, IsTextOfRun, Terms}
+use Rattle.acq_cli.proofs.Prelude.{AllFault, Assignment, Closing, Ended, Ends, Err, Event, Gathered, IsRefusal, IsTextOfRun, IsVocabulary, Language, List, Next, None, Ok, Option, Overlong, Puts, Ran, Reply, Result, Runs, Said, Some, Stopped, TakenBack, Terms, Turned, Turns, Unread, VocFault, [], after_text, answer_event, ap, ended, first_line_of, heard_on, inl, inr, line_turn, next_on, not_refused, number_on, one_language, option_map, put_on, ran, refl, refusal_of_vocabulary, refusal_text, subst, suc, sym, turned_on, whole_text, zero, ℕ, ◌++◌, ◌+◌, ◌∙◌, ◌∷◌, ◌≡◌}
 use Rattle.assign.specs.declared.events.Event.TheVariants as event
 use Rattle.acq_cli.specs.OneText.{RunIsOne, TextIsOne}
 
@@ -77,7 +77,7 @@ two_runs terms first text other one two =
     one.is ∙ ap (whole_text one.lang terms) run ∙ ap (λ (l : Language). whole_text l terms two.run) (sym lang) ∙ sym two.is
 
 pub text_once : TextIsOne
-text_once terms bytes text other (inl one) (inl two) = one.is ∙ ap refusal_text (same_fault (first_line_of 4194304 bytes).got one.fault two.fault one.refused two.refused) ∙ sym two.is
-text_once terms bytes text other (inl one) (inr two) = absurd (not_both (first_line_of 4194304 bytes).got one.fault two.line two.lang two.got two.vocabulary one.refused)
-text_once terms bytes text other (inr one) (inl two) = absurd (not_both (first_line_of 4194304 bytes).got two.fault one.line one.lang one.got one.vocabulary two.refused)
+text_once terms bytes text other (inl one) (inl two) = one.2 ∙ ap refusal_text (same_fault (first_line_of 4194304 bytes).got one.0 two.0 one.1 two.1) ∙ sym two.2
+text_once terms bytes text other (inl one) (inr two) = absurd (not_both (first_line_of 4194304 bytes).got one.0 two.line two.lang two.got two.vocabulary one.1)
+text_once terms bytes text other (inr one) (inl two) = absurd (not_both (first_line_of 4194304 bytes).got two.0 one.line one.lang one.got one.vocabulary two.1)
 text_once terms bytes text other (inr one) (inr two) = two_runs terms (first_line_of 4194304 bytes) text other one two

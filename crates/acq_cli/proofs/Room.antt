@@ -1,5 +1,5 @@
 -- Journals with a record for each answer that their session may still take.
-use Rattle.acq_cli.proofs.Prelude.{◌≡◌, ◌+◌, List, [], ◌∷◌, ◌++◌, length, inl, inr, arith, length-append, All, All-head, All-tail, Answer, standing_from, Event, answers_fit, IsAnswer, RoomIsLeft, standing_size}
+use Rattle.acq_cli.proofs.Prelude.{All, All-head, All-tail, Answer, Event, IsAnswer, List, RoomIsLeft, [], answers_fit, arith, inl, inr, length, length-append, standing_from, standing_size, ◌++◌, ◌+◌, ◌∷◌, ◌≡◌}
 use Rattle.assign.specs.declared.events.Event.TheVariants as event
 
 -- where nothing was taken back each answer stands

@@ -1,20 +1,17 @@
 -- What `play` has done, of what its target said, and exactly when it refuses.
-use Rattle.acq_cli.proofs.Prelude.{◌≡◌, ◌≤◌, ◌⊎◌, ◌∙◌, ℕ, suc, Bool, true, false, List, [], ◌∷◌, ◌++◌, length, ◌&&◌, ◌+◌, cond, Option, Some, Result, Ok, Err, refl, sym, ap, subst, inl, inr, ⊎_elim, arith, append_assoc, IfOk, All, All-nil, All-cons, All-head, All-tail, append-nil, length-map, all_of, Put, AllFault, Command, UsageFault, Assignment, Answer, standing, Event, Plan, cut_to-standing-push, Candidate, Language, IsLanguage, HasSameSolutions, accepts, variable_count, IsNetwork, agrees, standing_on, network_of, network_in, json_of, ok_or, DiskOf, NetFault, Opened, SFault, net_may_say, told_of_answer, Turns, MayAdd, IsAdded, MayEnd, AsksTruly, asked_said, EndsExactly, HasEnded, TellsFull, Tries, HoldsSession, IsBrokenOff, OpensExactly, RefusesOpening, Does, IsAnsweredBy, IsNoNetwork, IsUnstopped, HoldsAnswers, HoldsNoTarget, IsOpened, MayLack, PlayEnds, PlaysExactly, PlaysOn, RefusesTarget, SaysWithout, stale_said, target_refused, ended_as, answer, IsSaid, SaysSo, over_ends, solve_ends, back_ends, learned_in, learned_after, Drove, Ending, Terms, NoTarget, okay, err_ok, loops_by, not_loops, few_answers, due_reached, ends_said, silently, closed_end, fine, gives_got, long_one, too_many, whole_of}
+use Rattle.acq_cli.proofs.Prelude.{All, All-cons, All-head, All-nil, All-tail, AllFault, Answer, Asks, AsksTruly, Assignment, Bool, Candidate, Command, DiskOf, Does, Drove, Ending, EndsAsOpened, EndsExactly, Err, Event, ForSome, HasEnded, HasSameSolutions, HasWritten, Holds, IfOk, IsAdded, IsAnsweredBy, IsBrokenOff, IsDone, IsLanguage, IsNetwork, IsSaid, Language, List, MayAdd, MayEnd, NetFault, None, Ok, Opened, OpensAs, Option, Plan, PlaysExactly, PlaysOn, Put, ReadOnce, RefusesOpening, Result, SFault, Saying, SaysNoNetwork, SaysSo, SaysUnplayed, Some, TellsFull, Terms, Tries, Turns, Unsaid, UsageFault, [], accepts, agrees, all_of, answer, ap, append-nil, append_assoc, arith, asked_said, back_ends, cond, cut_to-standing-push, due_reached, ended, ends_said, false, few_answers, fine, gives_got, holds_none, inl, input_end, inr, is_told, json_of, learned_after, learned_in, length, long_one, loop_end, loops_by, net_may_say, network_in, network_of, not_loops, ok_or, okay, only_long, opens_once, over_ends, refl, refuses_end, same_session, solve_ends, stale_said, standing_on, subst, suc, sym, target_refused, told_of_answer, too_many, true, variable_count, whole_of, ℕ, ⊎_elim, ◌&&◌, ◌++◌, ◌+◌, ◌↔◌, ◌∙◌, ◌∷◌, ◌≡◌, ◌≢◌, ◌≤◌, ◌⊎◌}
 use Rattle.std.specs.Bool.{beq}
 use Rattle.std.proofs.lemmas.Bool.{lt-ltb}
-use Rattle.acq_io.specs.declared.streams.Put.TheVariants as put
 use Rattle.acq_io.specs.declared.whole.AllFault.TheVariants as long
 use Rattle.acq_words.specs.declared.request.Command.TheVariants as command
 use Rattle.network.specs.Answers.{then_on}
 use Rattle.network.specs.declared.fault.NetFault.TheVariants as net
-use Rattle.session_store.proofs.Openings.{ReadOnce, opens_once}
-use Rattle.acq_said.specs.declared.said.Unsaid.TheVariants as unsaid
 use Rattle.acq_cli.proofs.Confirmed.{confirm_ends}
+use Rattle.acq_said.specs.declared.ask.Ask.{Ask}
 use Rattle.acq_said.specs.declared.ask.Ask.TheVariants as ask
 use Rattle.acq_loop.specs.declared.driving.Drove.TheVariants as drove
 use Rattle.acq_loop.specs.declared.ending.Ending.TheVariants as ending
-use Rattle.acq_cli.specs.declared.playing.NoTarget.TheVariants as without
-use Rattle.acq_said.proofs.Exactly.{holds_none, same_in, closed_exactly, run_ends}
+use Rattle.acq_said.proofs.Exactly.{closed_exactly, run_ends}
 use Rattle.acq_cli.proofs.Made.{new_ends}
 
 -- ---- what its target said
@@ -61,17 +58,17 @@ own_growth l target (e ∷ more) past each = go (All-head (OwnEvent l target) e 
   where
     go : OwnEvent l target e → IsOwnGrowth l target (past ++ e ∷ []) more → IsOwnGrowth l target past (e ∷ more)
     go (inl own) rest =
-        let q : Assignment = own.answer.question in
-        let a : Answer = answer q own.answer.yes in
+        let q : Assignment = own.0.question in
+        let a : Answer = answer q own.0.yes in
         let one : standing_on l (past ++ e ∷ []) ≡ standing_on l past ++ a ∷ [] =
-        ap (λ (x : Event). standing_on l (past ++ x ∷ [])) own.is ∙ cut_to-standing-push (variable_count l) past q own.answer.yes own.fits.size in
+        ap (λ (x : Event). standing_on l (past ++ x ∷ [])) own.1 ∙ cut_to-standing-push (variable_count l) past q own.0.yes own.2.size in
         record {
           answers = a ∷ rest.answers;
-          given = All-cons (Given l target) a rest.answers own.may_be rest.given;
+          given = All-cons (Given l target) a rest.answers own.3 rest.given;
           stand = ap (standing_on l) (sym (append_assoc past (e ∷ []) more)) ∙ rest.stand ∙ ap (λ (t : List Answer). t ++ rest.answers) one ∙ append_assoc (standing_on l past) (a ∷ []) rest.answers;
           count = ap (λ n. suc n) rest.count;
         }
-    go (inr back) rest = absurd back.may_be
+    go (inr back) rest = absurd back.2
 
 -- answers that were added to none are its own
 pub agreeing_added : (l : Language) (plan : Plan) (target : List Candidate) (before after : List Event) → standing_on l before ≡ [] → IsAdded l plan (net_may_say target l) before after → agrees l target (standing_on l after) ≡ true
@@ -84,61 +81,39 @@ pub not_filled : (l : Language) (terms : Terms) (target : List Candidate) (befor
 not_filled l terms target before after how lawful none added tells is =
     let full = tells.0 is in
     let own = own_growth l target added.more before added.each in
-    let few = few_answers l terms.plan (standing_on l after) lawful (due_reached l terms (standing_on l after) _ full.puts) in
+    let few = few_answers l terms.plan (standing_on l after) lawful (due_reached l terms (standing_on l after) _ full.0.1) in
     let start : standing_on l before ≡ [] = ap (standing_on l) none in
     let stand : length (standing_on l after) ≡ length own.answers =
     ap (λ (t : List Answer). length t) (ap (standing_on l) added.is ∙ own.stand ∙ ap (λ (t : List Answer). t ++ own.answers) start) in
     let all : length after ≡ length added.more = ap (λ (es : List Event). length es) (added.is ∙ ap (λ (es : List Event). es ++ added.more) none) in
-    omega (arith, few, stand, own.count, all, full.full)
+    omega (arith, few, stand, own.count, all, full.1)
 
 -- what was found is true of it
 pub found_by : (l : Language) (terms : Terms) (t : List Answer) (how was : Drove) → how ≡ was → HasEnded l terms t how → HasEnded l terms t was
 found_by l terms t how was is ended = subst (HasEnded l terms t) is ended
 
-never_collapses : (l : Language) (terms : Terms) (t : List Answer) (target : List Candidate) (m : ℕ) → IsNetwork l target → agrees l target t ≡ true → HasEnded l terms t (drove.Collapsed m) → ⊥
-never_collapses l terms t target m lawful agreeing ended = ended.found.none target lawful agreeing
-
-pub has_same : (l : Language) (terms : Terms) (t : List Answer) (target : List Candidate) (m : ℕ) → IsNetwork l target → agrees l target t ≡ true → HasEnded l terms t (drove.Converged m) → HasSameSolutions l target (learned_after l terms t)
-has_same l terms t target m lawful agreeing ended =
+pub has_same : (l : Language) (terms : Terms) (t : List Answer) (target : List Candidate) → IsNetwork l target → agrees l target t ≡ true → IsDone l terms t → HasSameSolutions l target (learned_after l terms t)
+has_same l terms t target lawful agreeing done =
     let P : List Candidate → Type 0 = HasSameSolutions l target in
-    subst P (sym (ap learned_in ended.found.idle)) (ended.found.converged.only target lawful agreeing)
+    subst P (sym (ap learned_in done.idle)) (done.converged.only target lawful agreeing)
 
 -- what it may say stops nothing
+abbrev pub IsUnstopped : Ending → Type 0
+IsUnstopped end = ((m : ℕ) → end ≢ ending.Suspended m) × (end ≢ ending.LineTooLong) × (end ≢ ending.Unreadable) × (end ≢ ending.ReadFault)
+
 pub unstopped : (l : Language) (target : List Candidate) (got : Result Ending Put) → MayEnd (net_may_say target l) got → IfOk got IsUnstopped
-unstopped l target (Ok (ending.Suspended m)) (q, said) = ⊎_elim (λ no. no) (λ no. no) said
-unstopped l target (Ok ending.LineTooLong) (q, said) = said
-unstopped l target (Ok ending.Unreadable) (q, said) = said
-unstopped l target (Ok ending.ReadFault) (q, said) = said
-unstopped l target (Ok (ending.Converged m)) said = tt
-unstopped l target (Ok ending.Done) said = tt
-unstopped l target (Ok (ending.Usage fault)) said = tt
-unstopped l target (Ok (ending.VocRefused fault)) said = tt
-unstopped l target (Ok (ending.JournalRefused fault)) said = tt
-unstopped l target (Ok (ending.Collapsed m)) said = tt
-unstopped l target (Ok (ending.Undecided m)) said = tt
-unstopped l target (Ok ending.WriteFault) said = tt
-unstopped l target (Ok ending.DiskFault) said = tt
-unstopped l target (Ok ending.Memory) said = tt
-unstopped l target (Ok ending.JournalFull) said = tt
-unstopped l target (Ok (ending.NotFresh m)) said = tt
-unstopped l target (Ok (ending.TargetRefused fault)) said = tt
-unstopped l target (Ok ending.NothingBack) said = tt
-unstopped l target (Ok (ending.ReduceSpent i)) said = tt
-unstopped l target (Ok ending.CnfTooLarge) said = tt
-unstopped l target (Ok (ending.ModelRefused fault)) said = tt
-unstopped l target (Ok (ending.NotConverged m)) said = tt
-unstopped l target (Ok (ending.CertRefused fault)) said = tt
-unstopped l target (Ok (ending.Flawed flaw)) said = tt
-unstopped l target (Ok (ending.CertUnread fault)) said = tt
 unstopped l target (Err e) said = tt
+unstopped l target (Ok end) said =
+    let May : Ending → Type 0 = λ x. MayEnd (net_may_say target l) (okay x) in
+    (λ m is. ⊎_elim (λ no. no) (λ no. no) (subst May is said).1, λ is. (subst May is said).1, λ is. (subst May is said).1, λ is. (subst May is said).1)
 
 pub answered : (turns : Turns) (l : Language) (terms : Terms) (target : List Candidate) (before after : List Event) (left written left' written' : Option (List ℕ)) (got : Result Ending Put) → IsNetwork l target → standing_on l before ≡ [] →
     IsAdded l terms.plan (net_may_say target l) before after → MayEnd (net_may_say target l) got → IfOk got (Tries turns l terms before after left written left' written') → IsAnsweredBy target l terms (standing_on l after) got
 answered turns l terms target before after left written left' written' got lawful none added said tries = record {
   agreeing = agreeing;
-  no_collapse = λ m is. collapsed got tries m is;
+  no_collapse = λ m is. (found (ending.Collapsed m) (drove.Collapsed m) is refl).found.none target lawful agreeing;
   unstopped = unstopped l target got said;
-  same = λ m is. converged got tries m is;
+  same = λ m is. has_same l terms (standing_on l after) target lawful agreeing (found (ending.Converged m) (drove.Converged m) is refl).found;
 }
   where
     agreeing : agrees l target (standing_on l after) ≡ true
@@ -147,35 +122,32 @@ answered turns l terms target before after left written left' written' got lawfu
     Tried : Result Ending Put → Type 0
     Tried r = IfOk r (Tries turns l terms before after left written left' written')
 
-    collapsed : (r : Result Ending Put) → Tried r → (m : ℕ) → r ≡ Ok (ending.Collapsed m) → ⊥
-    collapsed (Err e) tried m is = err_ok e (ending.Collapsed m) is
-    collapsed (Ok end) tried m is =
-        never_collapses l terms (standing_on l after) target m lawful agreeing
-        (found_by l terms (standing_on l after) tried.how (drove.Collapsed m) (loops_by tried.how (drove.Collapsed m) (ending.Collapsed m) (tried.is ∙ is) refl) tried.ended.says)
-
-    converged : (r : Result Ending Put) → Tried r → (m : ℕ) → r ≡ Ok (ending.Converged m) → HasSameSolutions l target (learned_after l terms (standing_on l after))
-    converged (Err e) tried m is = absurd (err_ok e (ending.Converged m) is)
-    converged (Ok end) tried m is =
-        has_same l terms (standing_on l after) target m lawful agreeing
-        (found_by l terms (standing_on l after) tried.how (drove.Converged m) (loops_by tried.how (drove.Converged m) (ending.Converged m) (tried.is ∙ is) refl) tried.ended.says)
+    -- what it has found, where it ended so
+    found : (end : Ending) (was : Drove) → got ≡ okay end → loop_end end ≡ Some was → HasEnded l terms (standing_on l after) was
+    found end was is so =
+        let Tried : Result Ending Put → Type 0 = λ r. IfOk r (Tries turns l terms before after left written left' written') in
+        let tried = subst Tried is tries in
+        found_by l terms (standing_on l after) tried.how was (loops_by tried.how was end tried.is so) tried.ended.says
 
 -- ---- exactly when it refuses
 
--- where a command broke off
-pub broken_exactly : (asked : Result Command UsageFault) (left content : Option (List ℕ)) (end : Ending) → IsBrokenOff end → EndsExactly asked left content end
-broken_exactly (Ok (command.New plan)) left content end broken = λ bytes from file told. inl broken
-broken_exactly (Ok (command.Run budget)) left content end broken = λ file told. inl broken
-broken_exactly (Ok (command.Play budget)) left content end broken = λ bytes from file told. inl broken
-broken_exactly (Ok command.Show) left content end broken = λ file told. inl broken
-broken_exactly (Ok command.Back) left content end broken = λ file told. inl broken
-broken_exactly (Ok (command.Reduce budget)) left content end broken = λ file told. inl broken
-broken_exactly (Ok command.Cnf) left content end broken = λ file told. inl broken
-broken_exactly (Ok command.Model) left content end broken = λ bytes from file told. inl broken
-broken_exactly (Ok (command.Certify budget)) left content end broken = λ file told. inl broken
-broken_exactly (Ok command.Check) left content end broken = λ bytes from. inl broken
-broken_exactly (Ok (command.Try plan budget)) left content end broken = tt
-broken_exactly (Ok (command.Demo number budget)) left content end broken = tt
-broken_exactly (Err fault) left content end broken = tt
+-- it has broken off, or its ending is told
+pub broken_or : (end : Ending) → IsBrokenOff end ⊎ (is_told end ≡ true)
+broken_or ending.ReadFault = inl (inl refl)
+broken_or ending.WriteFault = inl (inr (inl refl))
+broken_or ending.DiskFault = inl (inr (inr (inl refl)))
+broken_or ending.Memory = inl (inr (inr (inr refl)))
+broken_or end = inr refl
+
+-- what else may be so, where its ending is told
+told_end : {P : Type 0} (end : Ending) → is_told end ≡ true → IsBrokenOff end ⊎ P → P
+told_end end told ends = ⊎_elim (λ broken. absurd (not_told broken)) (λ holds. holds) ends
+  where
+    untold : (other : Ending) → is_told other ≡ false → end ≡ other → ⊥
+    untold other not is = let bad : true ≡ false = sym told ∙ (ap is_told is ∙ not) in cc
+
+    not_told : IsBrokenOff end → ⊥
+    not_told broken = ⊎_elim (untold ending.ReadFault refl) (λ b. ⊎_elim (untold ending.WriteFault refl) (λ c. ⊎_elim (untold ending.DiskFault refl) (untold ending.Memory refl) c) b) broken
 
 -- ---- what the input is
 
@@ -184,40 +156,15 @@ long_is_none : (l : Language) (bytes : List ℕ) → (all_of 4194304 bytes).got 
 unfolding network_of
 long_is_none l bytes is = ap (λ b. cond b (Err net.TooLong) (then_on (ok_or (json_of bytes) net.NotJson) (network_in l))) (lt-ltb 4194304 (length bytes) (too_many 4194304 bytes long.TooLong is))
 
--- a refused target is none of the bytes of the whole input
-pub none_of : (l : Language) (left left' : Option (List ℕ)) (bytes : List ℕ) (fault : NetFault) → RefusesTarget l left left' fault → left ≡ Some bytes → network_of l bytes ≡ Err fault
-none_of l left left' bytes fault refuses from = go refuses.got (gives_got (all_of 4194304) left left' refuses.got bytes refuses.gives from) refuses.refused
+-- what is said of the whole input: that it is no network, for this reason
+pub none_of : (l : Language) (bytes : List ℕ) (said : Result Saying Unsaid) → SaysNoNetwork l (all_of 4194304 bytes).got said → (fault : NetFault) × (network_of l bytes ≡ Err fault) × IsSaid (target_refused fault) said
+none_of l bytes said says = go (all_of 4194304 bytes).got refl says
   where
-    go : (got : Result (List ℕ) AllFault) → (all_of 4194304 bytes).got ≡ got → IsNoNetwork l fault got → network_of l bytes ≡ Err fault
-    go (Ok read) is refused = ap (network_of l) (whole_of 4194304 bytes read is) ∙ refused
-    go (Err e) is (much, same) =
-        let As : AllFault → Type 0 = λ x. (all_of 4194304 bytes).got ≡ Err x in
-        let Told : NetFault → Type 0 = λ x. network_of l bytes ≡ Err x in
-        subst Told (sym same) (long_is_none l bytes (subst As much is))
+    go : (got : Result (List ℕ) AllFault) → (all_of 4194304 bytes).got ≡ got → SaysNoNetwork l got said → (fault : NetFault) × (network_of l bytes ≡ Err fault) × IsSaid (target_refused fault) said
+    go (Ok read) is (fault, refused, so) = (fault, ap (network_of l) (whole_of 4194304 bytes read is) ∙ refused, so)
+    go (Err e) is so = (net.TooLong, long_is_none l bytes (is ∙ ap (λ (x : AllFault). let r : Result (List ℕ) AllFault = Err x in r) (only_long 4194304 bytes e is)), so)
 
--- ---- what the file holds
-
--- so many answers stand, whichever language it is
-count_is : (l : Language) (events : List Event) → length (standing_on l events) ≡ length (standing events)
-count_is l events = length-map (standing events) _
-
-same_count : (file : List ℕ) (a b : HoldsSession file) → length (standing_on a.lang a.events) ≡ length (standing_on b.lang b.events)
-same_count file a b =
-    count_is a.lang a.events
-    ∙ ap (λ (es : List Event). length (standing es)) (ap (λ (o : Opened). o.events) (same_in file a b))
-    ∙ sym (count_is b.lang b.events)
-
-no_count : (t : List Answer) → t ≡ [] → length t ≡ 0
-no_count t none = ap length none
-
-not_some : (n : ℕ) → n ≡ 0 → 1 ≤ n → ⊥
-not_some n none some = omega (arith, none, some)
-
--- a session without answers holds none
-fresh_holds : (file : List ℕ) (held : HoldsSession file) → standing_on held.lang held.events ≡ [] → (m : ℕ) → HoldsAnswers file m → 1 ≤ m → ⊥
-fresh_holds file held fresh m holds some = not_some m (holds.number ∙ same_count file holds.session held ∙ no_count _ fresh) some
-
--- ---- by what was done
+-- ---- what was done over a file
 
 stale_is : (end : Ending) (m n : ℕ) → end ≡ ending.NotFresh m → end ≡ ending.NotFresh n → m ≡ n
 stale_is end m n a b = let same : ending.NotFresh m ≡ ending.NotFresh n = sym a ∙ b in cc
@@ -234,107 +181,92 @@ journal_target end f g a b = let bad : ending.JournalRefused f ≡ ending.Target
 stale_target : (end : Ending) (m : ℕ) (g : NetFault) → end ≡ ending.NotFresh m → end ≡ ending.TargetRefused g → ⊥
 stale_target end m g a b = let bad : ending.NotFresh m ≡ ending.TargetRefused g = sym a ∙ b in cc
 
-abbrev refusing : NetFault → Result (List Candidate) NetFault
-refusing f = Err f
+abbrev pub networked : List Candidate → Result (List Candidate) NetFault
+networked target = Ok target
 
-same_refusing : (f g : NetFault) → refusing f ≡ refusing g → f ≡ g
-same_refusing f g e = cc
+pub no_network : (target : List Candidate) (f : NetFault) → networked target ≡ Err f → ⊥
+no_network target f e = cc
 
-okay_refusing : (target : List Candidate) (f : NetFault) → (let r : Result (List Candidate) NetFault = Ok target in r) ≡ refusing f → ⊥
-okay_refusing target f e = cc
-
-stale_ends : (m : ℕ) (written written' : Option (List ℕ)) (end : Ending) → SaysSo (IsSaid (stale_said m)) written written' (okay end) → end ≡ ending.NotFresh m
-stale_ends m written written' end (said, is, has) = ends_said (stale_said m) said written written' end is has
+same_refusal : (stated : Result (List Candidate) NetFault) (f g : NetFault) → stated ≡ Err f → stated ≡ Err g → f ≡ g
+same_refusal stated f g a b = let same : (let r : Result (List Candidate) NetFault = Err f in r) ≡ Err g = sym a ∙ b in cc
 
 -- the file isn't opened
 play_closed : ReadOnce → (bytes file : List ℕ) (end : Ending) (f : SFault) → RefusesOpening file f → end ≡ ending.JournalRefused f → PlaysExactly bytes file end
 play_closed once bytes file end f why is = record {
   opens = closed_exactly once file end f why is;
-  stale = λ m. (λ e. absurd (journal_stale end f m is e), λ holds. absurd (holds_none once file f why holds.1.session));
-  refused = λ g. (λ e. absurd (journal_target end f g is e), λ holds. absurd (holds_none once file f why holds.session));
+  stale = λ m. (λ e. absurd (journal_stale end f m is e), λ holds. absurd (holds_none once file f holds.0 why holds.1));
+  refused = λ g. (λ e. absurd (journal_target end f g is e), λ holds. absurd (holds_none once file f holds.0 why holds.1));
 }
 
--- a session is there, so the journal isn't refused
-opened_exactly : ReadOnce → (file : List ℕ) (end : Ending) → HoldsSession file → ((f : SFault) → end ≡ ending.JournalRefused f → ⊥) → OpensExactly file end
-opened_exactly once file end held other = record { refused = λ f. (λ e. absurd (other f e), λ why. absurd (holds_none once file f why held)) }
-
-play_stale : ReadOnce → (bytes file : List ℕ) (end : Ending) (held : HoldsSession file) (n : ℕ) → n ≡ length (standing_on held.lang held.events) → 1 ≤ n → end ≡ ending.NotFresh n → PlaysExactly bytes file end
-play_stale once bytes file end held n number some is = record {
-  opens = opened_exactly once file end held (λ f e. journal_stale end f n e is);
+-- A session is there, so the journal isn't refused, and what holds of one session of the file holds of this one.
+play_held : ReadOnce → (bytes file : List ℕ) (end : Ending) (o : Opened) → Holds file o → ((f : SFault) → end ≡ ending.JournalRefused f → ⊥) →
+    ((m : ℕ) → (end ≡ ending.NotFresh m) ↔ ((1 ≤ m) × (m ≡ length (standing_on o.lang o.events)))) →
+    ((f : NetFault) → (end ≡ ending.TargetRefused f) ↔ ((standing_on o.lang o.events ≡ []) × (network_of o.lang bytes ≡ Err f))) → PlaysExactly bytes file end
+play_held once bytes file end o held other stale refused = record {
+  opens = λ f. (λ e. absurd (other f e), λ why. absurd (holds_none once file f o why held));
   stale = λ m. (
-    λ e.
-        let same : n ≡ m = stale_is end n m is e in
-        let Some' : ℕ → Type 0 = λ k. 1 ≤ k in
-        (subst Some' same some, record { session = held; number = sym same ∙ number }),
-    λ holds. is ∙ ap (λ (k : ℕ). ending.NotFresh k) (number ∙ same_count file held holds.1.session ∙ sym holds.1.number),
+    λ e. let so = (stale m).0 e in (o, held, so.0, so.1),
+    λ there. let So : Opened → Type 0 = λ x. (1 ≤ m) × (m ≡ length (standing_on x.lang x.events)) in (stale m).1 (subst So (same_session file there.0 o there.1 held) (there.2, there.3)),
   );
-  refused = λ f. (λ e. absurd (stale_target end n f is e), λ holds. absurd (not_some n (number ∙ same_count file held holds.session ∙ no_count _ holds.fresh) some));
-}
-
--- what is none of one language of the file is none of the other, which is the same
-must_be : (bytes file : List ℕ) (held : HoldsSession file) (f : NetFault) → HoldsNoTarget file bytes f → network_of held.lang bytes ≡ refusing f
-must_be bytes file held f holds =
-    let s = holds.session in
-    ap (λ (o : Opened). network_of o.lang bytes) (same_in file held s) ∙ holds.refused
-
-play_lacks : ReadOnce → (bytes file : List ℕ) (end : Ending) (held : HoldsSession file) (f : NetFault) → standing_on held.lang held.events ≡ [] → network_of held.lang bytes ≡ refusing f → end ≡ ending.TargetRefused f → PlaysExactly bytes file end
-play_lacks once bytes file end held f fresh none is = record {
-  opens = opened_exactly once file end held (λ g e. journal_target end g f e is);
-  stale = λ m. (λ e. absurd (stale_target end m f e is), λ holds. absurd (fresh_holds file held fresh m holds.1 holds.0));
-  refused = λ g. (
-    λ e. let Told : NetFault → Type 0 = λ x. network_of held.lang bytes ≡ refusing x in record { session = held; fresh = fresh; refused = subst Told (target_is end f g is e) none },
-    λ holds. is ∙ ap (λ (x : NetFault). ending.TargetRefused x) (same_refusing f g (sym none ∙ must_be bytes file held g holds)),
+  refused = λ f. (
+    λ e. let so = (refused f).0 e in (o, held, so.0, so.1),
+    λ there. let So : Opened → Type 0 = λ x. (standing_on x.lang x.events ≡ []) × (network_of x.lang bytes ≡ Err f) in (refused f).1 (subst So (same_session file there.0 o there.1 held) (there.2, there.3)),
   );
 }
 
-play_on : ReadOnce → (bytes file : List ℕ) (end : Ending) (held : HoldsSession file) (target : List Candidate) → standing_on held.lang held.events ≡ [] → network_of held.lang bytes ≡ Ok target →
-    ((f : SFault) → end ≡ ending.JournalRefused f → ⊥) → ((m : ℕ) → end ≡ ending.NotFresh m → ⊥) → ((f : NetFault) → end ≡ ending.TargetRefused f → ⊥) → PlaysExactly bytes file end
-play_on once bytes file end held target fresh reads no_journal no_stale no_target = record {
-  opens = opened_exactly once file end held no_journal;
-  stale = λ m. (λ e. absurd (no_stale m e), λ holds. absurd (fresh_holds file held fresh m holds.1 holds.0));
-  refused = λ g. (λ e. absurd (no_target g e), λ holds. absurd (okay_refusing target g (sym reads ∙ must_be bytes file held g holds)));
-}
+no_count : (t : List Answer) (m : ℕ) → t ≡ [] → m ≡ length t → 1 ≤ m → ⊥
+no_count t m none is some = let few : length t ≡ 0 = ap length none in omega (arith, few, is, some)
 
-module _ {D : Type 0} (disk : DiskOf D) where
-  abbrev held_by : (old new : D) (file : List ℕ) → IsOpened disk old new → disk.content old ≡ Some file → HoldsSession file
-  held_by old new file opened told = record { plan = opened.plan; voc = opened.voc; events = opened.events; says = opened.says file told; lang = opened.lang; read = opened.read; places = opened.places }
+module _ {D : Type 0} (disk : DiskOf D) (once : ReadOnce) (left written left' written' : Option (List ℕ)) (old new : D) (end : Ending) where
+  -- where it didn't come to a run
+  unplayed_ends : (bytes file : List ℕ) → left ≡ Some bytes → (said : Result Saying Unsaid) → HasWritten said written written' (okay end) → (opening : Result Opened SFault) → OpensAs file opening → SaysUnplayed left left' opening said →
+      IsBrokenOff end ⊎ PlaysExactly bytes file end
+  unplayed_ends bytes file from said has (Err f) opens (refuses, unread) =
+      ⊎_elim (λ broken. inl broken) (λ is. inr (play_closed once bytes file end f (is.0, opens) is.1)) (refuses_end f said written written' end refuses has)
+  unplayed_ends bytes file from said has (Ok o) opens (inl (some, is, unread)) =
+      let t = standing_on o.lang o.events in
+      let so : end ≡ ending.NotFresh (length t) = ends_said (stale_said (length t)) said written written' end is has in
+      inr (play_held once bytes file end o opens (λ f e. journal_stale end f (length t) e so)
+      (λ m. (λ e. let same = stale_is end (length t) m so e in let Some' : ℕ → Type 0 = λ k. 1 ≤ k in (subst Some' same some, sym same), λ holds. so ∙ ap (λ (k : ℕ). ending.NotFresh k) (sym holds.1)))
+      (λ f. (λ e. absurd (stale_target end (length t) f so e), λ holds. absurd (no_count t (length t) holds.0 refl some))))
+  unplayed_ends bytes file from said has (Ok o) opens (inr (fresh, says)) =
+      ⊎_elim (λ broken. inl broken)
+      (λ untaken.
+      let none = none_of o.lang bytes said untaken in
+      let so : end ≡ ending.TargetRefused none.0 = ends_said (target_refused none.0) said written written' end none.2 has in
+      inr (play_held once bytes file end o opens (λ f e. journal_target end f none.0 e so)
+      (λ m. (λ e. absurd (stale_target end m none.0 e so), λ holds. absurd (no_count (standing_on o.lang o.events) m fresh holds.1 holds.0)))
+      (λ f. (
+        λ e. let Told : NetFault → Type 0 = λ x. network_of o.lang bytes ≡ Err x in (fresh, subst Told (target_is end none.0 f so e) none.1),
+        λ holds. so ∙ ap (λ (x : NetFault). ending.TargetRefused x) (same_refusal (network_of o.lang bytes) none.0 f none.1 holds.1),
+      ))))
+      (input_end 4194304 (SaysNoNetwork o.lang) left left' written written' said end bytes from says has)
 
-  lacks_so : ReadOnce → (left written left' written' : Option (List ℕ)) (bytes file : List ℕ) (end : Ending) (held : HoldsSession file) → standing_on held.lang held.events ≡ [] → left ≡ Some bytes →
-      (why : NoTarget) → MayLack held.lang left left' why → SaysSo (SaysWithout why) written written' (okay end) → IsBrokenOff end ⊎ PlaysExactly bytes file end
-  lacks_so once left written left' written' bytes file end held fresh from (without.Refused f) lacks (said, is, has) = inr (play_lacks once bytes file end held f fresh (none_of held.lang left left' bytes f lacks from) (ends_said (target_refused f) said written written' end is has))
-  lacks_so once left written left' written' bytes file end held fresh from without.ReadFault lacks (said, is, has) = inl (silently unsaid.ReadFault said written written' end is has)
-  lacks_so once left written left' written' bytes file end held fresh from without.Memory lacks (said, is, has) = inl (silently unsaid.Memory said written written' end is has)
-
-  pub play_ends : ReadOnce → (budget : ℕ) (left written left' written' : Option (List ℕ)) (old new : D) (got : Result Ending Put) → PlaysOn disk budget left written left' written' old new got → PlayEnds left (disk.content old) (ended_as got)
-  play_ends once budget left written left' written' old new (Err put.Failed) plays = λ bytes from file told. inl (inr (inl refl))
-  play_ends once budget left written left' written' old new (Err put.Memory) plays = λ bytes from file told. inl (inr (inr (inr refl)))
-  play_ends once budget left written left' written' old new (Ok end) (inl closed) = λ bytes from file told.
-      ⊎_elim (λ broken. inl broken) (λ is. inr (play_closed once bytes file end closed.fault (is.0, closed.why file told) is.1)) (closed_end written written' end closed.fault closed.refuses)
-  play_ends once budget left written left' written' old new (Ok end) (inr (inl stale)) = λ bytes from file told.
-      inr (play_stale once bytes file end (held_by old new file stale.opened told) stale.number stale.is stale.some (stale_ends stale.number written written' end stale.tells))
-  play_ends once budget left written left' written' old new (Ok end) (inr (inr (inl lacks))) = λ bytes from file told.
-      lacks_so once left written left' written' bytes file end (held_by old new file lacks.opened told) lacks.fresh from lacks.why lacks.lacks lacks.ends
-  play_ends once budget left written left' written' old new (Ok end) (inr (inr (inr played))) = λ bytes from file told.
+  play_ends : (budget : ℕ) → PlaysOn disk budget left written left' written' old new (okay end) → (bytes file : List ℕ) → left ≡ Some bytes → disk.content old ≡ Some file → IsBrokenOff end ⊎ PlaysExactly bytes file end
+  play_ends budget (inl (said, over, has)) bytes file from told = unplayed_ends bytes file from said has over.opening (over.opens file told) over.says
+  play_ends budget (inr played) bytes file from told =
       let on = played.on in
-      let held : HoldsSession file = record { plan = on.plan; voc = on.voc; events = on.events; says = on.says file told; lang = on.lang; read = on.read; places = on.places } in
-      let whole : bytes ≡ played.reads.bytes = whole_of 4194304 bytes played.reads.bytes (gives_got (all_of 4194304) left played.rest (fine played.reads.bytes) bytes played.reads.gives from) in
-      inr (play_on once bytes file end held played.target played.fresh (ap (network_of on.lang) whole ∙ played.reads.is)
-      (λ f e. not_loops on.tries.how (ending.JournalRefused f) (on.tries.is ∙ ap okay e) refl)
-      (λ m e. not_loops on.tries.how (ending.NotFresh m) (on.tries.is ∙ ap okay e) refl)
-      (λ f e. not_loops on.tries.how (ending.TargetRefused f) (on.tries.is ∙ ap okay e) refl))
+      let whole : bytes ≡ played.reads.bytes = whole_of 4194304 bytes played.reads.bytes (gives_got (all_of 4194304) left left' (fine played.reads.bytes) bytes played.reads.gives from) in
+      let reads : network_of on.of.lang bytes ≡ networked played.target = ap (network_of on.of.lang) whole ∙ played.reads.is in
+      let loops : (other : Ending) → loop_end other ≡ None → end ≡ other → ⊥ = λ other apart is. not_loops on.tries.how other (on.tries.is ∙ ap okay is) apart in
+      inr (play_held once bytes file end on.of (on.opens file told) (λ f. loops (ending.JournalRefused f) refl)
+      (λ m. (λ e. absurd (loops (ending.NotFresh m) refl e), λ holds. absurd (no_count (standing_on on.of.lang on.of.events) m played.fresh holds.1 holds.0)))
+      (λ f. (λ e. absurd (loops (ending.TargetRefused f) refl e), λ holds. absurd (no_network played.target f (sym reads ∙ holds.1)))))
 
-  pub ends_exactly : ReadOnce → (asked : Result Command UsageFault) (left written left' written' : Option (List ℕ)) (old new : D) (got : Result Ending Put) → Does disk asked left written left' written' old new got →
-      EndsExactly asked left (disk.content old) (ended_as got)
-  ends_exactly once (Ok (command.New plan)) left written left' written' old new got does = new_ends disk plan left written left' written' old new got does
-  ends_exactly once (Ok (command.Run budget)) left written left' written' old new got does = run_ends disk once budget left written left' written' old new got does
-  ends_exactly once (Ok (command.Play budget)) left written left' written' old new got does = play_ends once budget left written left' written' old new got does
-  ends_exactly once (Ok command.Show) left written left' written' old new got does = over_ends disk (opens_once once) (asked_said ask.Show) (AsksTruly ask.Show) written written' old new got does
-  ends_exactly once (Ok command.Back) left written left' written' old new got does = back_ends disk written written' old new (opens_once once) got does
-  ends_exactly once (Ok (command.Reduce budget)) left written left' written' old new got does = over_ends disk (opens_once once) (asked_said (ask.Reduce budget)) (AsksTruly (ask.Reduce budget)) written written' old new got does
-  ends_exactly once (Ok command.Cnf) left written left' written' old new got does = over_ends disk (opens_once once) (asked_said ask.Cnf) (AsksTruly ask.Cnf) written written' old new got does
-  ends_exactly once (Ok command.Model) left written left' written' old new got does = solve_ends disk (opens_once once) left written left' written' old new got does
-  ends_exactly once (Ok (command.Certify budget)) left written left' written' old new got does = over_ends disk (opens_once once) (asked_said (ask.Certify budget)) (AsksTruly (ask.Certify budget)) written written' old new got does
-  ends_exactly once (Ok command.Check) left written left' written' old new got does = confirm_ends left written left' written' got does
-  ends_exactly once (Ok (command.Try plan budget)) left written left' written' old new got does = tt
-  ends_exactly once (Ok (command.Demo number budget)) left written left' written' old new got does = tt
-  ends_exactly once (Err fault) left written left' written' old new got does = tt
+  asked_ends : (a : Ask) → SaysSo (Asks disk a old new) written written' (okay end) → ForSome (disk.content old) (λ file. IsBrokenOff end ⊎ EndsAsOpened (asked_said a) file end)
+  asked_ends a does = over_ends disk (opens_once once) (asked_said a) (AsksTruly a) written written' old new (okay end) does
+
+  pub ends_exactly : is_told end ≡ true → (asked : Result Command UsageFault) → Does disk asked left written left' written' old new (okay end) → IfOk asked (λ c. EndsExactly c left (disk.content old) end)
+  ends_exactly is (Ok (command.New plan)) does = λ bytes from file told. told_end end is (new_ends disk plan left written left' written' old new (okay end) does bytes from file told)
+  ends_exactly is (Ok (command.Run budget)) does = λ file told. told_end end is (run_ends disk once budget left written left' written' old new (okay end) does file told)
+  ends_exactly is (Ok (command.Play budget)) does = λ bytes from file told. told_end end is (play_ends budget does bytes file from told)
+  ends_exactly is (Ok command.Show) does = λ file told. told_end end is (asked_ends ask.Show does file told)
+  ends_exactly is (Ok command.Back) does = λ file told. told_end end is (back_ends disk written written' old new (opens_once once) (okay end) does file told)
+  ends_exactly is (Ok (command.Reduce budget)) does = λ file told. told_end end is (asked_ends (ask.Reduce budget) does file told)
+  ends_exactly is (Ok command.Cnf) does = λ file told. told_end end is (asked_ends ask.Cnf does file told)
+  ends_exactly is (Ok command.Model) does = λ bytes from file told. told_end end is (solve_ends disk (opens_once once) left written left' written' old new (okay end) does bytes from file told)
+  ends_exactly is (Ok (command.Certify budget)) does = λ file told. told_end end is (asked_ends (ask.Certify budget) does file told)
+  ends_exactly is (Ok command.Check) does = λ bytes from. told_end end is (confirm_ends left written left' written' (okay end) does bytes from)
+  ends_exactly is (Ok (command.Try plan budget)) does = tt
+  ends_exactly is (Ok (command.Demo number budget)) does = tt
+  ends_exactly is (Err fault) does = tt

@@ -1,28 +1,7 @@
 -- What `demo` has done.
-use Rattle.std.specs.Prelude.{◌≡◌, ◌⊎◌, ℕ, List, [], ◌∷◌, ◌++◌, true, length, Option, Result, Err, IfOk, OnErr, codes}
-use Rattle.std.specs.Fmt.{decimal}
-use Rattle.acq_io.specs.Streams.{Adds, AddsFront}
-use Rattle.acq_io.specs.declared.streams.Put.{Put}
-use Rattle.assign.specs.Events.{Answer}
-use Rattle.assign.specs.declared.events.Event.{Event}
-use Rattle.assign.specs.declared.events.Plan.TheVariants.{Quacq}
-use Rattle.language.specs.declared.candidates.Candidate.{Candidate}
-use Rattle.language.specs.Language.{Language, variable_count, candidates}
-use Rattle.language.specs.Answers.{standing_on}
-use Rattle.target_oracle.specs.Generator.{IsGenerated, target_of}
-use Rattle.target_oracle.specs.NetTurns.{net_turn}
-use Rattle.acq_loop.specs.Driven.{HasFound}
-use Rattle.acq_said.specs.Said.{IsSaid}
-use Rattle.acq_said.specs.Saying.{Saying, saying}
-use Rattle.acq_said.specs.declared.said.Unsaid.{Unsaid}
+use Rattle.acq_cli.specs.Prelude.{Adds, AddsFront, Answer, Candidate, Closing, Converged, Drove, Ending, Err, Event, HasFound, IfOk, IsGenerated, IsSaid, Language, List, OnErr, Option, Put, Quacq, Ran, Result, Runs, Saying, Terms, Undecided, Unsaid, [], candidates, codes, decimal, ending_line, learned_after, length, net_turn, saying, standing_on, target_of, terms_with, true, variable_count, ℕ, ◌++◌, ◌+◌, ◌∷◌, ◌≡◌, ◌⊎◌}
 use Rattle.acq_said.specs.declared.said.Unsaid.TheVariants as unsaid
 use Rattle.acq_cli.specs.Playing.{IsAnsweredBy}
-use Rattle.acq_loop.specs.Points.{terms_with}
-use Rattle.acq_loop.specs.Run.{Closing, Converged, Collapsed, Undecided, Suspended, LineTooLong, Unreadable, JournalFull, Ran, Runs}
-use Rattle.acq_loop.specs.Texts.{collapsed_text, full_text, learned_after, refused_text, suspended_text, too_long_text}
-use Rattle.acq_loop.specs.declared.terms.Terms.{Terms}
-use Rattle.acq_loop.specs.declared.driving.Drove.{Drove}
-use Rattle.acq_loop.specs.declared.ending.Ending.{Ending}
 use Rattle.acq_io.specs.declared.streams.Put.TheVariants as put
 use Rattle.acq_loop.specs.declared.driving.Drove.TheVariants as drove
 use Rattle.acq_loop.specs.declared.ending.Ending.TheVariants as ending
@@ -34,19 +13,9 @@ abbrev pub demo_text : ℕ → Language → List ℕ
 demo_text number l =
     codes "demo " ++ (decimal number ++ (codes " variables " ++ (decimal (variable_count l) ++ (codes " scopes " ++ (decimal (length l.scopes) ++ (codes " candidates " ++ (decimal (length (candidates l)) ++ 10 ∷ [])))))))
 
--- the first one of the last lines of a session that ends so, after so many answers
-abbrev pub first_line : Closing → ℕ → List ℕ
-first_line Converged m = codes "converged " ++ (decimal m ++ 10 ∷ [])
-first_line Collapsed m = collapsed_text m
-first_line Undecided m = codes "undecided " ++ (decimal m ++ 10 ∷ [])
-first_line Suspended m = suspended_text m
-first_line LineTooLong m = too_long_text
-first_line Unreadable m = refused_text
-first_line JournalFull m = full_text
-
--- it, and how many candidates were learned
+-- the first one of its last lines, and how many candidates were learned
 abbrev pub summary_text : Closing → (m learned : ℕ) → List ℕ
-summary_text closing m learned = first_line closing m ++ (codes "learned " ++ (decimal learned ++ 10 ∷ []))
+summary_text closing m learned = ending_line closing m ++ (codes "learned " ++ (decimal learned ++ 10 ∷ []))
 
 -- the whole text: no question, and of the network how many candidates it has
 abbrev pub whole_demo : ℕ → Language → Terms → List Answer → Closing → List ℕ
@@ -54,14 +23,11 @@ whole_demo number l terms t closing = demo_text number l ++ summary_text closing
 
 -- ---- The run
 
--- the run in which this target gives each answer without a word, from none on
-abbrev pub QuietRun : List Candidate → Language → Terms → Ran → Type 0
-QuietRun target l terms run = Runs (net_turn target true) l terms [] [] run
-
--- It has closed so after these events, with so many answers, and what it found is true.
+-- The run in which this target gives each answer without a word, from none on, has closed so after these events, with so many answers, and
+-- what it found is true.
 pub record ClosesQuietly (target : List Candidate) (l : Language) (terms : Terms) (later : List Event) (end : Closing) (m : ℕ) : Type 0 where
   pub run : Ran
-  pub runs : QuietRun target l terms run
+  pub runs : Runs (net_turn target true) l terms [] [] run
   pub closing : run.closing ≡ end
   pub events : run.events ≡ later
   pub count : m ≡ length (standing_on l later)
@@ -90,28 +56,18 @@ SaysSum learned (drove.Undecided m) said = IsSaid (saying (summary_text Undecide
 SaysSum learned drove.Memory said = said ≡ Err unsaid.Memory
 SaysSum learned how said = ⊥
 
--- It ends as the run did: converged or undecided.
-abbrev pub Tells : ℕ → Language → Terms → List Event → (written written' : Option (List ℕ)) → Ending → Type 0
-Tells number l terms events written written' (ending.Converged m) =
-    ClosesQuietly (target_of number l) l terms events Converged m × Adds written written' (whole_demo number l terms (standing_on l events) Converged)
-Tells number l terms events written written' (ending.Undecided m) =
-    ClosesQuietly (target_of number l) l terms events Undecided m × Adds written written' (whole_demo number l terms (standing_on l events) Undecided)
-Tells number l terms events written written' end = ⊥
-
--- a front of the text of the run was written
-pub record TellsFront (number : ℕ) (l : Language) (terms : Terms) (written written' : Option (List ℕ)) : Type 0 where
-  pub run : Ran
-  pub runs : QuietRun (target_of number l) l terms run
-  pub adds : AddsFront written written' (whole_demo number l terms (standing_on l run.events) run.closing)
-
--- The number has made a language and a target, which gave each answer.
+-- The number has made a language and a target, which gives each answer of a run from none on, without a word. The command ends as the run
+-- does, converged or undecided, and has written the whole text; or it broke off and wrote a front of it.
 pub record IsDemo (number budget : ℕ) (written written' : Option (List ℕ)) (got : Result Ending Put) : Type 0 where
   pub lang : Language
   pub generated : IsGenerated lang
-  pub events : List Event
-  pub ends : IfOk got (Tells number lang (terms_with Quacq budget) events written written')
-  pub part : OnErr got (TellsFront number lang (terms_with Quacq budget) written written')
-  pub answered : IsAnsweredBy (target_of number lang) lang (terms_with Quacq budget) (standing_on lang events) got
+  pub run : Ran
+  pub runs : Runs (net_turn (target_of number lang) true) lang (terms_with Quacq budget) [] [] run
+  pub ends : IfOk got (λ end. ((run.closing ≡ Converged) × (end ≡ ending.Converged (length (standing_on lang run.events)))) ⊎ ((run.closing ≡ Undecided) × (end ≡ ending.Undecided (length (standing_on lang run.events)))))
+  pub found : IfOk got (λ _. HasFound lang (terms_with Quacq budget) (standing_on lang run.events) run.closing)
+  pub whole : IfOk got (λ _. Adds written written' (whole_demo number lang (terms_with Quacq budget) (standing_on lang run.events) run.closing))
+  pub part : OnErr got (AddsFront written written' (whole_demo number lang (terms_with Quacq budget) (standing_on lang run.events) run.closing))
+  pub answered : IfOk got (λ _. IsAnsweredBy (target_of number lang) lang (terms_with Quacq budget) (standing_on lang run.events) got)
 
 -- or there was no memory for them
 abbrev pub Demos : (number budget : ℕ) → (written written' : Option (List ℕ)) → Result Ending Put → Type 0

@@ -1,36 +1,17 @@
 -- What the program has done, by what the words ask for.
-use Rattle.std.specs.Prelude.{ℕ, List, Option, Result, Ok, Err}
-use Rattle.disk_model.specs.declared.disk.Disk.{Ghosts as DiskOf}
-use Rattle.acq_io.specs.declared.streams.Put.{Put}
-use Rattle.acq_words.specs.declared.request.Command.{Command}
+use Rattle.acq_cli.specs.Prelude.{Acquires, Ask, AsksTruly, Command, DiskOf, Ending, Err, HasWritten, IsCheckOf, IsSaid, List, MatchResult, News, Ok, Option, Put, Refuses, Result, RunsOn, Saying, SaysOfInput, SaysOver, SaysSo, Solves, TakesBack, Unsaid, UsageFault, asked_said, ended_as, saying, terms_with, usage_text, ℕ, ◌≡◌}
 use Rattle.acq_words.specs.declared.request.Command.TheVariants as command
-use Rattle.acq_words.specs.declared.request.UsageFault.{UsageFault}
-use Rattle.acq_said.specs.Asks.{AsksTruly, asked_said}
-use Rattle.acq_said.specs.Confirming.{Confirms}
 use Rattle.acq_cli.specs.Demoing.{Demos}
-use Rattle.acq_said.specs.Said.{EndsWith, SaysSo}
-use Rattle.acq_said.specs.Saying.{Saying}
-use Rattle.acq_said.specs.Making.{News}
-use Rattle.acq_said.specs.Over.{SaysOpening, SaysOver}
 use Rattle.acq_cli.specs.Playing.{PlaysOn}
-use Rattle.acq_loop.specs.Points.{terms_with}
-use Rattle.acq_loop.specs.Program.{ended_as}
-use Rattle.acq_said.specs.Running.{RunsOn}
-use Rattle.acq_said.specs.Solving.{Solves}
-use Rattle.acq_said.specs.TakingBack.{TakesBack}
-use Rattle.acq_loop.specs.Texts.{usage_text}
-use Rattle.acq_said.specs.Trying.{Acquires}
-use Rattle.acq_said.specs.declared.ask.Ask.{Ask}
 use Rattle.acq_said.specs.declared.ask.Ask.TheVariants as ask
-use Rattle.acq_loop.specs.declared.ending.Ending.{Ending}
 use Rattle.acq_loop.specs.declared.ending.Ending.TheVariants as ending
-use Rattle.acq_said.specs.declared.said.Unsaid.{Unsaid}
+use Rattle.acq_said.specs.declared.said.Unsaid.TheVariants as unsaid
 
 -- the meanings of a disk
 module _ {D : Type 0} (disk : DiskOf D) where
   -- a command that only says something of a session
   abbrev pub Asks : Ask → (old new : D) → Result Saying Unsaid → Type 0
-  Asks a old new said = SaysOver disk (SaysOpening (asked_said a)) (AsksTruly a) old new said
+  Asks a old new said = SaysOver disk (λ opening told. MatchResult opening (λ o. IsSaid (asked_said a o) told) (λ fault. Refuses fault told)) (AsksTruly a) old new said
 
   -- What a command has done that asks nothing, and what it says. The others don't say so.
   abbrev pub Spoke : Command → (left left' : Option (List ℕ)) → (old new : D) → Result Saying Unsaid → Type 0
@@ -41,25 +22,14 @@ module _ {D : Type 0} (disk : DiskOf D) where
   Spoke command.Cnf left left' old new said = Asks ask.Cnf old new said
   Spoke command.Model left left' old new said = SaysOver disk (Solves left left') (λ o. Unit {0}) old new said
   Spoke (command.Certify budget) left left' old new said = Asks (ask.Certify budget) old new said
-  Spoke command.Check left left' old new said = Confirms left left' said
+  Spoke command.Check left left' old new said = SaysOfInput 67108864 (λ read told. MatchResult told (IsCheckOf read) (λ why. why ≡ unsaid.Memory)) left left' said
   Spoke c left left' old new said = ⊥
-
-  -- it did, and wrote what it says
-  abbrev pub Speaks : Command → (left written left' written' : Option (List ℕ)) → (old new : D) → Result Ending Put → Type 0
-  Speaks c left written left' written' old new got = SaysSo (Spoke c left left' old new) written written' got
 
   -- each other command has what it does in a file of its own; refused words are told by the usage line
   abbrev pub Does : Result Command UsageFault → (left written left' written' : Option (List ℕ)) → (old new : D) → Result Ending Put → Type 0
-  Does (Ok (command.New plan)) left written left' written' old new got = Speaks (command.New plan) left written left' written' old new got
   Does (Ok (command.Run budget)) left written left' written' old new got = RunsOn disk budget left written left' written' old new got
   Does (Ok (command.Try plan budget)) left written left' written' old new got = Acquires (terms_with plan budget) left written left' written' (ended_as got)
   Does (Ok (command.Play budget)) left written left' written' old new got = PlaysOn disk budget left written left' written' old new got
-  Does (Ok command.Show) left written left' written' old new got = Speaks command.Show left written left' written' old new got
-  Does (Ok command.Back) left written left' written' old new got = Speaks command.Back left written left' written' old new got
   Does (Ok (command.Demo number budget)) left written left' written' old new got = Demos number budget written written' got
-  Does (Ok (command.Reduce budget)) left written left' written' old new got = Speaks (command.Reduce budget) left written left' written' old new got
-  Does (Ok command.Cnf) left written left' written' old new got = Speaks command.Cnf left written left' written' old new got
-  Does (Ok command.Model) left written left' written' old new got = Speaks command.Model left written left' written' old new got
-  Does (Ok (command.Certify budget)) left written left' written' old new got = Speaks (command.Certify budget) left written left' written' old new got
-  Does (Ok command.Check) left written left' written' old new got = Speaks command.Check left written left' written' old new got
-  Does (Err fault) left written left' written' old new got = EndsWith (ending.Usage fault) usage_text written written' got
+  Does (Ok c) left written left' written' old new got = SaysSo (Spoke c left left' old new) written written' got
+  Does (Err fault) left written left' written' old new got = HasWritten (Ok (saying usage_text (ending.Usage fault))) written written' got

@@ -1,17 +1,6 @@
 -- Laws of what is enough, over the definitions alone.
-use Rattle.std.specs.Prelude.{ℕ, ◌⊎◌, ◌+◌, ◌≤◌, List, [], length, All}
-use Rattle.assign.specs.declared.events.Event.{Event}
-use Rattle.assign.specs.declared.events.Plan.{Plan}
-use Rattle.language.specs.declared.candidates.Candidate.{Candidate}
-use Rattle.language.specs.Language.{Language, IsLanguage, candidates}
-use Rattle.language.specs.Search.{plain_size}
-use Rattle.target_oracle.specs.Generator.{IsGenerated}
-use Rattle.target_oracle.specs.Turns.{Turns}
-use Rattle.session_laws.specs.Bound.{most_answers}
-use Rattle.session_store.specs.Replay.{IsAnswer}
+use Rattle.acq_cli.specs.Prelude.{All, Candidate, Event, IsAnswer, IsGenerated, IsLanguage, Language, List, Plan, Terms, Turns, [], candidates, length, most_answers, plain_size, terms_with, ℕ, ◌+◌, ◌≤◌, ◌⊎◌}
 use Rattle.acq_cli.specs.Completing.{HasRoom, IsAffordable}
-use Rattle.acq_loop.specs.Points.{terms_with}
-use Rattle.acq_loop.specs.declared.terms.Terms.{Terms}
 
 -- A budget that is enough for each candidate where nothing is learned is enough for every session.
 abbrev pub BudgetIsEnough : Type 0

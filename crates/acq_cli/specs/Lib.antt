@@ -1,5 +1,5 @@
+pub mod Prelude
 pub mod Words
-pub mod Usage
 pub mod Playing
 pub mod Demoing
 pub mod Doing

@@ -1,11 +1,5 @@
 -- Laws of runs and their texts, over the definitions alone.
-use Rattle.std.specs.Prelude.{◌≡◌, ℕ, List}
-use Rattle.assign.specs.declared.events.Event.{Event}
-use Rattle.language.specs.Language.{Language}
-use Rattle.target_oracle.specs.Turns.{Turns}
-use Rattle.acq_loop.specs.Run.{Ran, Runs}
-use Rattle.acq_said.specs.Trying.{IsWholeText}
-use Rattle.acq_loop.specs.declared.terms.Terms.{Terms}
+use Rattle.acq_cli.specs.Prelude.{Event, IsWholeText, Language, List, Ran, Runs, Terms, Turns, ℕ, ◌≡◌}
 
 -- from the same events and bytes there is one run
 abbrev pub RunIsOne : Type 0

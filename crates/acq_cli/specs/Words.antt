@@ -1,12 +1,6 @@
 -- What the words ask of the program.
-use Rattle.std.specs.Prelude.{◌≡◌, ℕ, Bool, true, false, List, Option, Result, Ok, Err}
-use Rattle.acq_io.specs.Streams.{TakesSome}
-use Rattle.acq_words.specs.Request.{Contents, answer_to}
-use Rattle.acq_words.specs.declared.request.Command.{Command}
+use Rattle.acq_cli.specs.Prelude.{Bool, Command, Contents, Err, List, Memory, Ok, Option, Result, TakesSome, Usage, UsageFault, WordsFault, answer_to, false, true, ℕ, ◌≡◌}
 use Rattle.acq_words.specs.declared.request.Command.TheVariants as command
-use Rattle.acq_words.specs.declared.request.UsageFault.{UsageFault}
-use Rattle.acq_words.specs.declared.request.WordsFault.{WordsFault}
-use Rattle.acq_words.specs.declared.request.WordsFault.TheVariants.{Usage, Memory}
 
 abbrev pub command_in : Result Contents UsageFault → Result Command UsageFault
 command_in (Ok contents) = Ok contents.command
@@ -18,39 +12,29 @@ command_asked words = command_in (answer_to words)
 
 -- whether it is one over a journal, so that it touches the disk
 abbrev pub is_over_journal : Result Command UsageFault → Bool
-is_over_journal (Ok (command.New plan)) = true
-is_over_journal (Ok (command.Run budget)) = true
-is_over_journal (Ok (command.Play budget)) = true
-is_over_journal (Ok command.Show) = true
-is_over_journal (Ok command.Back) = true
-is_over_journal (Ok (command.Reduce budget)) = true
-is_over_journal (Ok command.Cnf) = true
-is_over_journal (Ok command.Model) = true
-is_over_journal (Ok (command.Certify budget)) = true
-is_over_journal _ = false
+is_over_journal (Ok (command.Try plan budget)) = false
+is_over_journal (Ok (command.Demo number budget)) = false
+is_over_journal (Ok command.Check) = false
+is_over_journal (Ok c) = true
+is_over_journal (Err fault) = false
 
 -- whether it only says something, and asks nothing
 abbrev pub is_speaking : Command → Bool
-is_speaking (command.New plan) = true
-is_speaking command.Show = true
-is_speaking command.Back = true
-is_speaking (command.Reduce budget) = true
-is_speaking command.Cnf = true
-is_speaking command.Model = true
-is_speaking (command.Certify budget) = true
-is_speaking command.Check = true
-is_speaking c = false
+is_speaking (command.Run budget) = false
+is_speaking (command.Try plan budget) = false
+is_speaking (command.Play budget) = false
+is_speaking (command.Demo number budget) = false
+is_speaking c = true
 
 -- whether it reads the input
 abbrev pub is_reading : Result Command UsageFault → Bool
-is_reading (Ok command.Show) = false
-is_reading (Ok command.Back) = false
-is_reading (Ok (command.Demo number budget)) = false
-is_reading (Ok (command.Reduce budget)) = false
-is_reading (Ok command.Cnf) = false
-is_reading (Ok (command.Certify budget)) = false
-is_reading (Ok c) = true
-is_reading (Err fault) = false
+is_reading (Ok (command.New plan)) = true
+is_reading (Ok (command.Run budget)) = true
+is_reading (Ok (command.Try plan budget)) = true
+is_reading (Ok (command.Play budget)) = true
+is_reading (Ok command.Model) = true
+is_reading (Ok command.Check) = true
+is_reading asked = false
 
 -- this is what a call answers about the words, or memory ran out
 abbrev pub IsAsked : Result Command UsageFault → Result Command WordsFault → Type 0

@@ -6,7 +6,9 @@ ghost use Rattle.acq_words.specs.Request.{IsBudget};
 ghost use Rattle.disk_model.specs.Disk.{Rose as DiskRose};
 ghost use Rattle.language.specs.Answers.{standing_on};
 ghost use Rattle.network.specs.Learned.{Learned};
-ghost use Rattle.acq_cli.specs.Playing.{MayLack, PlaysOn, ReadsTarget, SaysWithout, stale_said, target_refused};
+ghost use Rattle.acq_said.specs.Inputs.{SaysOfInput};
+ghost use Rattle.acq_said.specs.Said.{IsSaid};
+ghost use Rattle.acq_cli.specs.Playing.{PlaysOn, ReadsTarget, SaysNoNetwork, stale_said, target_refused};
 
 use crate::commands::refuse_journal;
 use crate::top::ask_on;
@@ -24,15 +26,6 @@ use target_oracle::NetTeacher;
 
 /// The most bytes that a target has.
 const MOST_TARGET: u32 = 4_194_304;
-
-/// Why there is no target.
-#[derive(Clone, Copy, Debug, PartialEq, Eq)]
-enum NoTarget {
-    /// The input is no network of the language.
-    Refused(NetFault),
-    ReadFault,
-    Memory,
-}
 
 /// How many answers of a keeper's session stand.
 fn answers_of<D: Disk, P: Keep<D>>(keep: &P) -> u32
@@ -59,40 +52,38 @@ fn refused_target(alloc: Global, fault: NetFault) -> Result<Said, Memory>
     Ok(Said::new(text, Ending::TargetRefused(fault)))
 }
 
-/// Says why there is no target, but for a fault of the input and want of memory.
-fn untargeted(alloc: Global, why: NoTarget) -> Result<Said, Unsaid>
-    ensures says { SaysWithout why result }
-    ensures read { result ≡ Err Unsaid.ReadFault → why ≡ NoTarget.ReadFault }
+/// Says so, where there is memory.
+fn untargeted(alloc: Global, fault: NetFault) -> Result<Said, Unsaid>
+    ensures says { IsSaid (target_refused fault) result }
+    ensures no_read { result ≢ Err Unsaid.ReadFault }
     ensures no_disk { result ≢ Err Unsaid.DiskFault }
 {
-    match why {
-        NoTarget::Refused(fault) => or_silent(refused_target(alloc, fault)),
-        NoTarget::ReadFault => Err(Unsaid::ReadFault),
-        NoTarget::Memory => Err(Unsaid::Memory),
-    }
+    or_silent(refused_target(alloc, fault))
 }
 
-/// Reads a network of a language, to the end of the input.
+/// Reads a network of a language, to the end of the input. Else it says why there is none, but for a fault of the input and want of
+/// memory.
 fn read_target<S: Source>(
     alloc: Global,
     lang: &Language,
     input: &mut S,
-) -> Result<Network, NoTarget>
+) -> Result<Network, Result<Said, Unsaid>>
     ensures target { IfOk result (λ (net : Learned). ReadsTarget lang.now (S.left input.old) (S.left input.new) net.list) }
-    ensures lacks { IfErr result (MayLack lang.now (S.left input.old) (S.left input.new)) }
+    ensures lacks { IfErr result (SaysOfInput 4194304 (SaysNoNetwork lang.now) (S.left input.old) (S.left input.new)) }
+    ensures no_disk { IfErr result (λ said. said ≢ Err Unsaid.DiskFault) }
     ensures takes { TakesSome (S.left input.old) (S.left input.new) }
-    ensures called { HasCalled (S.faults input.old) (S.faults input.new) (S.late input.old) (S.late input.new) (result ≡ Err NoTarget.ReadFault) }
+    ensures called { HasCalled (S.faults input.old) (S.faults input.new) (S.late input.old) (S.late input.new) (result ≡ Err (Err Unsaid.ReadFault)) }
 {
     let bytes = match read_all(alloc, input, MOST_TARGET) {
         Ok(bytes) => bytes,
-        Err(AllFault::TooLong) => return Err(NoTarget::Refused(NetFault::TooLong)),
-        Err(AllFault::Fault) => return Err(NoTarget::ReadFault),
-        Err(AllFault::Memory) => return Err(NoTarget::Memory),
+        Err(AllFault::TooLong) => return Err(untargeted(alloc, NetFault::TooLong)),
+        Err(AllFault::Fault) => return Err(Err(Unsaid::ReadFault)),
+        Err(AllFault::Memory) => return Err(Err(Unsaid::Memory)),
     };
     match read_network(alloc, lang, &bytes) {
         Ok(target) => Ok(target),
-        Err(NetFault::Memory) => Err(NoTarget::Memory),
-        Err(fault) => Err(NoTarget::Refused(fault)),
+        Err(NetFault::Memory) => Err(Err(Unsaid::Memory)),
+        Err(fault) => Err(untargeted(alloc, fault)),
     }
 }
 
@@ -138,6 +129,6 @@ pub fn play_journal<R: Threads + Sync, S: Source, K: Sink, D: Disk, G: Gate>(
                 gate,
             )
         }
-        Err(why) => put(untargeted(alloc, why), out),
+        Err(said) => put(said, out),
     }
 }

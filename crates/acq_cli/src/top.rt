@@ -1,8 +1,9 @@
-ghost use Rattle.std.specs.Prelude.{◌≡◌, ◌≤◌, ◌≢◌, ℕ, List, [], map, IfOk, IsFalse, OnErr, Ok, Err};
+ghost use Rattle.std.specs.Prelude.{◌≡◌, ◌≤◌, ◌≢◌, ◌⊎◌, ℕ, List, [], map, IfOk, IsFalse, OnErr, Ok, Err};
 ghost use Rattle.assign.specs.declared.events.Event.{Event};
 ghost use Rattle.std.specs.String.{string_bytes};
 ghost use Rattle.acq_io.specs.Streams.{Adds, AddsFront, HasCalled, Rose, TakesSome};
 ghost use Rattle.assign.specs.Events.{Answer};
+ghost use Rattle.disk_model.specs.Disk.{Rose as DiskRose};
 ghost use Rattle.language.specs.Language.{IsLanguage};
 ghost use Rattle.language.specs.Answers.{standing_on};
 ghost use Rattle.query_gen.specs.Marks.{IsMadeFor};
@@ -16,15 +17,16 @@ ghost use Rattle.acq_loop.specs.Points.{point_of, terms_with};
 ghost use Rattle.acq_loop.specs.Loop.{HasReadAndWritten};
 ghost use Rattle.acq_said.specs.Breaks.{BreaksRun};
 ghost use Rattle.acq_said.specs.Trying.{Acquires, BreaksOff};
+ghost use Rattle.acq_said.specs.Exactly.{IsBrokenOff};
 ghost use Rattle.acq_said.specs.Endings.{HasAsked, Says, SaysPart, Tries};
 ghost use Rattle.acq_loop.specs.Program.{TellsCauses, ended_as};
 ghost use Rattle.acq_words.specs.Request.{IsBudget, IsWithin};
-ghost use Rattle.acq_said.specs.Said.{EndsWith};
+ghost use Rattle.acq_said.specs.Said.{HasWritten};
+ghost use Rattle.acq_said.specs.Saying.{saying};
 ghost use Rattle.acq_cli.specs.Commands.{EndsExactly};
 ghost use Rattle.acq_cli.specs.Doing.{Does};
 ghost use Rattle.acq_cli.specs.Headline.{FindsNetwork, FindsNone};
-ghost use Rattle.acq_cli.specs.Usage.{TellsUsage};
-ghost use Rattle.acq_cli.specs.Completing.{Completes, NoneRose};
+ghost use Rattle.acq_cli.specs.Completing.{Completes};
 ghost use Rattle.acq_cli.specs.Words.{IsAsked, Spares, command_asked};
 ghost use Rattle.acq_loop.specs.Texts.{refusal_text, usage_text};
 
@@ -223,7 +225,7 @@ fn try_input<R: Threads + Sync, S: Source, K: Sink, G: Gate>(
 
 /// Says how the program is used, where the words are refused.
 fn refuse_words<K: Sink>(alloc: Global, fault: UsageFault, out: &mut K) -> Result<Ending, Put>
-    ensures tells { EndsWith (Ending.Usage fault) usage_text (K.written out.old) (K.written out.new) result }
+    ensures tells { HasWritten (Ok (saying usage_text (Ending.Usage fault))) (K.written out.old) (K.written out.new) result }
     ensures failed { result ≡ Err Put.Failed → Rose (K.faults out.old) (K.faults out.new) }
 {
     let usage = "usage: acquire JOURNAL COMMAND [--plan P] [--budget N] [--number N]\n";
@@ -306,12 +308,14 @@ pub fn acquire<R: Threads + Sync, S: Source, K: Sink, D: Disk, G: Gate>(
     ensures does { (got : _) × (result ≡ ended_as got)
         × Does D.Disk (command_asked (map string_bytes words.now)) (S.left input.old) (K.written out.old) (S.left input.new) (K.written out.new) disk.old disk.new got }
     ensures spares { Spares (command_asked (map string_bytes words.now)) (S.left input.old) (S.left input.new) disk.old disk.new }
-    ensures refuses { TellsUsage (command_asked (map string_bytes words.now)) (K.written out.old) (K.written out.new) result }
+    ensures refuses { (fault : UsageFault)
+        → (command_asked (map string_bytes words.now) ≡ Err fault → (got : _) × (result ≡ ended_as got) × HasWritten (Ok (saying usage_text (Ending.Usage fault))) (K.written out.old) (K.written out.new) got)
+        × (result ≡ Ending.Usage fault → command_asked (map string_bytes words.now) ≡ Err fault) }
     ensures causes { TellsCauses (S.faults input.old) (S.faults input.new) (S.late input.old) (S.late input.new) (K.faults out.old) (K.faults out.new) (D.faults disk.old) (D.faults disk.new) result }
-    ensures exactly { EndsExactly (command_asked (map string_bytes words.now)) (S.left input.old) (D.content disk.old) result }
-    // what is given enough comes to its own end
-    ensures completes { NoneRose (S.faults input.old) (S.faults input.new) (K.faults out.old) (K.faults out.new) (D.faults disk.old) (D.faults disk.new)
-        → Completes (command_asked (map string_bytes words.now)) (S.left input.old) (D.content disk.old) result }
+    ensures exactly { IsBrokenOff result ⊎ IfOk (command_asked (map string_bytes words.now)) (λ command. EndsExactly command (S.left input.old) (D.content disk.old) result) }
+    // where nothing fails, what is given enough comes to its own end
+    ensures completes { (Rose (S.faults input.old) (S.faults input.new) → ⊥) → (Rose (K.faults out.old) (K.faults out.new) → ⊥) → (DiskRose (D.faults disk.old) (D.faults disk.new) → ⊥)
+        → result ≢ Ending.Memory → IfOk (command_asked (map string_bytes words.now)) (λ command. Completes command (S.left input.old) (D.content disk.old) result) }
 {
     // a law: what refuses a file is the only reason
     no_two_readings();

@@ -1,5 +1,6 @@
 -- Events that were added, and their places.
-use Rattle.acq_loop.proofs.Prelude.{◌≡◌, List, [], ◌∷◌, ◌++◌, Option, Some, None, Result, Ok, Err, sym, ◌∙◌, ap, subst, inl, inr, append_assoc, IfSome, append-nil, All-nil, All-cons, All-append, Assignment, Event, Plan, Language, IsLanguage, IsQuestion, standing_on, At, state_after, IsAskedAfter, Told, MayAdd, IsAdded, IsTaught, MayEnd, ending_of, MayFollow, EventKept, Puts, next_after, next_at, next_in, Drove, Terms}
+use Rattle.acq_loop.proofs.Prelude.{◌≡◌, List, [], ◌∷◌, ◌++◌, Option, Some, None, Result, Ok, Err, sym, ◌∙◌, ap, subst, inl, inr, append_assoc, IfSome, append-nil, All-nil, All-cons, All-append, Assignment, Event, Plan, Language, IsLanguage, IsQuestion, standing_on, At, state_after, IsAskedAfter, Told, MayAdd, IsAdded, IsTaught, MayEnd, ending_of, EventKept, Puts, next_after, next_at, next_in, Drove, Terms}
+use Rattle.acq_loop.proofs.Short.{MayFollow}
 use Rattle.session_store.specs.Replay.{HavePlaces}
 use Rattle.session_store.proofs.Fronts.{replay_is_state}
 use Rattle.session_store.proofs.Placing.{answer_has_place, back_has_place}
@@ -56,8 +57,8 @@ added_then l plan may one two three first second = record {
 }
 
 may_more : (l : Language) (may more : Assignment → Told → Type 0) (e : Event) → ((q : Assignment) (told : Told) → may q told → more q told) → MayAdd l may e → MayAdd l more e
-may_more l may more e weaker (inl given) = inl (record { answer = given.answer; is = given.is; fits = given.fits; may_be = weaker given.answer.question (told_of_answer given.answer.yes) given.may_be })
-may_more l may more e weaker (inr back) = inr (record { question = back.question; is = back.is; may_be = weaker back.question _ back.may_be })
+may_more l may more e weaker (inl (a, is, fits, said)) = inl (a, is, fits, weaker a.question (told_of_answer a.yes) said)
+may_more l may more e weaker (inr (q, is, said)) = inr (q, is, weaker q _ said)
 
 -- what may be given by one may be given by another
 pub added_more : (l : Language) (plan : Plan) (may more : Assignment → Told → Type 0) (before after : List Event) → ((q : Assignment) (told : Told) → may q told → more q told) → IsAdded l plan may before after → IsAdded l plan more before after
@@ -92,25 +93,4 @@ ends_more may more weaker (Ok (ending.Suspended m)) (q, inr said) = (q, inr (wea
 ends_more may more weaker (Ok ending.LineTooLong) (q, said) = (q, weaker q _ said)
 ends_more may more weaker (Ok ending.Unreadable) (q, said) = (q, weaker q _ said)
 ends_more may more weaker (Ok ending.ReadFault) (q, said) = (q, weaker q _ said)
-ends_more may more weaker (Ok (ending.Converged m)) said = tt
-ends_more may more weaker (Ok ending.Done) said = tt
-ends_more may more weaker (Ok (ending.Usage fault)) said = tt
-ends_more may more weaker (Ok (ending.VocRefused fault)) said = tt
-ends_more may more weaker (Ok (ending.JournalRefused fault)) said = tt
-ends_more may more weaker (Ok (ending.Collapsed m)) said = tt
-ends_more may more weaker (Ok (ending.Undecided m)) said = tt
-ends_more may more weaker (Ok ending.WriteFault) said = tt
-ends_more may more weaker (Ok ending.DiskFault) said = tt
-ends_more may more weaker (Ok ending.Memory) said = tt
-ends_more may more weaker (Ok ending.JournalFull) said = tt
-ends_more may more weaker (Ok (ending.NotFresh m)) said = tt
-ends_more may more weaker (Ok (ending.TargetRefused fault)) said = tt
-ends_more may more weaker (Ok ending.NothingBack) said = tt
-ends_more may more weaker (Ok (ending.ReduceSpent i)) said = tt
-ends_more may more weaker (Ok ending.CnfTooLarge) said = tt
-ends_more may more weaker (Ok (ending.ModelRefused fault)) said = tt
-ends_more may more weaker (Ok (ending.NotConverged m)) said = tt
-ends_more may more weaker (Ok (ending.CertRefused fault)) said = tt
-ends_more may more weaker (Ok (ending.Flawed flaw)) said = tt
-ends_more may more weaker (Ok (ending.CertUnread fault)) said = tt
-ends_more may more weaker (Err e) said = tt
+ends_more may more weaker got said = tt

@@ -1,5 +1,6 @@
 -- A turn whose question was answered.
-use Rattle.acq_loop.proofs.Prelude.{◌≡◌, ◌∙◌, true, ℕ, ◌+◌, ◌<◌, List, [], ◌∷◌, ◌++◌, length, sym, ap, Option, Some, None, subst, ⊎_elim, arith, ◌≢◌, IfSome, Assignment, Event, Language, standing_on, Turns, Reply, Told, MayEnd, closing_of, ending_of, Closing, Puts, Ends, next_after, next_on, number_on, event_heard, Terms, Remembered, IsMadeFor, Point, CutOff, HasEnded, IsPending, Loses, MayFollow, RanTo, TellsFull, TellsOpen, UnkeptTo, EndsAs, EndsUnasked, HasTurned, is_unasked, EventKept, point_of, Drove}
+use Rattle.acq_loop.proofs.Prelude.{◌≡◌, ◌∙◌, true, ℕ, ◌+◌, ◌<◌, List, [], ◌∷◌, ◌++◌, length, sym, ap, Option, Some, None, subst, ⊎_elim, arith, ◌≢◌, IfSome, Assignment, Event, Language, standing_on, Turns, Reply, Told, MayEnd, closing_of, ending_of, Closing, Puts, Ends, next_after, next_on, number_on, event_heard, Terms, Remembered, IsMadeFor, Point, HasEnded, IsPending, Loses, TellsOpen, EndsAs, EndsUnasked, HasTurned, is_unasked, EventKept, point_of, Drove}
+use Rattle.acq_loop.proofs.Short.{RanTo, CutOff, UnkeptTo, MayFollow, TellsFull}
 use Rattle.acq_loop.specs.declared.driving.Drove.TheVariants as drove
 use Rattle.acq_loop.proofs.Running.{next_ends, next_put, room_not_full}
 use Rattle.acq_loop.proofs.Standings.{AtQuestion, run_laws, within}
@@ -9,12 +10,12 @@ use Rattle.acq_loop.proofs.Turning.{AskedSo, ToldSo, front_of_turn, ran_end, ste
 
 -- there is room
 pub not_full_with : (l : Language) (terms : Terms) (events : List Event) (how : Drove) → how ≢ drove.JournalFull → length events + 1 < 1000000 → TellsFull l terms events how
-not_full_with l terms events how other room = (λ is. absurd (other is), λ full. absurd (let all = full.full in omega (arith, all, room)))
+not_full_with l terms events how other room = (λ is. absurd (other is), λ full. absurd (let all = full.1 in omega (arith, all, room)))
 
 -- no question is due
 pub not_full_ended : (l : Language) (terms : Terms) (events : List Event) (how : Drove) (closing : Closing) → how ≢ drove.JournalFull → next_after l terms (standing_on l events) ≡ Some (Ends closing) → TellsFull l terms events how
 not_full_ended l terms events how closing other ends =
-    (λ is. absurd (other is), λ full. absurd (let e : Some (Ends closing) ≡ Some (Puts full.question) = sym ends ∙ full.puts in let no : ⊥ = cc in no))
+    (λ is. absurd (other is), λ full. absurd (let e : Some (Ends closing) ≡ Some (Puts full.0.0) = sym ends ∙ full.0.1 in let no : ⊥ = cc in no))
 
 -- an ending that isn't undecided, whatever the screen tells
 module _ (turns : Turns) (l : Language) (terms : Terms) (a b : Point) (marks : Remembered) (made : IsMadeFor l marks) where
@@ -65,17 +66,11 @@ ends_here l terms events marks made how closing is other comes says opens unaske
 
 -- it is no word of the teacher
 pub unasked_may : (may : Assignment → Told → Type 0) (how : Drove) → is_unasked how ≡ true → MayEnd may (ending_of how)
-unasked_may may (drove.Converged m) is = tt
-unasked_may may (drove.Collapsed m) is = tt
-unasked_may may (drove.Undecided m) is = tt
 unasked_may may (drove.Suspended m) is = absurd (let no : ⊥ = cc in no)
 unasked_may may drove.LineTooLong is = absurd (let no : ⊥ = cc in no)
 unasked_may may drove.Unreadable is = absurd (let no : ⊥ = cc in no)
 unasked_may may drove.ReadFault is = absurd (let no : ⊥ = cc in no)
-unasked_may may drove.WriteFault is = tt
-unasked_may may drove.DiskFault is = tt
-unasked_may may drove.JournalFull is = tt
-unasked_may may drove.Memory is = tt
+unasked_may may how is = tt
 
 -- A reply to the question that comes next, and the event that it gives.
 module _ (l m : Language) (terms : Terms) (events : List Event) (count : ℕ) (q : Assignment) (asked : AtQuestion l terms events count m q)

@@ -1,9 +1,13 @@
 -- How few answers lead to convergence.
 use Rattle.acq_loop.proofs.Prelude.{◌≡◌, ◌∙◌, ℕ, ◌+◌, ◌*◌, ◌≤◌, true, List, length, Option, refl, arith, ◌==◌, ◌&&◌, IsTrue, All, slice_index_or, list_any, and_from, eq-eqb, list_any_at, Answer, Plan, numbers, has, Candidate, Language, IsLanguage, variable_count, candidates, IsNetwork, has_scope, any-filter, any_number, Idle, At, state_after, WalkEnd, answers_are_few, learned_are_few}
+use Rattle.std.specs.Prelude.{filter}
 use Rattle.std.proofs.lemmas.Nat.{mul-le}
 use Rattle.find_scope.specs.Bound.{log_up}
 use Rattle.session_laws.specs.Bound.{greatest_arity}
-use Rattle.acq_loop.specs.Few.{AreFew, scopes_of_network}
+use Rattle.acq_loop.specs.Few.{AreFew}
+
+abbrev scopes_of_network : Language → List Candidate → List ℕ
+scopes_of_network l network = filter (has_scope network) (numbers (length l.scopes))
 
 -- a greater cost a candidate makes a greater sum
 looser : (m c k arity lg : ℕ) → m ≤ c + k * (arity * lg + 1) → m ≤ c + k * (2 * arity * lg + 1)

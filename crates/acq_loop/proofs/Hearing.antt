@@ -1,5 +1,6 @@
 -- A turn by what was heard of the teacher's word.
-use Rattle.acq_loop.proofs.Prelude.{◌≡◌, ◌⊎◌, ◌∙◌, ◌+◌, ◌<◌, ℕ, List, [], ◌∷◌, ◌++◌, length, true, false, is_some, ap, sym, subst, refl, inl, inr, Option, Some, None, ◌≢◌, IfSome, ForSome, AddsFront, Assignment, Event, Language, IsQuestion, variable_count, standing_on, Remembered, IsMadeFor, no_marks_hold, network_in, Turns, Reply, Said, TakenBack, Stopped, Ended, Overlong, Unread, Tells, Told, MayAdd, MayEnd, closing_of, ending_of, Closing, Next, Puts, Suspended, LineTooLong, Unreadable, answer, next_on, number_on, event_heard, Point, next_lines, HasEnded, IsPending, MayFollow, RanTo, Remembers, EventKept, heard_of, event_on, MayKeep, Forgets, EndsAs, point_of, SaysNext, Terms, Drove, Entry}
+use Rattle.acq_loop.proofs.Prelude.{◌≡◌, ◌⊎◌, ◌∙◌, ◌+◌, ◌<◌, ℕ, List, [], ◌∷◌, ◌++◌, length, true, false, is_some, ap, sym, subst, refl, inl, inr, Option, Some, None, ◌≢◌, IfSome, ForSome, AddsFront, Assignment, Event, Language, IsQuestion, variable_count, standing_on, Remembered, IsMadeFor, no_marks_hold, network_in, Turns, Reply, Said, TakenBack, Stopped, Ended, Overlong, Unread, Tells, Told, MayAdd, MayEnd, closing_of, ending_of, Closing, Next, Puts, Suspended, LineTooLong, Unreadable, answer, next_on, number_on, event_heard, Point, next_lines, HasEnded, IsPending, Remembers, EventKept, heard_of, event_on, MayKeep, Forgets, EndsAs, point_of, SaysNext, Terms, Drove, Entry}
+use Rattle.acq_loop.proofs.Short.{RanTo, MayFollow}
 use Rattle.assign.specs.declared.events.Event.TheVariants as event
 use Rattle.target_oracle.specs.declared.teacher.Told.TheVariants as told
 use Rattle.acq_loop.specs.declared.driving.Drove.TheVariants as drove
@@ -25,20 +26,11 @@ pub word_kept : (t : Told) (count : ℕ) (e : Entry) (P : Told → Entry → Typ
 word_kept told.Yes count e P is given denied back = let same : entry.Answer true ≡ e = cc in subst (P told.Yes) same given
 word_kept told.No count e P is given denied back = let same : entry.Answer false ≡ e = cc in subst (P told.No) same denied
 word_kept told.Back count e P is given denied back = let same : entry.Back ≡ e = cc in subst (P told.Back) same back
-word_kept told.Stop count e P is given denied back = absurd (let bad : ⊥ = cc in bad)
-word_kept told.End count e P is given denied back = absurd (let bad : ⊥ = cc in bad)
-word_kept told.TooLong count e P is given denied back = absurd (let bad : ⊥ = cc in bad)
-word_kept told.Unreadable count e P is given denied back = absurd (let bad : ⊥ = cc in bad)
-word_kept told.ReadFault count e P is given denied back = absurd (let bad : ⊥ = cc in bad)
-word_kept told.WriteFault count e P is given denied back = absurd (let bad : ⊥ = cc in bad)
-word_kept told.Memory count e P is given denied back = absurd (let bad : ⊥ = cc in bad)
+word_kept t count e P is given denied back = absurd (let bad : ⊥ = cc in bad)
 
 -- and an end in these
 pub word_ended : (t : Told) (count : ℕ) (d : Drove) (P : Told → Drove → Type 0) → heard_of t count ≡ heard.End d → P told.Stop (drove.Suspended count) → P told.End (drove.Suspended count) → P told.TooLong drove.LineTooLong →
     P told.Unreadable drove.Unreadable → P told.ReadFault drove.ReadFault → P told.WriteFault drove.WriteFault → P told.Memory drove.Memory → P t d
-word_ended told.Yes count d P is stop end long unread read write memory = absurd (let bad : ⊥ = cc in bad)
-word_ended told.No count d P is stop end long unread read write memory = absurd (let bad : ⊥ = cc in bad)
-word_ended told.Back count d P is stop end long unread read write memory = absurd (let bad : ⊥ = cc in bad)
 word_ended told.Stop count d P is stop end long unread read write memory = let same : drove.Suspended count ≡ d = cc in subst (P told.Stop) same stop
 word_ended told.End count d P is stop end long unread read write memory = let same : drove.Suspended count ≡ d = cc in subst (P told.End) same end
 word_ended told.TooLong count d P is stop end long unread read write memory = let same : drove.LineTooLong ≡ d = cc in subst (P told.TooLong) same long
@@ -46,6 +38,7 @@ word_ended told.Unreadable count d P is stop end long unread read write memory =
 word_ended told.ReadFault count d P is stop end long unread read write memory = let same : drove.ReadFault ≡ d = cc in subst (P told.ReadFault) same read
 word_ended told.WriteFault count d P is stop end long unread read write memory = let same : drove.WriteFault ≡ d = cc in subst (P told.WriteFault) same write
 word_ended told.Memory count d P is stop end long unread read write memory = let same : drove.Memory ≡ d = cc in subst (P told.Memory) same memory
+word_ended t count d P is stop end long unread read write memory = absurd (let bad : ⊥ = cc in bad)
 
 -- the loop ends by a fault where the word says so
 pub word_read : (t : Told) (count : ℕ) (d : Drove) → heard_of t count ≡ heard.End d → Some d ≡ Some drove.ReadFault → t ≡ told.ReadFault
@@ -82,7 +75,7 @@ word_may_end t count d may q is =
 pub word_may_add : (l : Language) (t : Told) (count : ℕ) (e : Entry) (may : Assignment → Told → Type 0) (q : Assignment) → heard_of t count ≡ heard.Keep e → IsQuestion l q → may q t → MayAdd l may (event_on e (Some q))
 word_may_add l t count e may q is fits =
     word_kept t count e (λ w n. may q w → MayAdd l may (event_on n (Some q))) is
-    (λ m. inl (record { answer = answer q true; is = refl; fits = fits; may_be = m })) (λ m. inl (record { answer = answer q false; is = refl; fits = fits; may_be = m })) (λ m. inr (record { question = q; is = refl; may_be = m }))
+    (λ m. inl (answer q true, refl, fits, m)) (λ m. inl (answer q false, refl, fits, m)) (λ m. inr (q, refl, m))
 
 -- an answer is taken back where one stands
 pub word_follows : (l : Language) (events : List Event) (t : Told) (count : ℕ) (e : Entry) (q : Assignment) → heard_of t count ≡ heard.Keep e → count ≡ length (standing_on l events) → (t ≡ told.Back → 1 < count + 1) → MayFollow events q (event_on e (Some q))
@@ -136,9 +129,7 @@ module _ (l m : Language) (terms : Terms) (events : List Event) (count : ℕ) (q
   word_front told.End said = front_of_turn turns l (number_on l events) q here there Ended (told_here Ended said)
   word_front told.TooLong said = front_of_turn turns l (number_on l events) q here there Overlong (told_here Overlong said)
   word_front told.Unreadable said = front_of_turn turns l (number_on l events) q here there Unread (told_here Unread said)
-  word_front told.ReadFault said = front_here said
-  word_front told.WriteFault said = front_here said
-  word_front told.Memory said = front_here said
+  word_front t said = front_here said
 
   pub word_says_next : (t : Told) → Spoken t → SaysNext turns l terms events left written written'
   word_says_next t said bytes is =

@@ -1,4 +1,5 @@
 mod Prelude
+pub mod Short
 pub mod Questions
 pub mod Taking
 pub mod Reached

@@ -1,5 +1,6 @@
 -- What comes next in a session.
-use Rattle.acq_loop.proofs.Prelude.{◌≡◌, ℕ, true, List, length, refl, sym, ◌∙◌, ap, subst, Option, Some, None, ◌≢◌, ◌&&◌, is_some, not, option_map, and_parts, numbers, Assignment, Answer, Plan, Scopes, Quacq, Multi, Candidate, Language, IsLanguage, IsCandidate, IsNetwork, IsCovered, has_scope, kept, find_some, outcome_of_candidate, is_among, is_spent, next_query, Remembered, is_open, State, Idle, Halving, Choosing, Walking, Over, At, is_just, is_lawful, is_undecided, next_scope, open_question, scope_question, state_after, WalkEnd, network_in, assignment_same, implied_is_covered, over_means_none, idle_is_in_step, Knowledge, Session, Stands, Knows, IsAskedIn, knowledge_of, open_in, question_put, IsSettled, IsLawfulAfter, Terms, terms_with, Next, Puts, Ends, Converged, Collapsed, puts_or, searched, idle_next, next_at, next_in, next_after, IsDone, IsCollapsed, IsLeftOpen, TellsOpen, NextIs}
+use Rattle.acq_loop.proofs.Prelude.{◌≡◌, ℕ, true, List, length, refl, sym, ◌∙◌, ap, subst, Option, Some, None, ◌≢◌, ◌&&◌, is_some, not, option_map, and_parts, numbers, Assignment, Answer, Plan, Scopes, Quacq, Multi, Candidate, Language, IsLanguage, IsCandidate, IsNetwork, IsCovered, has_scope, kept, find_some, outcome_of_candidate, is_among, is_spent, next_query, Remembered, is_open, State, Idle, Halving, Choosing, Walking, Over, At, is_just, is_lawful, is_undecided, next_scope, open_question, scope_question, state_after, WalkEnd, network_in, assignment_same, implied_is_covered, over_means_none, idle_is_in_step, Knowledge, Session, Stands, Knows, IsAskedIn, knowledge_of, open_in, question_put, IsSettled, IsLawfulAfter, Terms, terms_with, Next, Puts, Ends, Converged, Collapsed, searched, idle_next, next_at, next_in, next_after, IsDone, IsCollapsed, IsLeftOpen, TellsOpen, NextIs}
+use Rattle.acq_loop.proofs.Short.{puts_or}
 use Rattle.language.proofs.Covered.{covered_converged}
 use Rattle.language.specs.TellingApart.{splitting_tuple}
 use Rattle.language.specs.Scenes.{scene_of, on_scope, free_choices}

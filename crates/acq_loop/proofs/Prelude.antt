@@ -50,12 +50,12 @@ pub use Rattle.target_oracle.specs.Turns.{Ended, Overlong, Reply, Said, Stopped,
 pub use Rattle.target_oracle.specs.declared.teacher.Told.{Told}
 pub use Rattle.acq_loop.specs.Added.{IsAdded, IsTaught, MayAdd, MayEnd}
 pub use Rattle.acq_loop.specs.Closings.{closing_of, ending_of}
-pub use Rattle.acq_loop.specs.Driven.{CutOff, Drives, HasEnded, HasFound, IsCollapsed, IsDone, IsFull, IsLeftOpen, IsOwned, IsPending, LeavesNothing, Loses, MayFollow, Point, RanTo, Remembers, StepsTo, StopsAt, TellsFull, TellsOpen, UnkeptTo, next_lines}
+pub use Rattle.acq_loop.specs.Driven.{Drives, HasEnded, HasFound, IsCollapsed, IsDone, IsLeftOpen, IsOwned, IsPending, LeavesNothing, Loses, Point, Remembers, StepsTo, StopsAt, TellsOpen, next_lines}
 pub use Rattle.acq_loop.specs.Due.{EventKept, IsDue, IsOneMore, NextIs, ended_by}
 pub use Rattle.acq_loop.specs.Heard.{Forgets, Hears, MayKeep, end_of, event_on, heard_of}
 pub use Rattle.acq_loop.specs.Loop.{EndsAs, EndsUnasked, HasTurned, TellsCandidates, is_unasked}
 pub use Rattle.acq_loop.specs.Points.{point_of, terms_with}
-pub use Rattle.acq_loop.specs.Run.{Closing, Collapsed, Converged, Ends, JournalFull, LineTooLong, Next, Puts, Ran, Runs, Suspended, Undecided, Unreadable, after_text, answer, ended, event_heard, heard_on, idle_next, is_full, next_after, next_at, next_in, next_on, number_on, put_on, puts_or, searched, turned_on, unless_full}
+pub use Rattle.acq_loop.specs.Run.{Closing, Collapsed, Converged, Ends, JournalFull, LineTooLong, Next, Puts, Ran, Runs, Suspended, Undecided, Unreadable, after_text, answer, ended, event_heard, heard_on, idle_next, is_full, next_after, next_at, next_in, next_on, number_on, put_on, searched, unless_full}
 unfoldable pub use Rattle.acq_loop.specs.Run.{ran}
 pub use Rattle.acq_loop.specs.Turn.{Between, ByTurns, IsTurn, SaysNext, between}
 pub use Rattle.acq_loop.specs.declared.driving.Drove.{Drove}

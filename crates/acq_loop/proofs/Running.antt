@@ -1,5 +1,6 @@
 -- Runs, one turn at a time.
-use Rattle.acq_loop.proofs.Prelude.{◌≡◌, ℕ, zero, suc, ◌+◌, ◌<◌, ◌≤◌, List, [], ◌∷◌, ◌++◌, Bool, true, false, length, ap, subst, sym, ◌∙◌, refl, Option, Some, None, arith, append_assoc, length-append, ⊎_elim, cases_lt, eq-eqb, eqb-true, append-nil, option_map, Assignment, Answer, Event, Plan, Scopes, Quacq, Multi, cut_to-standing-push, Candidate, Language, IsLanguage, variable_count, kept, standing_on, Ask, AllImplied, next_query, WalkEnd, answer_event, Terms, State, Idle, Halving, Choosing, Walking, Over, At, is_just, step, state_after, assignment_same, IsAskedIn, OneAnswerMore, QuestionsHavePlaces, QuestionsHaveValues, Turns, Turned, Reply, Said, TakenBack, Stopped, Ended, Overlong, Unread, Closing, Suspended, LineTooLong, Unreadable, Collapsed, Converged, JournalFull, Next, Puts, Ends, puts_or, searched, idle_next, next_at, next_in, next_after, is_full, unless_full, next_on, number_on, Ran, after_text, answer, ended, event_heard, heard_on, turned_on, put_on, ran, Runs}
+use Rattle.acq_loop.proofs.Prelude.{◌≡◌, ℕ, zero, suc, ◌+◌, ◌<◌, ◌≤◌, List, [], ◌∷◌, ◌++◌, Bool, true, false, length, ap, subst, sym, ◌∙◌, refl, Option, Some, None, arith, append_assoc, length-append, ⊎_elim, cases_lt, eq-eqb, eqb-true, append-nil, option_map, Assignment, Answer, Event, Plan, Scopes, Quacq, Multi, cut_to-standing-push, Candidate, Language, IsLanguage, variable_count, kept, standing_on, Ask, AllImplied, next_query, WalkEnd, answer_event, Terms, State, Idle, Halving, Choosing, Walking, Over, At, is_just, step, state_after, assignment_same, IsAskedIn, OneAnswerMore, QuestionsHavePlaces, QuestionsHaveValues, Turns, Turned, Reply, Said, TakenBack, Stopped, Ended, Overlong, Unread, Closing, Suspended, LineTooLong, Unreadable, Collapsed, Converged, JournalFull, Next, Puts, Ends, searched, idle_next, next_at, next_in, next_after, is_full, unless_full, next_on, number_on, Ran, after_text, answer, ended, event_heard, heard_on, put_on, ran, Runs}
+use Rattle.acq_loop.proofs.Short.{turned_on, puts_or}
 use Rattle.assign.specs.declared.events.Event.TheVariants as event
 use Rattle.query_gen.specs.declared.query.Query.{Query}
 use Rattle.query_gen.specs.declared.query.Query.TheVariants.{Undecided}
@@ -15,10 +16,7 @@ text_after x y run = ap (λ (t : List ℕ). let r : Ran = record run { text = t 
 pub heard_event : (again : List Event → List ℕ → Option Ran) (events : List Event) (q : Assignment) (rest : List ℕ) (reply : Reply) (e : Event) → event_heard q reply ≡ Some e → heard_on again events q rest reply ≡ again (events ++ e ∷ []) rest
 heard_event again events q rest (Said said) e h = let same : answer_event q said ≡ e = cc in ap (λ (x : Event). again (events ++ x ∷ []) rest) same
 heard_event again events q rest TakenBack e h = let same : event.Back ≡ e = cc in ap (λ (x : Event). again (events ++ x ∷ []) rest) same
-heard_event again events q rest Stopped e h = absurd (let no : ⊥ = cc in no)
-heard_event again events q rest Ended e h = absurd (let no : ⊥ = cc in no)
-heard_event again events q rest Overlong e h = absurd (let no : ⊥ = cc in no)
-heard_event again events q rest Unread e h = absurd (let no : ⊥ = cc in no)
+heard_event again events q rest reply e h = absurd (let no : ⊥ = cc in no)
 
 -- a turn that heard one
 pub runs_heard : (turns : Turns) (l : Language) (terms : Terms) (events : List Event) (bytes : List ℕ) (q : Assignment) (e : Event) (run : Ran) →
@@ -90,10 +88,8 @@ idle_place laws l lawful Multi budget t network end q reply at h = laws.places.p
 pub step_at : RunLaws → (l : Language) → IsLanguage l → (terms : Terms) (t : List Answer) (state : State) (q : Assignment) (reply : Bool) →
     state_after l terms.plan t ≡ At state → next_at l terms t state ≡ Puts q → (next : State) × (step l terms.plan t (answer q reply) state ≡ Some next)
 step_at laws l lawful terms t (Idle network end) q reply at h = idle_place laws l lawful terms.plan terms.budget t network end q reply at h
-step_at laws l lawful terms t (Halving e set replies network walk) q reply at h = laws.places.opened l terms.plan t (Halving e set replies network walk) q reply (puts_is Collapsed _ q h)
-step_at laws l lawful terms t (Choosing s choices network walk) q reply at h = laws.places.opened l terms.plan t (Choosing s choices network walk) q reply (puts_is Collapsed _ q h)
-step_at laws l lawful terms t (Walking set walk network) q reply at h = laws.places.opened l terms.plan t (Walking set walk network) q reply (puts_is Collapsed _ q h)
 step_at laws l lawful terms t (Over network) q reply at h = cc
+step_at laws l lawful terms t state q reply at h = laws.places.opened l terms.plan t state q reply (puts_is Collapsed _ q h)
 
 place_at : RunLaws → (l : Language) → IsLanguage l → (terms : Terms) (t : List Answer) (state : State) (q : Assignment) (reply : Bool) →
     state_after l terms.plan t ≡ At state → next_at l terms t state ≡ Puts q → IsReached l terms.plan (t ++ answer q reply ∷ [])
@@ -116,10 +112,8 @@ idle_asked laws l lawful Multi budget t network end q at h = (laws.lawful l Mult
 
 pub asked_at : RunLaws → (l : Language) → IsLanguage l → (terms : Terms) (t : List Answer) (state : State) (q : Assignment) → state_after l terms.plan t ≡ At state → next_at l terms t state ≡ Puts q → IsAskedIn l terms.plan t q state
 asked_at laws l lawful terms t (Idle network end) q at h = idle_asked laws l lawful terms.plan terms.budget t network end q at h
-asked_at laws l lawful terms t (Halving e set replies network walk) q at h = puts_is Collapsed _ q h
-asked_at laws l lawful terms t (Choosing s choices network walk) q at h = puts_is Collapsed _ q h
-asked_at laws l lawful terms t (Walking set walk network) q at h = puts_is Collapsed _ q h
 asked_at laws l lawful terms t (Over network) q at h = absurd (let no : ⊥ = cc in no)
+asked_at laws l lawful terms t state q at h = puts_is Collapsed _ q h
 
 -- it has as many options as the language has variables
 idle_sized : RunLaws → (l : Language) → IsLanguage l → (plan : Plan) (budget : ℕ) (t : List Answer) (network : List Candidate) (end : Option WalkEnd) (q : Assignment) →
@@ -211,10 +205,7 @@ within_on laws l lawful terms events q (Said said) e h within next =
 within_on laws l lawful terms events q TakenBack e h within next =
     let Within : Event → Type 0 = λ x. IsWithin l terms.plan (events ++ x ∷ []) in
     let same : event.Back ≡ e = cc in subst Within same (within_back l terms events q within next)
-within_on laws l lawful terms events q Stopped e h within next = absurd (let no : ⊥ = cc in no)
-within_on laws l lawful terms events q Ended e h within next = absurd (let no : ⊥ = cc in no)
-within_on laws l lawful terms events q Overlong e h within next = absurd (let no : ⊥ = cc in no)
-within_on laws l lawful terms events q Unread e h within next = absurd (let no : ⊥ = cc in no)
+within_on laws l lawful terms events q reply e h within next = absurd (let no : ⊥ = cc in no)
 
 -- ---- a run from some events
 

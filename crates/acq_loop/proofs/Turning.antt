@@ -1,5 +1,6 @@
 -- What the loop has done after a turn, and after many.
-use Rattle.acq_loop.proofs.Prelude.{◌≡◌, ℕ, List, [], ◌∷◌, ◌++◌, ap, sym, ◌∙◌, refl, Option, Some, None, subst, append_assoc, IfSome, ForSome, append-nil, Adds, AddsFront, adds_none, adds_then, Assignment, Event, Language, IsLanguage, IsQuestion, standing_on, Turns, Reply, AsksFirst, Turn, closing_of, Closing, Runs, Next, Puts, Ends, next_after, next_on, number_on, after_text, ended, event_heard, SaysNext, Terms, Point, StepsTo, RanTo, CutOff, StopsAt, next_lines, MayFollow, Loses, Drives, Drove}
+use Rattle.acq_loop.proofs.Prelude.{◌≡◌, ℕ, List, [], ◌∷◌, ◌++◌, ap, sym, ◌∙◌, refl, Option, Some, None, subst, append_assoc, IfSome, ForSome, append-nil, Adds, AddsFront, adds_none, adds_then, Assignment, Event, Language, IsLanguage, IsQuestion, standing_on, Turns, Reply, AsksFirst, Turn, closing_of, Closing, Runs, Next, Puts, Ends, next_after, next_on, number_on, after_text, ended, event_heard, SaysNext, Terms, Point, StepsTo, StopsAt, next_lines, Loses, Drives, Drove}
+use Rattle.acq_loop.proofs.Short.{RanTo, CutOff, MayFollow}
 use Rattle.target_oracle.proofs.Fronts.{front_longer, front_none, front_then, front_whole}
 use Rattle.acq_loop.proofs.Running.{text_after, runs_heard, EndsSo, runs_closed, runs_end, IsWithin, puts_next, RunLaws, turn_exists}
 

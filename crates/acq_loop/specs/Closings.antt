@@ -1,6 +1,5 @@
 -- How the endings of the loop and of the program are tied to how a run closes.
-use Rattle.std.specs.Prelude.{ℕ, Option, Some, None, Result, Ok, Err}
-use Rattle.acq_io.specs.declared.streams.Put.{Put}
+use Rattle.acq_loop.specs.Prelude.{ℕ, Option, Some, None, Result, Ok, Err, Put}
 use Rattle.acq_io.specs.declared.streams.Put.TheVariants as put
 use Rattle.acq_loop.specs.Run.{Closing, Converged, Collapsed, Undecided, Suspended, LineTooLong, Unreadable, JournalFull}
 use Rattle.acq_loop.specs.declared.driving.Drove.{Drove}
@@ -17,10 +16,7 @@ closing_of (drove.Suspended m) = Some Suspended
 closing_of drove.LineTooLong = Some LineTooLong
 closing_of drove.Unreadable = Some Unreadable
 closing_of drove.JournalFull = Some JournalFull
-closing_of drove.ReadFault = None
-closing_of drove.WriteFault = None
-closing_of drove.DiskFault = None
-closing_of drove.Memory = None
+closing_of how = None
 
 -- the number that is told then
 abbrev pub number_of : Drove → Option ℕ

@@ -1,28 +1,7 @@
 -- What the loop has done, by how it ended.
-use Rattle.std.specs.Prelude.{◌≡◌, ◌≢◌, ◌⊎◌, ◌↔◌, ◌<◌, ◌+◌, ℕ, Bool, IsTrue, List, [], ◌++◌, length, All, ◌&&◌, Option, Some, None, IfSome}
-use Rattle.std.specs.Option.{ForSome}
-use Rattle.acq_io.specs.Streams.{Adds, AddsFront}
-use Rattle.assign.specs.Assignment.{Assignment}
-use Rattle.assign.specs.Events.{Answer, standing}
-use Rattle.assign.specs.declared.events.Event.{Event}
+use Rattle.acq_loop.specs.Prelude.{◌≡◌, ◌≢◌, ◌⊎◌, ◌↔◌, ◌<◌, ◌+◌, ℕ, Bool, IsTrue, List, [], ◌++◌, length, All, ◌&&◌, Option, Some, None, IfSome, ForSome, Adds, AddsFront, Assignment, Answer, standing, Event, Plan, Scopes, Multi, Candidate, Language, HasSameSolutions, IsCandidate, IsImplied, IsQuestion, IsNetwork, IsCovered, IsConverged, NoneAgrees, kept, standing_on, plain_size, Spent, outcome_of_candidate, is_among, is_spent, Remembered, MarksHold, is_open, IsUndecided, State, Idle, Over, At, state_after, walk_end, WalkEnd, IsWalked, network_in, answer_event, Turns, AsksFirst}
 use Rattle.assign.specs.declared.events.Event.TheVariants as event
-use Rattle.assign.specs.declared.events.Plan.{Plan}
-use Rattle.assign.specs.declared.events.Plan.TheVariants.{Scopes, Quacq, Multi}
-use Rattle.language.specs.declared.candidates.Candidate.{Candidate}
-use Rattle.language.specs.Language.{Language, HasSameSolutions, IsCandidate, IsImplied, IsQuestion}
-use Rattle.language.specs.Answers.{IsNetwork, IsCovered, IsConverged, NoneAgrees, kept, standing_on}
-use Rattle.language.specs.Search.{plain_size}
-use Rattle.fd_solver.specs.declared.outcome.Outcome.TheVariants.{Spent}
-use Rattle.fd_solver.specs.Outcomes.{outcome_of_candidate}
-use Rattle.query_gen.specs.Questions.{is_among, is_spent}
-use Rattle.query_gen.specs.Marks.{Remembered, MarksHold, is_open}
-use Rattle.query_gen.specs.Laws.{IsUndecided}
-use Rattle.session_laws.specs.Session.{State, Idle, Over, At, state_after, walk_end}
-use Rattle.session_laws.specs.Walk.{WalkEnd, Ended}
-use Rattle.session_laws.specs.Laws.{IsWalked, network_in}
-use Rattle.session_store.specs.Kept.{answer_event}
-use Rattle.target_oracle.specs.Turns.{Turns}
-use Rattle.target_oracle.specs.Tells.{AsksFirst}
+use Rattle.session_laws.specs.Walk.{Ended}
 use Rattle.acq_loop.specs.Closings.{closing_of, number_of}
 use Rattle.acq_loop.specs.Few.{AreFew}
 use Rattle.acq_loop.specs.Run.{Closing, Converged, Collapsed, Undecided, Next, Puts, Ends, next_after, next_on, number_on, Ran, Runs, after_text, event_heard}
@@ -58,9 +37,6 @@ pub record IsRun (turns : Turns) (l : Language) (terms : Terms) (bytes : List �
   pub left : new.left ≡ Some run.rest
   pub written : Adds old.written new.written run.text
 
-abbrev pub RanTo : Turns → Language → Terms → Closing → Point → Point → Type 0
-RanTo turns l terms closing old new = ForSome old.left (λ bytes. IsRun turns l terms bytes closing old new)
-
 -- the lines of what comes next after these events, where that is a question
 abbrev pub next_lines : Turns → Language → List Event → List ℕ → Option Next → List ℕ
 next_lines turns l events bytes None = []
@@ -90,9 +66,6 @@ pub record IsCut (turns : Turns) (l : Language) (terms : Terms) (bytes : List �
   pub events : run.events ≡ new.events ++ later
   pub stops : StopsAt turns l terms old.events new.events bytes old.written new.left new.written
 
-abbrev pub CutOff : Turns → Language → Terms → Point → Point → Type 0
-CutOff turns l terms old new = ForSome old.left (λ bytes. IsCut turns l terms bytes old new)
-
 -- This question was put: its lines were written, and a reply was heard, whose event, which is this one, isn't there.
 pub record IsUnkept (turns : Turns) (l : Language) (terms : Terms) (question : Assignment) (lost : Event) (bytes : List ℕ) (old new : Point) : Type 0 where
   pub rest : List ℕ
@@ -102,32 +75,15 @@ pub record IsUnkept (turns : Turns) (l : Language) (terms : Terms) (question : A
   pub left : new.left ≡ Some (turns l (number_on l new.events) question rest).heard.rest
   pub written : Adds old.written new.written (done ++ (turns l (number_on l new.events) question rest).text)
 
--- after these events a question may be answered so; an answer is taken back where one stands
-abbrev pub MayFollow : List Event → Assignment → Event → Type 0
-MayFollow events question e = ((reply : Bool) × (e ≡ answer_event question reply)) ⊎ ((e ≡ event.Back) × (standing events ≢ []))
-
 -- The event of a reply to the question that comes next was lost.
 pub record Loses (turns : Turns) (l : Language) (terms : Terms) (old new : Point) (lost : Event) : Type 0 where
   pub question : Assignment
   pub puts : next_after l terms (standing_on l new.events) ≡ Some (Puts question)
   pub fits : IsQuestion l question
-  pub follows : MayFollow new.events question lost
+  -- an answer is taken back where one stands
+  pub follows : ((reply : Bool) × (lost ≡ answer_event question reply)) ⊎ ((lost ≡ event.Back) × (standing new.events ≢ []))
   -- where the source tells
   pub told : ForSome old.left (λ bytes. IsUnkept turns l terms question lost bytes old new)
-
--- an event was lost
-abbrev pub UnkeptTo : Turns → Language → Terms → Point → Point → Type 0
-UnkeptTo turns l terms old new = (lost : Event) × Loses turns l terms old new lost
-
--- a question is due after these events, and they are as many as a journal takes
-pub record IsFull (l : Language) (terms : Terms) (events : List Event) : Type 0 where
-  pub question : Assignment
-  pub puts : next_after l terms (standing_on l events) ≡ Some (Puts question)
-  pub full : length events + 1 ≡ 1000000
-
--- the loop ends for want of a record exactly there
-abbrev pub TellsFull : Language → Terms → List Event → Drove → Type 0
-TellsFull l terms events how = (how ≡ drove.JournalFull) ↔ IsFull l terms events
 
 -- nothing is left to ask, and the few answers converge on what was learned
 pub record IsDone (l : Language) (terms : Terms) (t : List Answer) : Type 0 where
@@ -182,15 +138,15 @@ pub record HasEnded (l : Language) (terms : Terms) (t : List Answer) (how : Drov
 -- The loop ends so only in this way.
 pub record Drives (turns : Turns) (l : Language) (terms : Terms) (old new : Point) (how : Drove) : Type 0 where
   pub says : HasEnded l terms (standing_on l new.events) how
-  -- the run that is closed so is what was written and left
-  pub closed : IfSome (closing_of how) (λ closing. RanTo turns l terms closing old new)
+  -- where the source tells, the run that is closed so is what was written and left
+  pub closed : IfSome (closing_of how) (λ closing. ForSome old.left (λ bytes. IsRun turns l terms bytes closing old new))
   -- where something failed, a question was due, and a front of a run was written
   pub pending : closing_of how ≡ None → IsPending l terms (standing_on l new.events)
-  pub broken : closing_of how ≡ None → CutOff turns l terms old new
+  pub broken : closing_of how ≡ None → ForSome old.left (λ bytes. IsCut turns l terms bytes old new)
   -- where the disk failed, what was written ends with the lines of the question whose reply wasn't kept
-  pub unkept : how ≡ drove.DiskFault → UnkeptTo turns l terms old new
+  pub unkept : how ≡ drove.DiskFault → (lost : Event) × Loses turns l terms old new lost
   -- the journal is full exactly where a question is due and no record is left
-  pub full : TellsFull l terms new.events how
+  pub full : (how ≡ drove.JournalFull) ↔ (IsPending l terms (standing_on l new.events) × (length new.events + 1 ≡ 1000000))
 
 -- what comes of it where this network gave each answer: no collapse, and what was learned has exactly its solutions
 abbrev pub IsOwned : Language → Terms → List Candidate → List Answer → Closing → Type 0
@@ -198,15 +154,10 @@ IsOwned l terms owner t Converged = (network : List Candidate) × (end : Option 
 IsOwned l terms owner t Collapsed = ⊥
 IsOwned l terms owner t closing = Unit {0}
 
--- how the walk of an example ended that the last answer ended; other plans walk none
-abbrev pub last_walk : Language → Plan → List Answer → Option WalkEnd
-last_walk l Multi t = walk_end l t
-last_walk l Quacq t = None
-last_walk l Scopes t = None
-
--- Where the last answer has ended the walk of an example, which wasn't cut off, nothing is left to learn from the example.
+-- Where the last answer has ended the walk of an example, which wasn't cut off, nothing is left to learn from the example. Other
+-- plans walk none.
 abbrev pub LeavesNothing : Language → Plan → List Answer → Type 0
-LeavesNothing l plan t = (e : Assignment) (state : State) → state_after l plan t ≡ At state → last_walk l plan t ≡ Some (Ended e) → IsWalked l t (network_in state) e
+LeavesNothing l plan t = (e : Assignment) (state : State) → plan ≡ Multi → state_after l plan t ≡ At state → walk_end l t ≡ Some (Ended e) → IsWalked l t (network_in state) e
 
 -- ---- what a screen says of the candidates
 

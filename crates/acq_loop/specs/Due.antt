@@ -1,11 +1,5 @@
 -- What comes next in a session, and what the loop does with it.
-use Rattle.std.specs.Prelude.{◌≡◌, ◌⊎◌, List, [], ◌∷◌, ◌++◌, Option, Some, None}
-use Rattle.assign.specs.Assignment.{Assignment}
-use Rattle.assign.specs.Events.{Answer}
-use Rattle.assign.specs.declared.events.Event.{Event}
-use Rattle.language.specs.Language.{Language}
-use Rattle.session_store.specs.Kept.{IsLawfulAfter}
-use Rattle.session_store.specs.declared.fault.SFault.{SFault}
+use Rattle.acq_loop.specs.Prelude.{◌≡◌, ◌⊎◌, List, [], ◌∷◌, ◌++◌, Option, Some, None, Assignment, Answer, Event, Language, IsLawfulAfter, SFault}
 use Rattle.session_store.specs.declared.fault.SFault.TheVariants as store
 use Rattle.acq_loop.specs.Run.{Puts, next_after}
 use Rattle.acq_loop.specs.Driven.{IsDone, IsCollapsed, IsLeftOpen}
@@ -37,9 +31,7 @@ pub record IsOneMore (old new : List Event) : Type 0 where
 -- how the loop ends where an event couldn't be kept
 abbrev pub ended_by : SFault → Drove
 ended_by store.Memory = drove.Memory
-ended_by (store.Journal fault) = drove.DiskFault
-ended_by (store.Voc fault) = drove.DiskFault
-ended_by (store.Stray number) = drove.DiskFault
+ended_by fault = drove.DiskFault
 
 -- the event was added, or there was no memory for it, or the disk failed
 abbrev pub EventKept : Event → List Event → List Event → Option Drove → Type 0

@@ -1,17 +1,6 @@
 -- What is heard of a teacher's word to a question: what is to be kept of it, or how the loop ends.
-use Rattle.std.specs.Prelude.{◌≡◌, ◌≢◌, ◌<◌, ◌+◌, ℕ, List, [], true, false, Option, Some, None, IsSome, Result, Ok, Err}
-use Rattle.std.specs.Option.{ForSome}
-use Rattle.assign.specs.Assignment.{Assignment}
-use Rattle.assign.specs.Events.{standing}
-use Rattle.assign.specs.declared.events.Event.{Event}
+use Rattle.acq_loop.specs.Prelude.{◌≡◌, ◌≢◌, ◌<◌, ◌+◌, ℕ, List, [], true, false, Option, Some, None, IsSome, Result, Ok, Err, ForSome, Assignment, standing, Event, Language, Remembered, HasNoMarks, answer_event, SFault, AsksFirst, Tells, Turns, Told}
 use Rattle.assign.specs.declared.events.Event.TheVariants as event
-use Rattle.language.specs.Language.{Language}
-use Rattle.query_gen.specs.Marks.{Remembered, HasNoMarks}
-use Rattle.session_store.specs.Kept.{answer_event}
-use Rattle.session_store.specs.declared.fault.SFault.{SFault}
-use Rattle.target_oracle.specs.Tells.{AsksFirst, Tells}
-use Rattle.target_oracle.specs.Turns.{Turns}
-use Rattle.target_oracle.specs.declared.teacher.Told.{Told}
 use Rattle.target_oracle.specs.declared.teacher.Told.TheVariants as told
 use Rattle.acq_loop.specs.Due.{ended_by}
 use Rattle.acq_loop.specs.declared.driving.Drove.{Drove}

@@ -1,8 +1,5 @@
 -- Laws of how the loop ends, over the definitions alone.
-use Rattle.std.specs.Prelude.{◌≡◌, IsTrue}
-use Rattle.language.specs.Language.{Language}
-use Rattle.language.specs.Answers.{standing_on}
-use Rattle.target_oracle.specs.Turns.{Turns}
+use Rattle.acq_loop.specs.Prelude.{◌≡◌, IsTrue, Language, standing_on, Turns}
 use Rattle.acq_loop.specs.Driven.{Point, Drives}
 use Rattle.acq_loop.specs.Loop.{is_unasked}
 use Rattle.acq_loop.specs.declared.terms.Terms.{Terms}

@@ -1,3 +1,4 @@
+pub mod Prelude
 pub mod Run
 pub mod Few
 pub mod Closings

@@ -1,17 +1,5 @@
 -- What a turn and the loop begin with, and how they go on and end.
-use Rattle.std.specs.Prelude.{◌≡◌, ◌≤◌, ℕ, Bool, true, false, IsTrue, List, Option}
-use Rattle.acq_io.specs.Streams.{HasCalled, Rose, TakesSome}
-use Rattle.acq_words.specs.Request.{IsBudget}
-use Rattle.assign.specs.Assignment.{Assignment}
-use Rattle.assign.specs.Events.{Answer}
-use Rattle.assign.specs.declared.events.Event.{Event}
-use Rattle.language.specs.Language.{Language}
-use Rattle.language.specs.Answers.{standing_on}
-use Rattle.query_gen.specs.declared.place.Place.{Place}
-use Rattle.query_gen.specs.Marks.{Remembered, IsMadeFor, HasNoMarks}
-use Rattle.par_screen.specs.Eighths.{AreMadeFor}
-use Rattle.session_core.specs.Settled.{IsSettled}
-use Rattle.target_oracle.specs.Turns.{Turns}
+use Rattle.acq_loop.specs.Prelude.{◌≡◌, ◌≤◌, ℕ, Bool, true, false, IsTrue, List, Option, HasCalled, Rose, TakesSome, IsBudget, Assignment, Answer, Event, Language, standing_on, Place, Remembered, IsMadeFor, HasNoMarks, AreMadeFor, IsSettled, Turns}
 use Rattle.acq_loop.specs.Driven.{Point, StepsTo, Drives, Remembers, TellsOpen}
 use Rattle.acq_loop.specs.Due.{IsOneMore}
 use Rattle.acq_loop.specs.Points.{point_of}

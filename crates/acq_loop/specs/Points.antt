@@ -1,7 +1,5 @@
 -- A point of a run, and how a run chooses its questions.
-use Rattle.std.specs.Prelude.{ℕ, List, Option}
-use Rattle.assign.specs.declared.events.Event.{Event}
-use Rattle.assign.specs.declared.events.Plan.{Plan}
+use Rattle.acq_loop.specs.Prelude.{ℕ, List, Option, Event, Plan}
 use Rattle.acq_loop.specs.Driven.{Point}
 use Rattle.acq_loop.specs.declared.terms.Terms.{Terms}
 

@@ -1,9 +1,6 @@
 -- How the program ends.
-use Rattle.std.specs.Prelude.{◌≡◌, ℕ, Result, Ok, Err}
-use Rattle.acq_io.specs.Streams.{Rose}
-use Rattle.disk_model.specs.Disk.{Rose as DiskRose}
+use Rattle.acq_loop.specs.Prelude.{◌≡◌, ℕ, Result, Ok, Err, Rose, DiskRose, Put}
 use Rattle.acq_loop.specs.declared.ending.Ending.{Ending}
-use Rattle.acq_io.specs.declared.streams.Put.{Put}
 use Rattle.acq_loop.specs.declared.ending.Ending.TheVariants as ending
 use Rattle.acq_io.specs.declared.streams.Put.TheVariants as put
 

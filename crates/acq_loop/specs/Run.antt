@@ -1,22 +1,9 @@
 -- What a run writes, how it ends, its events, and what it leaves.
-use Rattle.std.specs.Prelude.{◌≡◌, ◌==◌, ℕ, zero, suc, ◌+◌, List, [], ◌∷◌, ◌++◌, length, Bool, true, false, Option, Some, None}
-use Rattle.std.specs.Option.{option_map}
-use Rattle.assign.specs.Assignment.{Assignment}
-use Rattle.assign.specs.Events.{Answer}
-use Rattle.assign.specs.declared.events.Event.{Event}
+use Rattle.acq_loop.specs.Prelude.{◌≡◌, ◌==◌, ℕ, zero, suc, ◌+◌, List, [], ◌∷◌, ◌++◌, length, Bool, true, false, Option, Some, None, option_map, Assignment, Answer, Event, Plan, Scopes, Quacq, Multi, Candidate, Language, kept, standing_on, Query, next_query, State, Idle, Halving, Choosing, Walking, Over, Reading, At, Stray, open_question, scope_question, state_after, answer_event, Turns, Reply, Said, TakenBack, Stopped, Overlong, Unread, option_map_or}
 use Rattle.assign.specs.declared.events.Event.TheVariants as event
-use Rattle.assign.specs.declared.events.Plan.{Plan}
-use Rattle.assign.specs.declared.events.Plan.TheVariants.{Scopes, Quacq, Multi}
-use Rattle.language.specs.declared.candidates.Candidate.{Candidate}
-use Rattle.language.specs.Language.{Language}
-use Rattle.language.specs.Answers.{kept, standing_on}
-use Rattle.query_gen.specs.declared.query.Query.{Query}
 use Rattle.query_gen.specs.declared.query.Query.TheVariants as query
-use Rattle.query_gen.specs.Questions.{next_query}
-use Rattle.session_laws.specs.Session.{State, Idle, Halving, Choosing, Walking, Over, Reading, At, Stray, open_question, scope_question, state_after}
-use Rattle.session_store.specs.Kept.{answer_event}
 use Rattle.acq_loop.specs.declared.terms.Terms.{Terms}
-use Rattle.target_oracle.specs.Turns.{Turns, Turned, Reply, Said, TakenBack, Stopped, Ended, Overlong, Unread}
+use Rattle.target_oracle.specs.Turns.{Ended}
 
 -- how a run ends
 pub data Closing : Type 0 where
@@ -34,10 +21,6 @@ pub data Next : Type 0 where
   Puts : Assignment → Next
   Ends : Closing → Next
 
-abbrev pub puts_or : Closing → Option Assignment → Next
-puts_or closing None = Ends closing
-puts_or closing (Some q) = Puts q
-
 -- what a search says: a question, or how the run ends
 abbrev pub searched : Query → Next
 searched (query.Ask q) = Puts q
@@ -46,17 +29,14 @@ searched query.Undecided = Ends Undecided
 
 -- what comes where nothing is open: in plan Scopes the first question of the next scope, and else what the search says
 abbrev pub idle_next : Language → Plan → ℕ → (live network : List Candidate) → Next
-idle_next l Scopes budget live network = puts_or Converged (scope_question l live network)
-idle_next l Quacq budget live network = searched (next_query l network live budget)
-idle_next l Multi budget live network = searched (next_query l network live budget)
+idle_next l Scopes budget live network = option_map_or Puts (scope_question l live network) (Ends Converged)
+idle_next l plan budget live network = searched (next_query l network live budget)
 
 -- what a state has next: the open question, where there is one
 abbrev pub next_at : Language → Terms → List Answer → State → Next
 next_at l terms t (Idle network end) = idle_next l terms.plan terms.budget (kept l t network) network
-next_at l terms t (Halving e set replies network walk) = puts_or Collapsed (open_question l (Halving e set replies network walk))
-next_at l terms t (Choosing s choices network walk) = puts_or Collapsed (open_question l (Choosing s choices network walk))
-next_at l terms t (Walking set walk network) = puts_or Collapsed (open_question l (Walking set walk network))
 next_at l terms t (Over network) = Ends Collapsed
+next_at l terms t state = option_map_or Puts (open_question l state) (Ends Collapsed)
 
 abbrev pub next_in : Language → Terms → List Answer → Reading → Option Next
 next_in l terms t (Stray number) = None
@@ -100,10 +80,7 @@ ended closing events rest = record { text = []; closing = closing; events = even
 abbrev pub event_heard : Assignment → Reply → Option Event
 event_heard q (Said reply) = Some (answer_event q reply)
 event_heard q TakenBack = Some event.Back
-event_heard q Stopped = None
-event_heard q Ended = None
-event_heard q Overlong = None
-event_heard q Unread = None
+event_heard q reply = None
 
 -- how it goes on after what was heard
 abbrev pub heard_on : (List Event → List ℕ → Option Ran) → List Event → Assignment → List ℕ → Reply → Option Ran
@@ -113,9 +90,6 @@ heard_on again events q rest Stopped = Some (ended Suspended events rest)
 heard_on again events q rest Ended = Some (ended Suspended events rest)
 heard_on again events q rest Overlong = Some (ended LineTooLong events rest)
 heard_on again events q rest Unread = Some (ended Unreadable events rest)
-
-abbrev pub turned_on : (List Event → List ℕ → Option Ran) → List Event → Assignment → Turned → Option Ran
-turned_on again events q turned = option_map (after_text turned.text) (heard_on again events q turned.heard.rest turned.heard.reply)
 
 abbrev pub put_on : (Assignment → Option Ran) → List Event → List ℕ → Option Next → Option Ran
 put_on put events bytes None = None
@@ -130,7 +104,9 @@ number_on l events = length (standing_on l events) + 1
 unfoldable pub ran : Turns → Language → Terms → ℕ → List Event → List ℕ → Option Ran
 ran turns l terms zero events bytes = None
 ran turns l terms (suc count) events bytes =
-    put_on (λ q. turned_on (ran turns l terms count) events q (turns l (number_on l events) q bytes)) events bytes (next_on l terms events)
+    put_on
+    (λ q. let turned = turns l (number_on l events) q bytes in option_map (after_text turned.text) (heard_on (ran turns l terms count) events q turned.heard.rest turned.heard.reply))
+    events bytes (next_on l terms events)
 
 -- the run of some number of turns
 pub record Runs (turns : Turns) (l : Language) (terms : Terms) (events : List Event) (bytes : List ℕ) (run : Ran) : Type 0 where

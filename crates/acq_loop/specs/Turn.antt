@@ -1,18 +1,5 @@
 -- One turn of the loop, and turns one after another.
-use Rattle.std.specs.Prelude.{◌≡◌, List, [], ◌∷◌, ℕ, Bool, IsFalse, Option}
-use Rattle.std.specs.Option.{ForSome}
-use Rattle.acq_io.specs.Streams.{AddsFront}
-use Rattle.assign.specs.Assignment.{Assignment}
-use Rattle.assign.specs.declared.events.Event.{Event}
-use Rattle.disk_model.specs.declared.disk.Disk.{Ghosts as DiskOf}
-use Rattle.language.specs.Language.{Language}
-use Rattle.par_screen.specs.Eighths.{AreMadeFor}
-use Rattle.query_gen.specs.declared.place.Place.{Place}
-use Rattle.session_store.specs.Keeps.{LosesNone}
-use Rattle.session_store.specs.declared.keep.Keep.{Ghosts as KeepOf}
-use Rattle.target_oracle.specs.Teaching.{TeachesOn}
-use Rattle.target_oracle.specs.Turns.{Turns}
-use Rattle.target_oracle.specs.declared.teacher.Told.{Told}
+use Rattle.acq_loop.specs.Prelude.{◌≡◌, List, [], ◌∷◌, ℕ, Bool, IsFalse, Option, ForSome, AddsFront, Assignment, Event, DiskOf, Language, AreMadeFor, Place, LosesNone, KeepOf, TeachesOn, Turns, Told}
 use Rattle.acq_loop.specs.Driven.{next_lines}
 use Rattle.acq_loop.specs.Run.{next_on}
 use Rattle.acq_loop.specs.declared.terms.Terms.{Terms}

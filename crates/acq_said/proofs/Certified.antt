@@ -1,5 +1,6 @@
 -- What `certify` says of a session.
-use Rattle.acq_said.proofs.Prelude.{◌≡◌, ◌≤◌, ◌∙◌, ℕ, Bool, true, false, List, length, Option, Some, None, Result, Ok, Err, refl, sym, ap, subst, arith, All, IfOk, Answer, Event, Plan, Certificate, verdict, certificate_of, made, IsConfirmed, CertFault, Candidate, Language, IsLanguage, IsQuestion, IsCovered, IsNetwork, standing_on, opened_as, IsVocabulary, Stands, knowledge_of, Session, ChecksOut, IsAtEnd, MakesGood, TellsEnd, certificate_said, if_at_end, IsReading, checked_said, verdict_said, IsDone, terms_with, network_after, Next, Puts, Ends, Converged, Collapsed, Undecided, Suspended, LineTooLong, Unreadable, JournalFull, Saying, saying, learned_in, IsReached, carried, few_answers, reached, Terms}
+use Rattle.acq_said.proofs.Prelude.{◌≡◌, ◌≤◌, ◌∙◌, ℕ, Bool, true, false, List, length, Option, Some, None, Result, Ok, Err, refl, sym, ap, subst, arith, All, IfOk, Answer, Event, Plan, Certificate, verdict, certificate_of, made, IsConfirmed, CertFault, Candidate, Language, IsLanguage, IsQuestion, IsCovered, IsNetwork, standing_on, opened_as, IsVocabulary, Stands, knowledge_of, Session, ◌≢◌, MakesGood, TellsEnd, certificate_said, if_at_end, checked_said, verdict_said, IsDone, terms_with, state_after, Next, next_after, Puts, Ends, Converged, Collapsed, Undecided, Suspended, LineTooLong, Unreadable, JournalFull, Saying, saying, learned_in, IsReached, carried, few_answers, reached, Terms}
+use Rattle.acq_said.proofs.Spoken.{IsReading}
 use Rattle.cert_check.specs.Texts.{confirmed_text}
 use Rattle.cert_check.proofs.MadeBack.{made_is_confirmed}
 use Rattle.cert_check.proofs.OneText.{not_both, one_certificate}
@@ -15,12 +16,12 @@ reached_so session l plan t lang planned stands =
     carried (λ m p. IsReached m p t) k.lang l k.plan plan lang planned (reached session t stands)
 
 -- what a check confirms is read as nothing else, and said to be confirmed
-checks_out : (text : List ℕ) (cert : Certificate) → IsConfirmed text cert → ChecksOut text cert
-checks_out text cert is = record { confirmed = is; says = go }
-  where
-    go : (reading : Result Certificate CertFault) → IsReading text reading → checked_said reading ≡ saying (confirmed_text cert) ending.Done
-    go (Ok other) read = ap (λ c. verdict_said c (verdict c)) (one_certificate text other cert read is.read) ∙ ap (verdict_said cert) is.yes
-    go (Err fault) refused = absurd (not_both text cert fault is.read refused)
+checks_out : (text : List ℕ) (cert : Certificate) → IsConfirmed text cert → (reading : Result Certificate CertFault) → IsReading text reading → checked_said reading ≡ saying (confirmed_text cert) ending.Done
+checks_out text cert is (Ok other) read = ap (λ c. verdict_said c (verdict c)) (one_certificate text other cert read is.read) ∙ ap (verdict_said cert) is.yes
+checks_out text cert is (Err fault) refused = absurd (not_both text cert fault is.read refused)
+
+abbrev network_after : Language → Plan → List Event → List Candidate
+network_after l plan events = learned_in (state_after l plan (standing_on l events))
 
 -- The language, the network and the answers of a session that has converged are those to which its events lead.
 module _ (l : Language) (plan : Plan) (events : List Event) (budget : ℕ) (m : Language) (list : List Candidate) (answers : List Answer) (lang : m ≡ l) (same : list ≡ network_after l plan events) (stand : answers ≡ standing_on l events) where
@@ -51,9 +52,9 @@ module _ (l : Language) (plan : Plan) (events : List Event) (budget : ℕ) (m : 
       let learned : done.network ≡ network = sym (ap learned_in done.idle) in
       let right : IsLanguage l = subst IsLanguage lang lawful in
       let few = few_answers l plan t right there in
-      checks_out text (certificate_of l network t)
-      (made_is_confirmed voc l network t budget text right described (subst (λ (n : List Candidate). IsNetwork l n) learned done.converged.lawful) (subst (λ (n : List Candidate). IsCovered l n t) learned done.covered)
-      (all_questions l plan right t there) (all_valued l plan right t there) (omega (arith, few)) h)
+      let confirmed = made_is_confirmed voc l network t budget text right described (subst (λ (n : List Candidate). IsNetwork l n) learned done.converged.lawful) (subst (λ (n : List Candidate). IsCovered l n t) learned done.covered)
+      (all_questions l plan right t there) (all_valued l plan right t there) (omega (arith, few)) h in
+      (confirmed, checks_out text (certificate_of l network t) confirmed)
 
   pub certificate_so : (voc : List ℕ) → certificate_said (made voc m list answers budget) ≡ certificate_said (made voc l (network_after l plan events) (standing_on l events) budget)
   certificate_so voc = λ i. certificate_said (made voc (lang i) (same i) (stand i) budget)
@@ -62,7 +63,7 @@ module _ (l : Language) (plan : Plan) (events : List Event) (budget : ℕ) (m : 
 pub told_done : (l : Language) (terms : Terms) (t : List Answer) (b : Bool) → b ≡ true → TellsEnd l terms t b → IsDone l terms t
 told_done l terms t b is = subst (TellsEnd l terms t) is
 
-pub told_more : (l : Language) (terms : Terms) (t : List Answer) (b : Bool) → b ≡ false → TellsEnd l terms t b → IsAtEnd l terms t → ⊥
+pub told_more : (l : Language) (terms : Terms) (t : List Answer) (b : Bool) → b ≡ false → TellsEnd l terms t b → next_after l terms t ≢ Some (Ends Converged)
 told_more l terms t b is = subst (TellsEnd l terms t) is
 
 -- ---- what is said, by what comes next
@@ -74,15 +75,8 @@ pub end_said : (next : Option Next) (certificate other : Saying) → next ≡ at
 end_said next certificate other is = sym (ap (λ n. if_at_end n certificate other) is)
 
 pub more_said : (next : Option Next) (certificate other : Saying) → (next ≡ at_end → ⊥) → other ≡ if_at_end next certificate other
-more_said None certificate other more = refl
-more_said (Some (Puts q)) certificate other more = refl
 more_said (Some (Ends Converged)) certificate other more = absurd (more refl)
-more_said (Some (Ends Collapsed)) certificate other more = refl
-more_said (Some (Ends Undecided)) certificate other more = refl
-more_said (Some (Ends Suspended)) certificate other more = refl
-more_said (Some (Ends LineTooLong)) certificate other more = refl
-more_said (Some (Ends Unreadable)) certificate other more = refl
-more_said (Some (Ends JournalFull)) certificate other more = refl
+more_said next certificate other more = refl
 
 -- what follows where a call answers Ok
 pub ok_so : {A E : Type 0} (said : Result A E) {fact other : Type 0} → (fact → other) → IfOk said (λ _. fact) → IfOk said (λ _. other)

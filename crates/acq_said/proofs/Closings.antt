@@ -1,5 +1,6 @@
 -- The endings of the loop and those of the program.
-use Rattle.acq_said.proofs.Prelude.{◌≡◌, ◌∙◌, sym, ap, Option, None, Some, Result, Ok, Err, Put, Failed, Memory, ending_of, Drove, Ending}
+use Rattle.acq_said.proofs.Prelude.{◌≡◌, ◌∙◌, sym, ap, Option, None, Some, Result, Ok, Err, Put, Failed, Memory, ending_of, Drove, Ending, ℕ, List, IsErr, MatchOption, Answer, Language, Closing, closing_text, Terms}
+use Rattle.acq_io.specs.Streams.{Adds, AddsFront}
 use Rattle.acq_loop.specs.declared.driving.Drove.TheVariants as drove
 use Rattle.acq_loop.specs.declared.ending.Ending.TheVariants as ending
 
@@ -62,3 +63,13 @@ read_said how end so is = same_ok end ending.ReadFault (sym so ∙ ap ending_of 
 
 pub disk_said : (how : Drove) (end : Ending) → ending_of how ≡ okay end → how ≡ drove.DiskFault → end ≡ ending.DiskFault
 disk_said how end so is = same_ok end ending.DiskFault (sym so ∙ ap ending_of is)
+
+-- ---- the last lines
+
+-- they were written, where there are any
+abbrev pub AddsLast : Language → Terms → List Answer → (written written' : Option (List ℕ)) → Option Closing → Type 0
+AddsLast l terms t written written' o = MatchOption o (written' ≡ written) (λ closing. Adds written written' (closing_text l terms t closing))
+
+-- a front of them was
+abbrev pub AddsLastFront : Language → Terms → List Answer → (written written' : Option (List ℕ)) → Result Ending Put → Option Closing → Type 0
+AddsLastFront l terms t written written' end o = MatchOption o ((written' ≡ written) × IsErr end) (λ closing. AddsFront written written' (closing_text l terms t closing))

@@ -1,42 +1,29 @@
 -- What a run over a journal has done, of its opening and its loop.
-use Rattle.acq_said.proofs.Prelude.{◌≡◌, ◌⊎◌, ◌+◌, ◌≤◌, ℕ, Bool, List, [], ◌∷◌, ◌++◌, Option, Some, Result, Ok, Err, refl, sym, ◌∙◌, ap, subst, inl, inr, ⊎_elim, arith, append_cancel_left, IfOk, OnErr, IsSome, ForSome, append-nil, DiskOf, Put, AreReadingCalls, Assignment, Event, Plan, LeavesOnly, joined, Language, IsLanguage, OpensWith, OpensWithin, SaysSession, LeavesNow, bytes_told, calls_of, IsRaisedOn, AreEventCalls, IsGrown, Persists, FailsWith, HavePlaces, plan_of, voc_of, events_of, IsThere, is_raised_in, opens_there, Store, SFault, IsVocabulary, BreaksRun, Turns, Told, IsAdded, run_laws, Loses, point_of, terms_with, Tries, GoesOn, Ending, untold, Unsaid}
+use Rattle.acq_said.proofs.Prelude.{◌≡◌, ◌⊎◌, ◌+◌, ◌≤◌, ℕ, Bool, List, [], ◌∷◌, ◌++◌, Option, Some, Result, Ok, Err, refl, sym, ◌∙◌, ap, subst, inl, inr, ⊎_elim, arith, append_cancel_left, IfOk, OnErr, IsSome, ForSome, append-nil, DiskOf, Put, AreReadingCalls, Assignment, Event, Plan, LeavesOnly, joined, Language, IsLanguage, OpensWith, OpensWithin, SaysSession, LeavesNow, bytes_told, calls_of, IsRaisedOn, AreEventCalls, IsGrown, Persists, FailsWith, HavePlaces, plan_of, voc_of, events_of, IsThere, is_raised_in, opens_there, Store, SFault, IsVocabulary, BreaksRun, Turns, Told, IsAdded, run_laws, Loses, point_of, terms_with, Tries, GoesOn, Ending, untold, Saying, Unsaid, Opened, Holds, opened_as, lang_of, SaysOver, AllFault, MatchResult, IsSaid, voc_refused}
 use Rattle.acq_io.specs.declared.streams.Put.TheVariants as put
+use Rattle.answer_journal.specs.Synced.{IsSynced}
+use Rattle.session_store.specs.Opened.{IsSession}
+use Rattle.session_store.specs.Opening.{NotOpened}
 use Rattle.answer_journal.specs.declared.fault.JFault.TheVariants as journal
 use Rattle.session_store.specs.declared.fault.SFault.TheVariants as store
 use Rattle.acq_loop.proofs.Added.{placed_event}
+use Rattle.voc_read.specs.declared.fault.VocFault.TheVariants as vocs
+use Rattle.acq_said.specs.Making.{IsMade, IsNotMade}
 use Rattle.acq_said.proofs.Closings.{okay, same_ok, err_ok}
+use Rattle.acq_said.proofs.Spoken.{ok_any}
 use Rattle.acq_loop.specs.declared.ending.Ending.TheVariants as ending
 use Rattle.acq_said.specs.declared.said.Unsaid.TheVariants as unsaid
+
+-- a person may give any answer
+abbrev pub any_answer : Language → Assignment → Told → Type 0
+any_answer l q told = Unit {0}
 
 abbrev pub IsDisk : Result Ending Put → Type 0
 IsDisk got = got ≡ Ok ending.DiskFault
 
 other_ending : (e : Ending) → (e ≡ ending.DiskFault) ⊎ (e ≡ ending.DiskFault → ⊥)
-other_ending (ending.Converged m) = inr (λ e. cc)
-other_ending ending.Done = inr (λ e. cc)
-other_ending (ending.Usage fault) = inr (λ e. cc)
-other_ending (ending.VocRefused fault) = inr (λ e. cc)
-other_ending (ending.JournalRefused fault) = inr (λ e. cc)
-other_ending (ending.Collapsed m) = inr (λ e. cc)
-other_ending (ending.Undecided m) = inr (λ e. cc)
-other_ending (ending.Suspended m) = inr (λ e. cc)
-other_ending ending.LineTooLong = inr (λ e. cc)
-other_ending ending.Unreadable = inr (λ e. cc)
-other_ending ending.ReadFault = inr (λ e. cc)
-other_ending ending.WriteFault = inr (λ e. cc)
 other_ending ending.DiskFault = inl refl
-other_ending ending.JournalFull = inr (λ e. cc)
-other_ending (ending.NotFresh m) = inr (λ e. cc)
-other_ending (ending.TargetRefused fault) = inr (λ e. cc)
-other_ending ending.NothingBack = inr (λ e. cc)
-other_ending (ending.ReduceSpent i) = inr (λ e. cc)
-other_ending ending.CnfTooLarge = inr (λ e. cc)
-other_ending (ending.ModelRefused fault) = inr (λ e. cc)
-other_ending (ending.NotConverged m) = inr (λ e. cc)
-other_ending (ending.CertRefused fault) = inr (λ e. cc)
-other_ending (ending.Flawed flaw) = inr (λ e. cc)
-other_ending (ending.CertUnread fault) = inr (λ e. cc)
-other_ending ending.Memory = inr (λ e. cc)
+other_ending e = inr (λ is. cc)
 
 -- whether the disk failed
 pub disk_failed : (got : Result Ending Put) → IsDisk got ⊎ (IsDisk got → ⊥)
@@ -54,21 +41,20 @@ module _ {D : Type 0} (disk : DiskOf D) where
       IfOk got (Tries turns lang (terms_with plan budget) events later left written left' written') →
       OnErr got (BreaksRun turns lang (terms_with plan budget) events later left written left' written') →
       P lang plan events later →
-      (on : GoesOn disk turns may budget left written left' written' first new got) × P on.lang on.plan on.events on.later
+      (on : GoesOn disk turns may budget left written left' written' first new got) × P on.of.lang on.of.plan on.of.events on.later
   goes_on_with P turns may budget left written left' written' first old new got plan voc events later open_then lang was is says some read places still opening few knows grown calls lawful added on persists fails tries part has =
+      let o : Opened = opened_as plan voc events lang in
+      let session : IsSession o = record { read = read; places = places } in
+      let holds : ForSome (disk.content first) (λ bytes. Holds bytes o) = λ bytes told. record { says = says bytes told; session = session } in
+      let held : (bytes : List ℕ) × Holds bytes o = (some.0, record { says = some.1; session = session }) in
       ⊎_elim
       (λ is.
       let f = fails is in
       let last : List Event = f.event ∷ [] in (
         record {
-          plan = plan;
-          voc = voc;
-          events = events;
-          says = says;
-          some = some;
-          lang = lang;
-          read = read;
-          places = places;
+          of = o;
+          opens = holds;
+          some = held;
           later = later;
           added = added;
           tries = tries;
@@ -95,14 +81,9 @@ module _ {D : Type 0} (disk : DiskOf D) where
       let same : later ++ [] ≡ later = append-nil later in
       let Within : List Event → Type 0 = λ l. LeavesOnly disk old new (OpensWithin plan voc events l) in (
         record {
-          plan = plan;
-          voc = voc;
-          events = events;
-          says = says;
-          some = some;
-          lang = lang;
-          read = read;
-          places = places;
+          of = o;
+          opens = holds;
+          some = held;
           later = later;
           added = added;
           tries = tries;
@@ -145,17 +126,10 @@ unspoken o why = o ≡ Some why
 
 -- the disk failed, or memory was wanting
 pub untold_is : (fault : SFault) (why : Unsaid) → unspoken (untold fault) why → ((fault ≡ store.Journal journal.DiskFault) × (why ≡ unsaid.DiskFault)) ⊎ (why ≡ unsaid.Memory)
-untold_is (store.Journal journal.SessionThere) why is = absurd (let no : ⊥ = cc in no)
-untold_is (store.Journal journal.NoSession) why is = absurd (let no : ⊥ = cc in no)
-untold_is (store.Journal journal.NotAJournal) why is = absurd (let no : ⊥ = cc in no)
-untold_is (store.Journal (journal.Damaged at)) why is = absurd (let no : ⊥ = cc in no)
-untold_is (store.Journal journal.TooManyRecords) why is = absurd (let no : ⊥ = cc in no)
-untold_is (store.Journal journal.Full) why is = absurd (let no : ⊥ = cc in no)
 untold_is (store.Journal journal.DiskFault) why is = inl (refl, let same : why ≡ unsaid.DiskFault = cc in same)
 untold_is (store.Journal journal.Memory) why is = inr (let same : why ≡ unsaid.Memory = cc in same)
-untold_is (store.Voc fault) why is = absurd (let no : ⊥ = cc in no)
-untold_is (store.Stray i) why is = absurd (let no : ⊥ = cc in no)
 untold_is store.Memory why is = inr (let same : why ≡ unsaid.Memory = cc in same)
+untold_is fault why is = absurd (let no : ⊥ = cc in no)
 
 pub untold_read : (fault : SFault) (why : Unsaid) → unspoken (untold fault) why → why ≡ unsaid.ReadFault → ⊥
 untold_read fault why is read = ⊎_elim (λ failed. let no : unsaid.ReadFault ≡ unsaid.DiskFault = sym read ∙ failed.1 in cc) (λ want. let no : unsaid.ReadFault ≡ unsaid.Memory = sym read ∙ want in cc) (untold_is fault why is)
@@ -164,6 +138,10 @@ pub untold_disk : (fault : SFault) (why : Unsaid) → unspoken (untold fault) wh
 untold_disk fault why is disk = ⊎_elim (λ failed. failed.0) (λ want. let no : unsaid.DiskFault ≡ unsaid.Memory = sym disk ∙ want in absurd (let bad : ⊥ = cc in bad)) (untold_is fault why is)
 
 -- ---- making a journal
+
+-- what was made of the input's bytes
+abbrev pub MakesOf : {D : Type 0} (disk : DiskOf D) → Plan → D → D → Result (List ℕ) AllFault → Result Saying Unsaid → Type 0
+MakesOf disk plan old new read said = MatchResult read (λ voc. IsMade disk plan voc old new said ⊎ IsNotMade disk plan voc old new said) (λ e. IsSaid (voc_refused vocs.TooLong) said)
 
 -- what is left of a store that was just made
 pub made_now : {D : Type 0} (disk : DiskOf D) (new : D) (made : Store) (plan : Plan) (voc : List ℕ) (bytes : List ℕ) → disk.content new ≡ Some bytes →
@@ -192,3 +170,47 @@ opened_now disk new opened bytes told there = record {
   tells = told;
   each = λ c left. opens_there opened.journal (plan_of opened) (voc_of opened) (events_of opened) (disk.may_leave new) bytes c there left;
 }
+
+-- the session of a store
+abbrev pub opened_in : Store → Opened
+opened_in store = opened_as (plan_of store) (voc_of store) (events_of store) (lang_of store)
+
+pub holds_session : (bytes : List ℕ) (store : Store) → SaysSession bytes (plan_of store) (voc_of store) (events_of store) → IsSession (opened_in store) → Holds bytes (opened_in store)
+holds_session bytes store says session = record { says = says; session = session }
+
+-- what was said of a journal that was opened, or of one that wasn't
+module _ {D : Type 0} (disk : DiskOf D) (Says : Result Opened SFault → Result Saying Unsaid → Type 0) (IsTrueOf : Opened → Type 0) (old new : D) (said : Result Saying Unsaid)
+    (same : disk.content new ≡ disk.content old) (any_moment : LeavesOnly disk old new (disk.may_leave old)) (calls : ForSome (disk.content old) (AreReadingCalls 5 (disk.calls old) (disk.calls new))) where
+  pub over_opened : (store : Store) → ForSome (disk.content old) (λ bytes. SaysSession bytes (plan_of store) (voc_of store) (events_of store)) → ((bytes : List ℕ) × SaysSession bytes (plan_of store) (voc_of store) (events_of store)) →
+      IsVocabulary (voc_of store) (lang_of store) → HavePlaces (lang_of store) (plan_of store) (events_of store) →
+      ((bytes : List ℕ) → disk.content new ≡ Some bytes → IsThere store.journal (plan_of store) (voc_of store) (events_of store) (disk.may_leave new) bytes) →
+      Says (Ok (opened_in store)) said → IfOk said (λ _. IsTrueOf (opened_in store)) → SaysOver disk Says IsTrueOf old new said
+  over_opened store opens some read places sits says so =
+      let session : IsSession (opened_in store) = record { read = read; places = places } in
+      record {
+        opening = Ok (opened_in store);
+        opens = λ bytes told. holds_session bytes store (opens bytes told) session;
+        some = (some.0, holds_session some.0 store some.1 session);
+        session = session;
+        says = says;
+        so = so;
+        same = same;
+        any_moment = any_moment;
+        now = λ bytes told. let was = same ∙ told in opened_now disk new store bytes was (sits bytes was);
+        calls = calls;
+      }
+
+  pub over_refused : (fault : SFault) → ForSome (disk.content old) (λ bytes. NotOpened bytes fault) → ((bytes : List ℕ) × NotOpened bytes fault) →
+      ForSome (disk.content old) (IsSynced disk (fault ≡ store.Journal journal.DiskFault) old new) ⊎ ((fault ≡ store.Memory) × (new ≡ old)) → Says (Err fault) said → SaysOver disk Says IsTrueOf old new said
+  over_refused fault opens some synced says = record {
+    opening = Err fault;
+    opens = opens;
+    some = some;
+    session = tt;
+    says = says;
+    so = ok_any said tt;
+    same = same;
+    any_moment = any_moment;
+    now = synced;
+    calls = calls;
+  }

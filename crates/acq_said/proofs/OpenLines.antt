@@ -1,9 +1,13 @@
 -- The lines of open candidates, one more at a time.
-use Rattle.acq_said.proofs.Prelude.{◌≡◌, ℕ, ◌+◌, Bool, true, false, cond, List, [], ◌∷◌, ◌++◌, map, refl, sym, ◌∙◌, ap, arith, if◌then◌else◌, flat_map, append-nil, filter-append, Candidate, Language, candidates_on, Remembered, is_open, open_line}
+use Rattle.acq_said.proofs.Prelude.{◌≡◌, ℕ, ◌+◌, Bool, true, false, cond, List, [], ◌∷◌, ◌++◌, map, refl, sym, ◌∙◌, ap, arith, if◌then◌else◌, flat_map, append-nil, append_assoc, filter-append, Candidate, Language, candidates_on, Remembered, is_open, open_line}
 use Rattle.std.specs.List.{filter}
 use Rattle.std.proofs.lemmas.List.Concat.{flat_map-append}
 use Rattle.std.proofs.lemmas.List.FromFn.{map-range_with_len_more}
 use Rattle.assign.specs.Sets.{numbers}
+
+-- a line, and what comes behind it
+pub line_then : (word number rest : List ℕ) → word ++ (number ++ (10 ∷ rest)) ≡ (word ++ (number ++ 10 ∷ [])) ++ rest
+line_then word number rest = sym (append_assoc word (number ++ 10 ∷ []) rest ∙ ap (λ (x : List ℕ). word ++ x) (append_assoc number (10 ∷ []) rest))
 
 abbrev pub at : ℕ → ℕ → Candidate
 at s r = record { scope = s; rel = r }

@@ -1,10 +1,12 @@
 -- What was written where it could not be written whole.
-use Rattle.acq_said.proofs.Prelude.{◌≡◌, ◌⊎◌, ℕ, List, [], ap, sym, subst, refl, ◌∙◌, Option, Some, None, Result, Ok, Err, inl, inr, arith, IfOk, OnErr, option_map, EndsWith, Gathered, gathered, Gives, TakesOfLine, first_line_of, Put, Failed, Memory, AllFault, Event, Plan, Language, IsLanguage, standing_on, Idle, read_on, line_turn, Turns, IsVocabulary, Ran, Runs, next_on, ended_as, BreaksRun, ClosesInPart, CutOff, next_lines, point_of, Tries, closing_text, refusal_text, whole_text, Terms, IsWithin, run_exists, run_laws, closing_of, ending_of, Drove, Ending}
+use Rattle.acq_said.proofs.Prelude.{◌≡◌, ◌⊎◌, ℕ, List, [], ap, sym, subst, refl, ◌∙◌, Option, Some, None, Result, Ok, Err, inl, inr, arith, IfOk, OnErr, option_map, Gathered, gathered, Gives, TakesOfLine, first_line_of, Put, Failed, Memory, AllFault, Event, Plan, Language, IsLanguage, standing_on, Idle, read_on, line_turn, Turns, IsVocabulary, Ran, Runs, next_on, ended_as, BreaksRun, next_lines, point_of, Tries, Closing, closing_text, refusal_text, Terms, IsWithin, run_exists, run_laws, closing_of, ending_of, Drove, Ending}
+use Rattle.acq_said.proofs.Spoken.{EndsWith}
 use Rattle.acq_io.specs.Streams.{Adds, AddsFront, TakesSome}
 use Rattle.acq_io.proofs.TakenLemmas.{adds_none}
 use Rattle.target_oracle.proofs.Fronts.{front_longer, front_none, front_then}
 use Rattle.voc_read.specs.declared.fault.VocFault.{VocFault}
-use Rattle.acq_said.specs.Trying.{Breaks, BreaksOff, IsRefusal, IsTextOfRefusal, IsTextOfRun, Acquires, ReadsVocabulary}
+use Rattle.acq_said.specs.Trying.{Breaks, BreaksOff, IsRefusal, IsTextOfRun, Acquires, ReadsVocabulary}
+use Rattle.acq_loop.proofs.Short.{CutOff, RanTo, whole_text}
 use Rattle.acq_said.proofs.Closings.{okay, not_loops, read_by}
 use Rattle.acq_loop.proofs.Taking.{takes_same}
 use Rattle.acq_said.proofs.Tries.{cut_off}
@@ -69,17 +71,18 @@ module _ (turns : Turns) (l : Language) (terms : Terms) (start events : List Eve
       record { run = run.run; runs = run.runs; text = front_longer written written' run.run.text (closing_text l terms (standing_on l run.run.events) run.run.closing) run.text }
 
   -- these, and a front of the last ones
-  closed_part : ClosesInPart turns l terms start events left written left' written' → (bytes : List ℕ) → left ≡ Some bytes → IsPartOfRun turns l terms start bytes written written'
-  closed_part closes bytes from =
-      let run = closes.ran bytes from in
+  closed_part : (closing : Closing) (middle : Option (List ℕ)) → RanTo turns l terms closing (point_of start left written) (point_of events left' middle) → AddsFront middle written' (closing_text l terms (standing_on l events) closing) →
+      (bytes : List ℕ) → left ≡ Some bytes → IsPartOfRun turns l terms start bytes written written'
+  closed_part closing middle ran adds bytes from =
+      let run = ran bytes from in
       let last : List ℕ = closing_text l terms (standing_on l run.run.events) run.run.closing in
-      let same : last ≡ closing_text l terms (standing_on l events) closes.closing = (λ i. closing_text l terms (standing_on l (run.events i)) (run.closing i)) in
-      let Last : List ℕ → Type 0 = AddsFront closes.middle written' in
-      record { run = run.run; runs = run.runs; text = front_then written closes.middle written' run.run.text last run.written (subst Last (sym same) closes.adds) }
+      let same : last ≡ closing_text l terms (standing_on l events) closing = (λ i. closing_text l terms (standing_on l (run.events i)) (run.closing i)) in
+      let Last : List ℕ → Type 0 = AddsFront middle written' in
+      record { run = run.run; runs = run.runs; text = front_then written middle written' run.run.text last run.written (subst Last (sym same) adds) }
 
   part_of_run : BreaksRun turns l terms start events left written left' written' → (bytes : List ℕ) → left ≡ Some bytes → IsPartOfRun turns l terms start bytes written written'
   part_of_run (inl cut) = cut_part cut
-  part_of_run (inr closes) = closed_part closes
+  part_of_run (inr (closing, middle, ran, adds)) = closed_part closing middle ran adds
 
 -- ---- the text of the program
 
@@ -107,9 +110,9 @@ module _ (terms : Terms) (left rest written written' : Option (List ℕ)) (got :
   pub breaks_refusal : (fault : VocFault) → IsRefusal fault got → AddsFront written written' (refusal_text fault) → Breaks terms left written written'
   breaks_refusal fault refused adds bytes from =
       let given = given_of (first_line_of 4194304) left rest got bytes gives from in
-      let Q : Gathered → Type 0 = λ first. IsTextOfRefusal first (refusal_text fault) in
-      let is : Q (first_line_of 4194304 bytes) = subst Q (sym given.gives) (record { fault = fault; refused = refused; is = refl }) in
-      inr (record { whole = refusal_text fault; is = inl is; text = adds })
+      let Q : Gathered → Type 0 = λ first. IsRefusal fault first.got in
+      let is : Q (first_line_of 4194304 bytes) = subst Q (sym given.gives) refused in
+      inr (refusal_text fault, inl (fault, is, refl), adds)
 
   pub breaks_run : (line : List ℕ) (lang : Language) (events : List Event) (left' : Option (List ℕ)) → got ≡ Ok line → IsVocabulary line lang → BreaksRun line_turn lang terms [] events rest written left' written' → Breaks terms left written written'
   breaks_run line lang events left' is vocabulary broken bytes from =
@@ -119,15 +122,15 @@ module _ (terms : Terms) (left rest written written' : Option (List ℕ)) (got :
       let Q : Gathered → Type 0 = λ first. IsTextOfRun terms first whole in
       let run : Q (first_line_of 4194304 bytes) =
       subst Q (sym given.gives) (record { line = line; got = is; lang = lang; vocabulary = vocabulary; run = part.run; runs = part.runs; is = refl }) in
-      inr (record { whole = whole; is = inr run; text = part.text })
+      inr (whole, inr run, part.text)
 
 -- what was done about a vocabulary is what the program has done
 pub acquires_by : (terms : Terms) (left rest written left' written' : Option (List ℕ)) (line : List ℕ) (lang : Language) (events : List Event) (end : Ending) →
     Gives (first_line_of 4194304) left rest (Ok line) → IsVocabulary line lang → (end ≡ ending.DiskFault → ⊥) → Tries line_turn lang terms [] events rest written left' written' end → Acquires terms left written left' written' end
 acquires_by terms left rest written left' written' line lang events end gives vocabulary never tries = go end never tries
   where
-    reads : (e : Ending) → Tries line_turn lang terms [] events rest written left' written' e → ReadsVocabulary terms left written left' written' e
-    reads e tried = record { line = line; rest = rest; gives = gives; lang = lang; vocabulary = vocabulary; events = events; tries = tried }
+    reads : (e : Ending) → Tries line_turn lang terms [] events rest written left' written' e → ReadsVocabulary left (λ l es over. Tries line_turn l terms [] es over written left' written' e)
+    reads e tried = record { line = line; rest = rest; gives = gives; lang = lang; vocabulary = vocabulary; events = events; did = tried }
 
     broken : (e : Ending) (how : Drove) → ending_of how ≡ okay e → e ≡ ending.ReadFault → closing_of how ≡ None
     broken e how so is = ap closing_of (read_by how e so is)
@@ -139,28 +142,13 @@ acquires_by terms left rest written left' written' line lang events end gives vo
     go (ending.Suspended m) never tried = reads (ending.Suspended m) tried
     go ending.LineTooLong never tried = reads ending.LineTooLong tried
     go ending.Unreadable never tried = reads ending.Unreadable tried
-    go (ending.Usage fault) never tried = absurd (not_loops tried.how (ending.Usage fault) tried.is refl)
-    go (ending.VocRefused fault) never tried = absurd (not_loops tried.how (ending.VocRefused fault) tried.is refl)
-    go ending.Done never tried = absurd (not_loops tried.how ending.Done tried.is refl)
-    go (ending.JournalRefused fault) never tried = absurd (not_loops tried.how (ending.JournalRefused fault) tried.is refl)
-    go ending.ReadFault never tried = record {
-      text = breaks_run terms left rest written written' (Ok line) gives line lang events left' refl vocabulary (inl (cut_off line_turn lang terms [] events rest written left' written' ending.ReadFault tried (broken ending.ReadFault tried.how tried.is refl)));
-      step = inr (reads ending.ReadFault tried);
-    }
-    go ending.WriteFault never tried = absurd (not_loops tried.how ending.WriteFault tried.is refl)
+    go ending.ReadFault never tried = (
+      breaks_run terms left rest written written' (Ok line) gives line lang events left' refl vocabulary (inl (cut_off line_turn lang terms [] events rest written left' written' ending.ReadFault tried (broken ending.ReadFault tried.how tried.is refl))),
+      inr (reads ending.ReadFault tried),
+    )
     go ending.DiskFault never tried = absurd (never refl)
     go ending.JournalFull never tried = reads ending.JournalFull tried
-    go ending.Memory never tried = absurd (not_loops tried.how ending.Memory tried.is refl)
-    go (ending.NotFresh m) never tried = absurd (not_loops tried.how (ending.NotFresh m) tried.is refl)
-    go (ending.TargetRefused fault) never tried = absurd (not_loops tried.how (ending.TargetRefused fault) tried.is refl)
-    go ending.NothingBack never tried = absurd (not_loops tried.how ending.NothingBack tried.is refl)
-    go (ending.ReduceSpent i) never tried = absurd (not_loops tried.how (ending.ReduceSpent i) tried.is refl)
-    go ending.CnfTooLarge never tried = absurd (not_loops tried.how ending.CnfTooLarge tried.is refl)
-    go (ending.ModelRefused fault) never tried = absurd (not_loops tried.how (ending.ModelRefused fault) tried.is refl)
-    go (ending.NotConverged m) never tried = absurd (not_loops tried.how (ending.NotConverged m) tried.is refl)
-    go (ending.CertRefused fault) never tried = absurd (not_loops tried.how (ending.CertRefused fault) tried.is refl)
-    go (ending.Flawed flaw) never tried = absurd (not_loops tried.how (ending.Flawed flaw) tried.is refl)
-    go (ending.CertUnread fault) never tried = absurd (not_loops tried.how (ending.CertUnread fault) tried.is refl)
+    go e never tried = absurd (not_loops tried.how e tried.is refl)
 
 pub acquires_in : (terms : Terms) (left rest written left' written' : Option (List ℕ)) (line : List ℕ) (lang : Language) (got : Result Ending Put) →
     Gives (first_line_of 4194304) left rest (Ok line) → IsVocabulary line lang → IfOk got (λ (e : Ending). e ≡ ending.DiskFault → ⊥) →
@@ -174,7 +162,7 @@ pub breaks_in : (terms : Terms) (left rest written left' written' : Option (List
 breaks_in terms left rest written left' written' line lang (Ok end) gives vocabulary broken = tt
 breaks_in terms left rest written left' written' line lang (Err e) gives vocabulary (events, broken) = record {
   text = breaks_run terms left rest written written' (Ok line) gives line lang events left' refl vocabulary broken;
-  step = inr (inr (record { line = line; rest = rest; gives = gives; lang = lang; vocabulary = vocabulary; events = events; breaks = broken }));
+  step = inr (inr (record { line = line; rest = rest; gives = gives; lang = lang; vocabulary = vocabulary; events = events; did = broken }));
 }
 
 pub breaks_refused : (terms : Terms) (left rest written written' : Option (List ℕ)) (first : Result (List ℕ) AllFault) (fault : VocFault) (got : Result Ending Put) →
@@ -182,7 +170,7 @@ pub breaks_refused : (terms : Terms) (left rest written written' : Option (List 
 breaks_refused terms left rest written written' first fault (Ok end) gives refused adds = tt
 breaks_refused terms left rest written written' first fault (Err e) gives refused adds = record {
   text = breaks_refusal terms left rest written written' first gives fault refused adds;
-  step = inr (inl (record { fault = fault; refused = record { got = first; gives = gives; refused = refused }; adds = adds }));
+  step = inr (inl (fault, first, gives, refused, adds));
 }
 
 -- nothing was written
@@ -190,7 +178,7 @@ pub unbegun : (terms : Terms) (left left' written : Option (List ℕ)) → Takes
 unbegun terms left left' written taken = record { text = λ bytes from. inl refl; step = inl (record { silent = refl; taken = taken }) }
 
 pub unread : (terms : Terms) (left left' written : Option (List ℕ)) → TakesOfLine 4194304 left left' → Acquires terms left written left' written ending.ReadFault
-unread terms left left' written taken = record { text = λ bytes from. inl refl; step = inl (record { silent = refl; taken = inl taken }) }
+unread terms left left' written taken = (λ bytes from. inl refl, inl (record { silent = refl; taken = inl taken }))
 
 -- the ending of the program, by what was answered
 pub acquires_as : (terms : Terms) (left written left' written' : Option (List ℕ)) (got : Result Ending Put) → IfOk got (Acquires terms left written left' written') → OnErr got (BreaksOff terms left written left' written') → Acquires terms left written left' written' (ended_as got)

@@ -6,7 +6,7 @@ pub use Rattle.std.proofs.lemmas.List.Elements.{All-cons, All-get_or, All-nil, A
 pub use Rattle.std.specs.Fmt.{decimal}
 pub use Rattle.std.specs.List.{flat_map, list_any}
 pub use Rattle.std.specs.Option.{ForSome, option_map}
-pub use Rattle.std.specs.Prelude.{All, IfOk, IfSome, IsErr, IsSome, OnErr, codes, filter, if◌then◌else◌, nat_le, ◌≢◌}
+pub use Rattle.std.specs.Prelude.{All, IfOk, IfSome, IsErr, IsSome, MatchOption, MatchResult, OnErr, codes, filter, if◌then◌else◌, nat_le, ◌≢◌}
 pub use Rattle.std.specs.String.{string_bytes}
 pub use Rattle.acq_io.specs.Whole.{Gathered, Gives, TakesOfLine, first_line_of, gathered}
 unfoldable pub use Rattle.acq_io.specs.Whole.{all_of}
@@ -19,11 +19,11 @@ pub use Rattle.acq_loop.proofs.Running.{IsWithin, room_not_full, run_exists}
 pub use Rattle.acq_loop.proofs.Standings.{carried, few_answers, reached, room_unless, run_laws, stands_at}
 pub use Rattle.acq_loop.specs.Added.{IsAdded, MayEnd}
 pub use Rattle.acq_loop.specs.Closings.{closing_of, ending_of}
-pub use Rattle.acq_loop.specs.Driven.{CutOff, Drives, HasEnded, IsDone, LeavesNothing, Loses, Point, RanTo, TellsOpen, next_lines}
+pub use Rattle.acq_loop.specs.Driven.{Drives, HasEnded, IsDone, LeavesNothing, Loses, Point, TellsOpen, next_lines}
 pub use Rattle.acq_loop.specs.Points.{point_of, terms_with}
 pub use Rattle.acq_loop.specs.Program.{ended_as}
 pub use Rattle.acq_loop.specs.Run.{Closing, Collapsed, Converged, Ends, JournalFull, LineTooLong, Next, Puts, Ran, Runs, Suspended, Undecided, Unreadable, is_full, next_after, next_on}
-pub use Rattle.acq_loop.specs.Texts.{closing_text, collapsed_text, converged_text, full_text, learned_after, learned_in, open_candidates, open_line, refusal_text, refused_text, suspended_text, too_long_text, undecided_text, whole_text}
+pub use Rattle.acq_loop.specs.Texts.{closing_text, ending_line, learned_after, learned_in, open_candidates, open_line, refusal_text}
 pub use Rattle.acq_loop.specs.declared.driving.Drove.{Drove}
 pub use Rattle.acq_loop.specs.declared.ending.Ending.{Ending}
 pub use Rattle.acq_loop.specs.declared.terms.Terms.{Terms}
@@ -60,7 +60,7 @@ pub use Rattle.session_store.proofs.Replaying.{IsBusy, busy_from, seen_next}
 pub use Rattle.session_store.specs.Held.{IsWide}
 pub use Rattle.session_store.specs.Keeping.{AreEventCalls, FailsWith, IsGrown, Persists, calls_for, calls_of}
 pub use Rattle.session_store.specs.Left.{IsRaisedOn, LeavesNow, OpensWith, OpensWithOrWithout, OpensWithin, SaysSession, bytes_told}
-pub use Rattle.session_store.specs.Opened.{Holds, Opened, OpensOnce, RefusesOpening as RefusesBytes, RefusesOpening, is_of_bytes, opened_as}
+pub use Rattle.session_store.specs.Opened.{Holds, Opened, OpensOnce, RefusesOpening, is_of_bytes, opened_as}
 pub use Rattle.session_store.specs.Replay.{HavePlaces, IsAnswer, Recorded, all_seen, answer_in, answer_to, recorded, recorded_from, seen, standing_numbers}
 pub use Rattle.session_store.specs.Store.{IsThere, events_of, is_raised_in, lang_of, opens_there, plan_of, question_of, voc_of}
 pub use Rattle.session_store.specs.declared.fault.SFault.{SFault}
@@ -70,22 +70,22 @@ pub use Rattle.target_oracle.specs.Turns.{Turns}
 pub use Rattle.target_oracle.specs.declared.teacher.Told.{Told}
 pub use Rattle.voc_read.specs.Vocabulary.{IsVocabulary}
 pub use Rattle.acq_said.specs.Asks.{AsksTruly, asked_said}
-pub use Rattle.acq_said.specs.Breaks.{BreaksRun, ClosesInPart}
-pub use Rattle.acq_said.specs.Certifying.{ChecksOut, IsAtEnd, MakesGood, TellsEnd, certificate_said, if_at_end, unconverged_said}
-pub use Rattle.acq_said.specs.Confirming.{IsCheck, IsCheckOf, IsReading, checked_said, verdict_said}
-pub use Rattle.acq_said.specs.Endings.{AddsLast, AddsLastFront, HasAsked, Says, SaysEnd, SaysEndBy, SaysPart, Tries}
-pub use Rattle.acq_said.specs.Exactly.{HoldsSession, IsBrokenOff, OpensExactly, RunEnds}
+pub use Rattle.acq_said.specs.Breaks.{BreaksRun}
+pub use Rattle.acq_said.specs.Certifying.{MakesGood, TellsEnd, certificate_said, if_at_end}
+pub use Rattle.acq_said.specs.Confirming.{IsCheck, IsCheckOf, checked_said, verdict_said}
+pub use Rattle.acq_said.specs.Endings.{HasAsked, Says, SaysEnd, SaysEndBy, SaysPart, Tries}
+pub use Rattle.acq_said.specs.Exactly.{IsBrokenOff}
 pub use Rattle.acq_said.specs.Inputs.{SaysOfInput, SaysOfRead}
-pub use Rattle.acq_said.specs.Journals.{Refuses, RefusesBy, refused_said, untold}
-pub use Rattle.acq_said.specs.Making.{Makes, RefusesMaking, made_said, voc_refused}
-pub use Rattle.acq_said.specs.Over.{EndsAsOpened, OpensAs, SaidEnds, SaysOpening, SaysOver}
-pub use Rattle.acq_said.specs.Printing.{clauses_said, too_large_text}
-pub use Rattle.acq_said.specs.Reducing.{IsReduced, IsSpent, ReducesTruly, first_spent, network_after, network_of, network_said, sifted_said, spent_first, unreduced_said}
+pub use Rattle.acq_said.specs.Journals.{Refuses, refused_said, untold}
+pub use Rattle.acq_said.specs.Making.{made_said, voc_refused}
+pub use Rattle.acq_said.specs.Over.{EndsAsOpened, SaysOver}
+pub use Rattle.acq_said.specs.Printing.{clauses_said}
+pub use Rattle.acq_said.specs.Reducing.{IsReduced, ReducesTruly, first_spent, network_of, unreduced_said}
 pub use Rattle.acq_said.specs.Running.{GoesOn, RunsOn}
-pub use Rattle.acq_said.specs.Said.{EndsWith, HasWritten, IsSaid, SaidSo, SaysSo, or_silent, silent_end}
+pub use Rattle.acq_said.specs.Said.{HasWritten, IsSaid, SaysSo, or_silent, silent_end}
 pub use Rattle.acq_said.specs.Saying.{Saying, saying}
-pub use Rattle.acq_said.specs.Shows.{answer_line, answer_lines, back_line, is_back, known_part, plan_text, reading_text, said_part, show_text, state_text, take_backs}
-pub use Rattle.acq_said.specs.Solving.{SolveEnds, Solves, solution_said, solved_said}
-pub use Rattle.acq_said.specs.TakingBack.{EndsBack, LeavesBack, TakesBack, TakesNone, back_on, back_said, nothing_text, taken_text, takes_on}
+pub use Rattle.acq_said.specs.Shows.{answer_line, answer_lines, back_line, is_back, plan_text, reading_text, show_text, take_backs}
+pub use Rattle.acq_said.specs.Solving.{Solves, solution_said, solved_said}
+pub use Rattle.acq_said.specs.TakingBack.{EndsBack, TakesBack, back_on, back_said}
 pub use Rattle.acq_said.specs.declared.ask.Ask.{Ask}
 pub use Rattle.acq_said.specs.declared.said.Unsaid.{Unsaid}

@@ -1,13 +1,16 @@
 -- What `reduce` says of a session's network.
-use Rattle.acq_said.proofs.Prelude.{◌≡◌, ◌⊎◌, ◌∙◌, ℕ, zero, suc, ◌<◌, ◌≤◌, List, [], length, Some, None, Result, refl, sym, ap, subst, inl, inr, arith, IfOk, IsErr, cases_lt, Event, Plan, Candidate, Language, standing_on, ReduceFault, Stands, knowledge_of, Session, state_after, Opened, IsReduced, IsSpent, ReducesTruly, first_spent, network_after, network_of, network_said, sifted_said, spent_first, unreduced_said, Saying, saying, learned_in, stands_at}
+use Rattle.acq_said.proofs.Prelude.{◌≡◌, ◌⊎◌, ◌∙◌, ℕ, zero, suc, ◌<◌, ◌≤◌, List, [], length, Some, None, Result, refl, sym, ap, subst, inl, inr, arith, IfOk, IsErr, cases_lt, Event, Plan, Candidate, Language, standing_on, ReduceFault, Stands, knowledge_of, Session, state_after, Learned, Opened, opened_as, IsReduced, ReducesTruly, first_spent, network_of, unreduced_said, Saying, saying, learned_in, stands_at, Option, if◌then◌else◌}
 use Rattle.std.proofs.lemmas.Result.{IfOk-from_err}
+use Rattle.std.specs.Option.{option_map_or, option_or}
+use Rattle.query_gen.specs.Questions.{is_spent}
 use Rattle.fd_solver.specs.declared.outcome.Outcome.{Outcome}
 use Rattle.fd_solver.specs.declared.outcome.Outcome.TheVariants.{Found, Absent, Spent}
 use Rattle.net_reduce.specs.Reduction.{IsReduction, Sifts}
-use Rattle.net_reduce.specs.Searched.{AreDecided, HasCause, IsSearched, IsSpentAt, outcome_at}
+use Rattle.net_reduce.specs.Searched.{AreDecided, HasCause, IsSearched, IsSpentAt, left_at, outcome_at}
 use Rattle.net_reduce.specs.Texts.{reduced_text, spent_text}
 use Rattle.net_reduce.specs.declared.fault.ReduceFault.TheVariants as unreduced
 use Rattle.net_reduce.proofs.Sifting.{reduced_is_target}
+use Rattle.session_store.specs.declared.keep.Keep.{Ghosts as KeepOf}
 use Rattle.acq_said.proofs.Spoken.{ok_any}
 use Rattle.acq_loop.specs.declared.ending.Ending.TheVariants as ending
 
@@ -15,12 +18,29 @@ use Rattle.acq_loop.specs.declared.ending.Ending.TheVariants as ending
 
 -- what a session has learned is that to which its answers lead
 pub learned_as : (session : Session) (l : Language) (plan : Plan) (events : List Event) → (knowledge_of session).lang ≡ l → (knowledge_of session).plan ≡ plan → Stands session (standing_on l events) →
-    (knowledge_of session).network.list ≡ network_after l plan events
+    (knowledge_of session).network.list ≡ learned_in (state_after l plan (standing_on l events))
 learned_as session l plan events lang planned stands =
     let there = stands_at session (standing_on l events) stands in
     sym (ap learned_in (sym (λ i. state_after (lang i) (planned i) (standing_on l events)) ∙ there.at) ∙ there.network)
 
+-- the session of a keeper
+abbrev pub of_keeper : {K D : Type 0} → KeepOf K D → K → Opened
+of_keeper P keep = opened_as (P.plan keep) (P.voc keep) (P.record_of keep) (P.lang keep)
+
+pub learned_of : (o : Opened) (session : Session) (net : Learned) → net ≡ (knowledge_of session).network → (knowledge_of session).lang ≡ o.lang → (knowledge_of session).plan ≡ o.plan → Stands session (standing_on o.lang o.events) → net.list ≡ network_of o
+learned_of o session net is lang planned stands = ap (λ (n : Learned). n.list) is ∙ learned_as session o.lang o.plan o.events lang planned stands
+
 -- ---- the first item whose search is spent
+
+-- the number of an item, where its search was spent, unless there is one already
+abbrev spent_first : Option ℕ → Outcome → ℕ → Option ℕ
+spent_first o outcome number = option_or o (if is_spent outcome then Some number else None)
+
+abbrev pub sifted_said : Language → List Candidate → ℕ → Option ℕ → Saying
+sifted_said l network budget o = option_map_or (λ i. saying (spent_text i) (ending.ReduceSpent i)) o (saying (reduced_text l (left_at l network budget (length network)) (length network)) ending.Done)
+
+abbrev network_said : ℕ → Language → List Candidate → Saying
+network_said budget l network = sifted_said l network budget (first_spent l network budget (length network))
 
 module _ (l : Language) (network : List Candidate) (budget : ℕ) where
   none_spent : (i : ℕ) → AreDecided l network budget i → first_spent l network budget i ≡ None
@@ -80,10 +100,10 @@ module _ (budget : ℕ) (o : Opened) (m : Language) (list : List Candidate) (lan
         said = sym (part_here o.lang (network_of o) budget part slice);
       }
 
-  spent_truly : (number : ℕ) → IsSpentAt m list budget number → IsSpent budget o
+  spent_truly : (number : ℕ) → IsSpentAt m list budget number → ReducesTruly budget o
   spent_truly number at =
       let here = moved (λ l n. IsSpentAt l n budget number) at in
-      record { number = number; at = here; said = sym (spent_here o.lang (network_of o) budget number here) }
+      inr (number, here, sym (spent_here o.lang (network_of o) budget number here))
 
   -- by the fault; where memory is wanting, nothing is said
   pub unreduced_so : {E : Type 0} (r : Result Saying E) (f : ReduceFault) → HasCause m list budget f → IfOk r (λ said. said ≡ unreduced_said f) → (f ≡ unreduced.Memory → IsErr r) → IfOk r (λ said. said ≡ network_said budget o.lang (network_of o))
@@ -91,5 +111,5 @@ module _ (budget : ℕ) (o : Opened) (m : Language) (list : List Candidate) (lan
   unreduced_so r unreduced.Memory cause says silent = IfOk-from_err r (λ said. said ≡ network_said budget o.lang (network_of o)) (silent refl)
 
   pub unreduced_truly : {E : Type 0} (r : Result Saying E) (f : ReduceFault) → HasCause m list budget f → (f ≡ unreduced.Memory → IsErr r) → IfOk r (λ _. ReducesTruly budget o)
-  unreduced_truly r (unreduced.Spent number) cause silent = ok_any r (inr (spent_truly number cause))
+  unreduced_truly r (unreduced.Spent number) cause silent = ok_any r (spent_truly number cause)
   unreduced_truly r unreduced.Memory cause silent = IfOk-from_err r (λ _. ReducesTruly budget o) (silent refl)

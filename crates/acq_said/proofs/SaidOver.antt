@@ -1,5 +1,6 @@
 -- What a command that only says something has done, and by which endings.
-use Rattle.acq_said.proofs.Prelude.{◌≡◌, ◌∙◌, ◌⊎◌, ℕ, Bool, true, false, List, length, Option, Some, None, Result, Ok, Err, refl, sym, ap, inl, inr, ⊎_elim, DiskOf, all_of, Put, AllFault, Assignment, Certificate, verdict, made, CertFault, Candidate, Language, standing_on, model_of, cnf_of, CnfFault, Opened, OpensOnce, RefusesOpening, SFault, asked_said, certificate_said, if_at_end, unconverged_said, IsCheckOf, checked_said, verdict_said, IsBrokenOff, SaysOfRead, Refuses, EndsAsOpened, OpensAs, SaidEnds, SaysOpening, SaysOver, terms_with, clauses_said, ended_as, first_spent, network_of, sifted_said, Next, Puts, Ends, Converged, Collapsed, Undecided, Suspended, LineTooLong, Unreadable, JournalFull, next_after, HasWritten, IsSaid, SaidSo, SaysSo, Saying, SolveEnds, Solves, solution_said, solved_said, Ask, Ending, Unsaid}
+use Rattle.acq_said.proofs.Prelude.{◌≡◌, ◌∙◌, ◌⊎◌, ℕ, Bool, true, false, List, length, Option, Some, None, Result, Ok, Err, refl, sym, ap, inl, inr, ⊎_elim, DiskOf, all_of, Put, AllFault, Assignment, Certificate, verdict, made, CertFault, Candidate, Language, standing_on, model_of, cnf_of, CnfFault, Opened, OpensOnce, RefusesOpening, SFault, asked_said, certificate_said, if_at_end, IsCheckOf, checked_said, verdict_said, IsBrokenOff, SaysOfRead, Refuses, EndsAsOpened, SaysOver, terms_with, clauses_said, ended_as, first_spent, network_of, Next, Puts, Ends, Converged, Collapsed, Undecided, Suspended, LineTooLong, Unreadable, JournalFull, next_after, HasWritten, IsSaid, SaysSo, Saying, saying, ForSome, [], ◌∷◌, ◌++◌, codes, decimal, Solves, solution_said, solved_said, Ask, Ending, Unsaid, MatchResult, Holds, made_said}
+use Rattle.acq_said.proofs.Reduced.{sifted_said}
 use Rattle.acq_io.specs.declared.streams.Put.TheVariants as put
 use Rattle.acq_io.specs.declared.whole.AllFault.TheVariants as all
 use Rattle.cert_check.specs.declared.fault.MakeFault.{MakeFault}
@@ -9,18 +10,36 @@ use Rattle.net_cnf.specs.declared.model_fault.ModelFault.{ModelFault}
 use Rattle.acq_said.specs.declared.ask.Ask.TheVariants as ask
 use Rattle.acq_loop.specs.declared.ending.Ending.TheVariants as ending
 use Rattle.acq_said.specs.declared.said.Unsaid.TheVariants as unsaid
+use Rattle.session_store.specs.Opening.{NotOpened}
+use Rattle.acq_said.specs.Making.{IsMaking}
+use Rattle.acq_said.specs.Over.{EndsAsSaid}
 use Rattle.acq_said.proofs.Closings.{okay}
-use Rattle.acq_said.proofs.Exactly.{told_of_bytes}
-use Rattle.acq_said.proofs.Spoken.{closed_end, ends_said, input_end, refuses_end, silently}
+use Rattle.acq_said.proofs.Spoken.{SaysOpening, SaidSo, closed_end, ends_said, input_end, refuses_end, silently}
 
 -- ---- exactly when
+
+-- the bytes hold this session, or this is why they aren't opened
+abbrev pub OpensAs : List ℕ → Result Opened SFault → Type 0
+OpensAs bytes opening = MatchResult opening (Holds bytes) (NotOpened bytes)
+
+-- it ends as is said of what the input and the file are
+abbrev pub EndsAsMade : (bytes file : List ℕ) → Ending → Type 0
+EndsAsMade bytes file end = EndsAsSaid (IsMaking (all_of 4194304 bytes).got file) made_said end
+
+-- where the disk tells its bytes, it broke off, or ends as is said
+abbrev pub SaidEnds : (Opened → Saying) → (content : Option (List ℕ)) → Ending → Type 0
+SaidEnds says content end = ForSome content (λ file. IsBrokenOff end ⊎ EndsAsOpened says file end)
+
+-- how many answers stand, where they haven't converged
+abbrev pub unconverged_said : ℕ → Saying
+unconverged_said m = saying (codes "refused not converged " ++ (decimal m ++ 10 ∷ [])) (ending.NotConverged m)
 
 pub said_end : OpensOnce → (says : Opened → Saying) (file : List ℕ) (said : Result Saying Unsaid) (written written' : Option (List ℕ)) (end : Ending) (opening : Result Opened SFault) → OpensAs file opening → SaysOpening says opening said → HasWritten said written written' (okay end) → IsBrokenOff end ⊎ EndsAsOpened says file end
 said_end once says file said written written' end (Ok o) opens is has =
     inr (record { what = Ok o; there = opens; only = λ other holds. once file other (Ok o) holds opens; is = ends_said (says o) said written written' end is has })
 said_end once says file said written written' end (Err f) opens is has =
     ⊎_elim (λ broken. inl broken)
-    (λ refused. let why : RefusesOpening file f = (told_of_bytes f refused.0, opens) in inr (record { what = Err f; there = why; only = λ other holds. once file other (Err f) holds why; is = refused.1 }))
+    (λ refused. let why : RefusesOpening file f = (refused.0, opens) in inr (record { what = Err f; there = why; only = λ other holds. once file other (Err f) holds why; is = refused.1 }))
     (refuses_end f said written written' end is has)
 
 module _ {D : Type 0} (disk : DiskOf D) where
@@ -29,7 +48,7 @@ module _ {D : Type 0} (disk : DiskOf D) where
   over_ends once says IsTrueOf written written' old new (Err put.Memory) over = λ file told. inl (inr (inr (inr refl)))
   over_ends once says IsTrueOf written written' old new (Ok end) (said, over, has) = λ file told. said_end once says file said written written' end over.opening (over.opens file told) over.says has
 
-  pub solve_ends : OpensOnce → (left written left' written' : Option (List ℕ)) (old new : D) (got : Result Ending Put) → SaysSo (SaysOver disk (Solves left left') (λ o. Unit {0}) old new) written written' got → SolveEnds left (disk.content old) (ended_as got)
+  pub solve_ends : OpensOnce → (left written left' written' : Option (List ℕ)) (old new : D) (got : Result Ending Put) → SaysSo (SaysOver disk (Solves left left') (λ o. Unit {0}) old new) written written' got → ForSome left (λ bytes. SaidEnds (solved_said (all_of 4194304 bytes).got) (disk.content old) (ended_as got))
   solve_ends once left written left' written' old new (Err put.Failed) over = λ bytes from file told. inl (inr (inl refl))
   solve_ends once left written left' written' old new (Err put.Memory) over = λ bytes from file told. inl (inr (inr (inr refl)))
   solve_ends once left written left' written' old new (Ok end) (said, over, has) = λ bytes from file told. go bytes from file over.opening (over.opens file told) over.says
@@ -76,15 +95,8 @@ certificate_own (Ok text) = refl
 certificate_own (Err fault) = refl
 
 end_own : (next : Option Next) (r : Result (List ℕ) MakeFault) (m : ℕ) → is_own (if_at_end next (certificate_said r) (unconverged_said m)).ending ≡ true
-end_own None r m = refl
-end_own (Some (Puts q)) r m = refl
 end_own (Some (Ends Converged)) r m = certificate_own r
-end_own (Some (Ends Collapsed)) r m = refl
-end_own (Some (Ends Undecided)) r m = refl
-end_own (Some (Ends Suspended)) r m = refl
-end_own (Some (Ends LineTooLong)) r m = refl
-end_own (Some (Ends Unreadable)) r m = refl
-end_own (Some (Ends JournalFull)) r m = refl
+end_own next r m = refl
 
 pub asked_own : (a : Ask) (o : Opened) → is_own (asked_said a o).ending ≡ true
 asked_own ask.Show o = refl

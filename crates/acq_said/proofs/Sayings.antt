@@ -1,11 +1,11 @@
 -- What is said of a session at its end.
-use Rattle.acq_said.proofs.Prelude.{◌≡◌, ◌∙◌, ℕ, List, Option, Some, None, Result, Ok, Err, sym, ap, subst, refl, filter, IfOk, OnErr, IsErr, Put, Answer, Candidate, Language, candidates, Remembered, is_open, Idle, At, state_after, Session, Stands, knowledge_of, closing_of, ending_of, HasEnded, TellsOpen, AddsLast, AddsLastFront, Says, SaysEnd, SaysEndBy, SaysPart, terms_with, Closing, Converged, Undecided, EndsWith, HasWritten, silent_end, Saying, saying, closing_text, converged_text, undecided_text, open_candidates, learned_in, learned_after, Drove, Ending, Unsaid, Terms, learned_is}
+use Rattle.acq_said.proofs.Prelude.{◌≡◌, ◌∙◌, ◌++◌, ℕ, List, flat_map, network_text, Option, Some, None, Result, Ok, Err, sym, ap, subst, refl, filter, IfOk, OnErr, IsErr, Put, Answer, Candidate, Language, candidates, Remembered, is_open, Idle, At, state_after, Session, Stands, knowledge_of, closing_of, ending_of, HasEnded, TellsOpen, Says, SaysEnd, SaysEndBy, SaysPart, terms_with, Closing, Converged, Undecided, HasWritten, silent_end, Saying, saying, closing_text, ending_line, open_candidates, open_line, learned_in, learned_after, Drove, Ending, Unsaid, Terms, learned_is}
 use Rattle.session_laws.specs.Walk.{WalkEnd}
 use Rattle.acq_loop.specs.declared.driving.Drove.TheVariants as drove
-use Rattle.acq_said.proofs.Closings.{okay}
+use Rattle.acq_said.proofs.Closings.{AddsLast, AddsLastFront, okay}
 use Rattle.acq_loop.proofs.OpenCandidates.{opens_are}
 use Rattle.acq_said.proofs.Parts.{ends_part}
-use Rattle.acq_said.proofs.Spoken.{ends_as}
+use Rattle.acq_said.proofs.Spoken.{EndsWith, ends_as}
 
 -- ---- the text
 
@@ -20,16 +20,16 @@ module _ (session : Session) (budget : ℕ) (t : List Answer) (stands : Stands s
   learned : (network : List Candidate) (ended : Option WalkEnd) → state_after l (knowledge_of session).plan t ≡ At (Idle network ended) → (knowledge_of session).network.list ≡ learned_after l terms t
   learned network ended at = learned_is session t network ended stands at ∙ sym (ap learned_in at)
 
-  pub converged_so : (m : ℕ) → HasEnded l terms t (drove.Converged m) → converged_text l (knowledge_of session).network.list m ≡ closing_text l terms t Converged
-  converged_so m done = let net = learned done.found.network done.found.end done.found.idle in (λ i. converged_text l (net i) (done.number i))
+  pub converged_so : (m : ℕ) → HasEnded l terms t (drove.Converged m) → ending_line Converged m ++ network_text l (knowledge_of session).network.list ≡ closing_text l terms t Converged
+  converged_so m done = let net = learned done.found.network done.found.end done.found.idle in (λ i. ending_line Converged (done.number i) ++ network_text l (net i))
 
   pub undecided_so : (screen : Remembered) (m : ℕ) → HasEnded l terms t (drove.Undecided m) → TellsOpen l terms t screen →
-      undecided_text l (knowledge_of session).network.list (filter (is_open l screen) (candidates l)) m ≡ closing_text l terms t Undecided
+      ending_line Undecided m ++ (network_text l (knowledge_of session).network.list ++ flat_map (open_line l) (filter (is_open l screen) (candidates l))) ≡ closing_text l terms t Undecided
   undecided_so screen m done tells =
       let net = learned done.found.network done.found.end done.found.idle in
       let opens : filter (is_open l screen) (candidates l) ≡ open_candidates l terms t (learned_after l terms t) =
       opens_are l terms t done.found.network done.found.end screen done.found.idle tells ∙ ap (open_candidates l terms t) (sym (ap learned_in done.found.idle)) in
-      (λ i. undecided_text l (net i) (opens i) (done.number i))
+      (λ i. ending_line Undecided (done.number i) ++ (network_text l (net i) ++ flat_map (open_line l) (opens i)))
 
 -- ---- what was written of it
 

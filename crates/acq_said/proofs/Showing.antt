@@ -1,7 +1,6 @@
 -- The lines of answers, one more at a time.
-use Rattle.acq_said.proofs.Prelude.{◌≡◌, ◌∙◌, ℕ, suc, ◌+◌, ◌-◌, ◌<◌, ◌≤◌, Bool, false, List, [], ◌∷◌, ◌++◌, length, take, get_or, refl, sym, ap, subst, arith, append_assoc, length-append, length-take-le, codes, append-nil, length-map, Assignment, Answer, Event, Plan, Language, variable_count, standing_on, IsAskedIn, Stands, knowledge_of, Session, learned_in, stands_at, State, Idle, Halving, Choosing, Walking, Over, At, state_after, IsAnswer, Recorded, all_seen, answer_to, recorded_from, seen, seen_next, IsBusy, answer_line, answer_lines, state_text, show_text, take_backs}
+use Rattle.acq_said.proofs.Prelude.{◌≡◌, ◌∙◌, ℕ, suc, ◌+◌, ◌-◌, ◌<◌, ◌≤◌, Bool, false, List, [], ◌∷◌, ◌++◌, length, take, get_or, refl, sym, ap, subst, arith, append_assoc, length-append, length-take-le, codes, append-nil, length-map, Assignment, Answer, Event, Plan, Language, variable_count, standing_on, IsAskedIn, Stands, knowledge_of, Session, learned_in, stands_at, State, Idle, Halving, Choosing, Walking, Over, At, state_after, IsAnswer, Recorded, all_seen, answer_to, recorded_from, seen, seen_next, IsBusy, answer_line, answer_lines, reading_text, show_text, take_backs}
 use Rattle.assign.specs.declared.events.Event.TheVariants as event
-use Rattle.acq_said.specs.Showing.{shown_text}
 
 lines_more : (l : Language) (k : ℕ) (t : List Answer) (a : Answer) → answer_lines l k (t ++ a ∷ []) ≡ answer_lines l k t ++ answer_line l (k + length t) a
 lines_more l k [] a = append-nil (answer_line l k a) ∙ ap (λ n. answer_line l n a) (let e : k ≡ k + 0 = omega arith in e)
@@ -39,16 +38,14 @@ pub is_answer : (e : Event) (q : Assignment) (reply : Bool) → e ≡ event.Answ
 is_answer e q reply is = subst IsAnswer (sym is) tt
 
 -- where a question is open, it says so
-pub asking_text : (l : Language) (plan : Plan) (t : List Answer) (q : Assignment) (state : State) → IsBusy state → IsAskedIn l plan t q state → codes "asking" ≡ state_text state
+pub asking_text : (l : Language) (plan : Plan) (t : List Answer) (q : Assignment) (state : State) → IsBusy state → IsAskedIn l plan t q state → codes "asking" ≡ reading_text (At state)
 asking_text l plan t q (Idle network end) busy asked = absurd (busy network end refl)
-asking_text l plan t q (Halving e set replies network walk) busy asked = refl
-asking_text l plan t q (Choosing s choices network walk) busy asked = refl
-asking_text l plan t q (Walking set walk network) busy asked = refl
 asking_text l plan t q (Over network) busy asked = absurd asked
+asking_text l plan t q state busy asked = refl
 
 -- what is shown of a session is what its answers lead to
 pub shown_as : (session : Session) (l : Language) (plan : Plan) (events given : List Event) → (knowledge_of session).lang ≡ l → (knowledge_of session).plan ≡ plan → given ≡ events → Stands session (standing_on l events) →
-    show_text (knowledge_of session).lang (knowledge_of session).plan (standing_on (knowledge_of session).lang given) (take_backs given) (knowledge_of session).network.list ≡ shown_text l plan events
+    show_text (knowledge_of session).lang (knowledge_of session).plan (standing_on (knowledge_of session).lang given) (take_backs given) (knowledge_of session).network.list ≡ show_text l plan (standing_on l events) (take_backs events) (learned_in (state_after l plan (standing_on l events)))
 shown_as session l plan events given lang planned same stands =
     let k = knowledge_of session in
     let t : List Answer = standing_on l events in

@@ -1,12 +1,19 @@
 -- How a command ends by what it says.
-use Rattle.acq_said.proofs.Prelude.{◌≡◌, ◌∙◌, ◌⊎◌, ◌+◌, ◌<◌, ℕ, Bool, true, false, cond, List, [], length, drop, Option, Some, None, Result, Ok, Err, refl, sym, ap, subst, inl, inr, IfOk, nat_le, option_map, leb-false, Gathered, gathered, Gives, all_of, Put, AllFault, SFault, IsBrokenOff, SaysOfInput, RefusesBy, Refuses, refused_said, untold, EndsWith, HasWritten, IsSaid, SaidSo, SaysSo, or_silent, silent_end, Saying, Ending, Unsaid}
+use Rattle.acq_said.proofs.Prelude.{◌≡◌, ◌∙◌, ◌⊎◌, ◌+◌, ◌<◌, ℕ, Bool, true, false, cond, List, [], length, drop, Option, Some, None, Result, Ok, Err, refl, sym, ap, subst, inl, inr, IfOk, nat_le, option_map, leb-false, Gathered, gathered, Gives, all_of, Put, AllFault, SFault, is_of_bytes, made_said, IsBrokenOff, SaysOfInput, Refuses, refused_said, untold, HasWritten, IsSaid, SaysSo, or_silent, silent_end, Saying, Ending, Unsaid, MatchOption, saying, MatchResult, Certificate, CertFault, Opened}
 use Rattle.acq_io.specs.declared.streams.Put.TheVariants as put
+use Rattle.cert_check.specs.Reading.{IsRead, IsUnreadable}
 use Rattle.acq_io.specs.declared.whole.AllFault.TheVariants as all
+use Rattle.answer_journal.specs.declared.fault.JFault.TheVariants as journal
+use Rattle.session_store.specs.declared.fault.SFault.TheVariants as store
 use Rattle.acq_loop.specs.declared.ending.Ending.TheVariants as ending
 use Rattle.acq_said.specs.declared.said.Unsaid.TheVariants as unsaid
 use Rattle.acq_said.proofs.Closings.{err_ok, okay, same_ok}
 
 -- ---- what was said
+
+-- this is true of what was said; or memory was wanting, and nothing was
+abbrev pub SaidSo : (Saying → Type 0) → Result Saying Unsaid → Type 0
+SaidSo IsTrue said = MatchResult said IsTrue (λ why. why ≡ unsaid.Memory)
 
 abbrev pub silent : Unsaid → Result Saying Unsaid
 silent why = Err why
@@ -44,7 +51,18 @@ pub silent_not : {E : Type 0} (r : Result Saying E) (said : Result Saying Unsaid
 silent_not (Ok what) said why apart is so = said_silent what why (sym is ∙ so)
 silent_not (Err e) said why apart is so = apart (same_why unsaid.Memory why (sym is ∙ so))
 
+-- the bytes are this certificate, or this is why they are none
+abbrev pub IsReading : List ℕ → Result Certificate CertFault → Type 0
+IsReading bytes reading = MatchResult reading (IsRead bytes) (IsUnreadable bytes)
+
+-- of a session that was opened this is said; of a refusal, which one it is
+abbrev pub SaysOpening : (Opened → Saying) → Result Opened SFault → Result Saying Unsaid → Type 0
+SaysOpening says opening said = MatchResult opening (λ o. IsSaid (says o) said) (λ fault. Refuses fault said)
+
 -- ---- what was written
+
+abbrev pub EndsWith : Ending → List ℕ → (written written' : Option (List ℕ)) → Result Ending Put → Type 0
+EndsWith end text written written' got = HasWritten (Ok (saying text end)) written written' got
 
 -- it is as if it were written at once
 pub ends_as : (what : Saying) (said : Result Saying Unsaid) (written written' : Option (List ℕ)) (got : Result Ending Put) → IsSaid what said → HasWritten said written written' got → EndsWith what.ending what.text written written' got
@@ -72,16 +90,31 @@ silent_ends why said written written' end is has = let Written : Result Saying U
 pub silently : (why : Unsaid) (said : Result Saying Unsaid) (written written' : Option (List ℕ)) (end : Ending) → said ≡ silent why → HasWritten said written written' (okay end) → IsBrokenOff end
 silently why said written written' end is has = silent_broken why end (silent_ends why said written written' end is has)
 
+-- this is said of a fault, or nothing is
+abbrev pub RefusesBy : Option Unsaid → Saying → Result Saying Unsaid → Type 0
+RefusesBy o what said = MatchOption o (IsSaid what said) (λ why. said ≡ Err why)
+
+-- what is said of a fault of making a journal
+abbrev pub RefusesMaking : SFault → Result Saying Unsaid → Type 0
+RefusesMaking fault said = RefusesBy (untold fault) (made_said (Err fault)) said
+
+-- a fault that is told is one of the bytes
+pub told_of_bytes : (f : SFault) → untold f ≡ None → is_of_bytes f ≡ true
+told_of_bytes (store.Journal journal.DiskFault) is = absurd (let no : ⊥ = cc in no)
+told_of_bytes (store.Journal journal.Memory) is = absurd (let no : ⊥ = cc in no)
+told_of_bytes store.Memory is = absurd (let no : ⊥ = cc in no)
+told_of_bytes f is = refl
+
 -- of a fault: it broke off, or refuses the journal
-refuses_by : (f : SFault) (o : Option Unsaid) (said : Result Saying Unsaid) (written written' : Option (List ℕ)) (end : Ending) → untold f ≡ o → RefusesBy o f said → HasWritten said written written' (okay end) → IsBrokenOff end ⊎ ((untold f ≡ None) × (end ≡ ending.JournalRefused f))
-refuses_by f None said written written' end is says has = inr (is, ends_said (refused_said f) said written written' end says has)
+refuses_by : (f : SFault) (o : Option Unsaid) (said : Result Saying Unsaid) (written written' : Option (List ℕ)) (end : Ending) → untold f ≡ o → RefusesBy o (refused_said f) said → HasWritten said written written' (okay end) → IsBrokenOff end ⊎ ((is_of_bytes f ≡ true) × (end ≡ ending.JournalRefused f))
+refuses_by f None said written written' end is says has = inr (told_of_bytes f is, ends_said (refused_said f) said written written' end says has)
 refuses_by f (Some why) said written written' end is says has = inl (silently why said written written' end says has)
 
-pub refuses_end : (f : SFault) (said : Result Saying Unsaid) (written written' : Option (List ℕ)) (end : Ending) → Refuses f said → HasWritten said written written' (okay end) → IsBrokenOff end ⊎ ((untold f ≡ None) × (end ≡ ending.JournalRefused f))
+pub refuses_end : (f : SFault) (said : Result Saying Unsaid) (written written' : Option (List ℕ)) (end : Ending) → Refuses f said → HasWritten said written written' (okay end) → IsBrokenOff end ⊎ ((is_of_bytes f ≡ true) × (end ≡ ending.JournalRefused f))
 refuses_end f said written written' end says has = refuses_by f (untold f) said written written' end refl says has
 
 -- a command that didn't open a file
-pub closed_end : (written written' : Option (List ℕ)) (end : Ending) (f : SFault) → SaysSo (Refuses f) written written' (okay end) → IsBrokenOff end ⊎ ((untold f ≡ None) × (end ≡ ending.JournalRefused f))
+pub closed_end : (written written' : Option (List ℕ)) (end : Ending) (f : SFault) → SaysSo (Refuses f) written written' (okay end) → IsBrokenOff end ⊎ ((is_of_bytes f ≡ true) × (end ≡ ending.JournalRefused f))
 closed_end written written' end f (said, says, has) = refuses_end f said written written' end says has
 
 -- ---- the input

@@ -1,25 +1,34 @@
 -- What `back` says of a session, and leaves of it.
-use Rattle.acq_said.proofs.Prelude.{◌≡◌, ◌⊎◌, ◌∙◌, ℕ, zero, suc, ◌≤◌, ◌+◌, Bool, true, false, List, [], ◌∷◌, ◌++◌, Option, Some, Result, Ok, Err, refl, sym, ap, subst, inl, inr, ⊎_elim, arith, append-nil, append_cancel_left, IsSome, ForSome, DiskOf, AreReadingCalls, Put, Assignment, Event, Plan, LeavesOnly, joined, weaker, AreEventCalls, IsGrown, Persists, FailsWith, both_as, calls_for, calls_of, within_more, OpensWithin, OpensWithOrWithout, bytes_told, Opened, OpensOnce, SFault, IsBrokenOff, EndsAsOpened, SaidEnds, SaysOpening, ended_as, HasWritten, SaysSo, Saying, saying, EndsBack, LeavesBack, TakesBack, TakesNone, back_on, back_said, nothing_text, taken_text, takes_on, full_text, Ending, Unsaid}
+use Rattle.acq_said.proofs.Prelude.{◌≡◌, ◌⊎◌, ◌∙◌, ℕ, zero, suc, ◌≤◌, ◌+◌, Bool, true, false, List, [], ◌∷◌, ◌++◌, Option, Some, Result, Ok, Err, refl, sym, ap, subst, inl, inr, ⊎_elim, arith, append-nil, append_cancel_left, IsSome, ForSome, ◌≢◌, codes, LeavesNow, OpensWith, JournalFull, ending_line, DiskOf, AreReadingCalls, Put, Assignment, Event, Plan, LeavesOnly, joined, weaker, AreEventCalls, IsGrown, Persists, FailsWith, both_as, calls_for, calls_of, within_more, OpensWithin, OpensWithOrWithout, bytes_told, Opened, OpensOnce, SFault, IsBrokenOff, EndsAsOpened, ended_as, HasWritten, SaysSo, Saying, saying, EndsBack, TakesBack, back_on, back_said, decimal, Ending, Unsaid, MatchResult, IsSaid, Refuses}
 use Rattle.acq_io.specs.declared.streams.Put.TheVariants as put
 use Rattle.assign.specs.declared.events.Event.TheVariants as event
 use Rattle.acq_loop.specs.declared.ending.Ending.TheVariants as ending
 use Rattle.acq_said.specs.declared.said.Unsaid.TheVariants as unsaid
 use Rattle.acq_said.proofs.Closings.{okay}
-use Rattle.acq_said.proofs.SaidOver.{broken_own, is_own, opening_own, own_said, said_end}
-use Rattle.acq_said.proofs.Spoken.{said_silent, same_why, silent, silently, so_not}
+use Rattle.acq_said.proofs.SaidOver.{SaidEnds, broken_own, is_own, opening_own, own_said, said_end}
+use Rattle.acq_said.proofs.Spoken.{SaysOpening, said_silent, same_why, silent, silently, so_not}
 
 -- ---- what is said
 
-pub none_back : (n : ℕ) (full : Bool) → n ≡ 0 → (takes_on n full ≡ false) × (saying nothing_text ending.NothingBack ≡ back_on n full)
-none_back zero full is = (refl, refl)
+abbrev pub nothing_back : Saying
+nothing_back = saying (codes "refused nothing to take back" ++ 10 ∷ []) ending.NothingBack
+
+abbrev pub taken_said : ℕ → Saying
+taken_said m = saying (codes "took back answer " ++ (decimal m ++ 10 ∷ [])) ending.Done
+
+abbrev pub full_said : Saying
+full_said = saying (ending_line JournalFull 0) ending.JournalFull
+
+pub none_back : (n : ℕ) (full : Bool) → n ≡ 0 → ((back_on n full).ending ≢ ending.Done) × (nothing_back ≡ back_on n full)
+none_back zero full is = (λ e. cc, refl)
 none_back (suc n) full is = absurd (omega (arith, is))
 
-pub full_back : (n : ℕ) (full : Bool) → 1 ≤ n → full ≡ true → (takes_on n full ≡ false) × (saying full_text ending.JournalFull ≡ back_on n full)
+pub full_back : (n : ℕ) (full : Bool) → 1 ≤ n → full ≡ true → ((back_on n full).ending ≢ ending.Done) × (full_said ≡ back_on n full)
 full_back zero full some is = absurd (omega (arith, some))
-full_back (suc n) true some is = (refl, refl)
+full_back (suc n) true some is = (λ e. cc, refl)
 full_back (suc n) false some is = absurd (let no : ⊥ = cc in no)
 
-pub one_back : (n : ℕ) (full : Bool) → 1 ≤ n → full ≡ false → (takes_on n full ≡ true) × (saying (taken_text n) ending.Done ≡ back_on n full)
+pub one_back : (n : ℕ) (full : Bool) → 1 ≤ n → full ≡ false → ((back_on n full).ending ≡ ending.Done) × (taken_said n ≡ back_on n full)
 one_back zero full some is = absurd (omega (arith, some))
 one_back (suc n) true some is = absurd (let no : ⊥ = cc in no)
 one_back (suc n) false some is = (refl, refl)
@@ -52,12 +61,17 @@ back_reads what events later said (inr (same, inl none)) so = let no : unsaid.Me
 back_reads what events later said (inr (same, inr failed)) so = let no : unsaid.DiskFault ≡ unsaid.ReadFault = same_why unsaid.DiskFault unsaid.ReadFault (sym failed ∙ so) in cc
 
 module _ {D : Type 0} (disk : DiskOf D) where
+  pub record LeavesBack (plan : Plan) (voc : List ℕ) (events later : List Event) (old new : D) (said : Result Saying Unsaid) : Type 0 where
+    pub any_moment : ForSome (disk.content old) (λ _. LeavesOnly disk old new (λ c. disk.may_leave old c ⊎ OpensWithin plan voc events (events ++ event.Back ∷ []) c))
+    pub now : (IsLost said → ⊥) → ForSome (disk.content old) (λ _. LeavesNow disk (OpensWith plan voc later) new)
+    pub failed : IsLost said → ForSome (disk.content old) (λ _. LeavesNow disk (OpensWithOrWithout plan voc events event.Back) new)
+
   -- what a crash leaves of a take-back, of what the keeper's call left
   pub leaves_back : (was : Bool) (added : List Event) (plan : Plan) (voc : List ℕ) (what : Saying) (events later : List Event) (put : Option Assignment) (first old new : D) (said : Result Saying Unsaid) →
       disk.content old ≡ disk.content first → LeavesOnly disk first old (disk.may_leave first) → EndsBack what events later said → ForSome (disk.content old) (λ _. IsSome (disk.content new)) →
       ((IsLost said → ⊥) → ForSome (disk.content old) (λ _. Persists disk plan voc events later old new)) →
       (IsLost said → FailsWith disk was added plan voc events later put (λ lost. lost ≡ event.Back) old new) →
-      LeavesBack disk plan voc events later first new said
+      LeavesBack plan voc events later first new said
   leaves_back was added plan voc what events later put first old new said still opening ends on persists fails =
       let more : List Event = events ++ event.Back ∷ [] in
       let Within : List ℕ → Type 0 = OpensWithin plan voc events more in
@@ -115,15 +129,19 @@ module _ {D : Type 0} (disk : DiskOf D) where
 
 -- ---- how it ends
 
-none_says : (opening : Result Opened SFault) (said : Result Saying Unsaid) → TakesNone opening said → SaysOpening back_said opening said
-none_says (Ok o) said none = none.1
-none_says (Err f) said none = none
+-- why nothing was taken back
+abbrev pub Untaken : Result Opened SFault → Result Saying Unsaid → Type 0
+Untaken opening told = MatchResult opening (λ o. IsSaid (back_said o) told × ((back_said o).ending ≢ ending.Done)) (λ fault. Refuses fault told)
+
+untaken_said : (opening : Result Opened SFault) (said : Result Saying Unsaid) → Untaken opening said → SaysOpening back_said opening said
+untaken_said (Ok o) said none = none.0
+untaken_said (Err f) said none = none
 
 module _ {D : Type 0} (disk : DiskOf D) (written written' : Option (List ℕ)) (old new : D) where
   pub back_ends : OpensOnce → (got : Result Ending Put) → SaysSo (TakesBack disk old new) written written' got → SaidEnds back_said (disk.content old) (ended_as got)
   back_ends once (Err put.Failed) backs = λ file told. inl (inr (inl refl))
   back_ends once (Err put.Memory) backs = λ file told. inl (inr (inr (inr refl)))
-  back_ends once (Ok end) (said, inl none, has) = λ file told. said_end once back_said file said written written' end none.opening (none.opens file told) (none_says none.opening said none.says) has
+  back_ends once (Ok end) (said, inl none, has) = λ file told. said_end once back_said file said written written' end none.opening (none.opens file told) (untaken_said none.opening said none.says) has
   back_ends once (Ok end) (said, inr taken, has) = λ file told. go file told taken.ends
     where
       go : (file : List ℕ) → disk.content old ≡ Some file → EndsBack (back_said taken.of) taken.of.events taken.later said → IsBrokenOff end ⊎ EndsAsOpened back_said file end
@@ -132,7 +150,7 @@ module _ {D : Type 0} (disk : DiskOf D) (written written' : Option (List ℕ)) (
       go file told (inr (same, inr failed)) = inl (silently unsaid.DiskFault said written written' end failed has)
 
   pub back_own : (end : Ending) (said : Result Saying Unsaid) → TakesBack disk old new said → HasWritten said written written' (okay end) → is_own end ≡ true
-  back_own end said (inl none) has = opening_own back_said own none.opening said written written' end (none_says none.opening said none.says) has
+  back_own end said (inl none) has = opening_own back_said own none.opening said written written' end (untaken_said none.opening said none.says) has
     where
       own : (o : Opened) → is_own (back_said o).ending ≡ true
       own o = back_own_on _ _

@@ -1,11 +1,12 @@
 -- What was done about a language, of its loop and what was said.
-use Rattle.acq_said.proofs.Prelude.{◌≡◌, ◌∙◌, ℕ, true, false, List, [], sym, subst, refl, ap, Option, Some, None, Result, Ok, Err, inl, inr, ◌≢◌, IfOk, OnErr, IfSome, Put, Answer, Event, Plan, Language, standing_on, line_turn, Turns, Told, Remembered, Terms, Assignment, MayEnd, closing_of, ending_of, Point, CutOff, Drives, HasEnded, LeavesNothing, Loses, RanTo, TellsOpen, point_of, terms_with, Stands, knowledge_of, Session, carried, Drove, Ending, BreaksRun, AddsLast, AddsLastFront, HasAsked, Says, SaysPart, Tries, Closing}
+use Rattle.acq_said.proofs.Prelude.{◌≡◌, ◌∙◌, ℕ, true, false, List, [], sym, subst, refl, ap, Option, Some, None, Result, Ok, Err, inl, inr, ◌≢◌, IfOk, OnErr, IfSome, Put, Answer, Event, Plan, Language, standing_on, line_turn, Turns, Told, Remembered, Terms, Assignment, MayEnd, closing_of, ending_of, Point, Drives, HasEnded, LeavesNothing, Loses, TellsOpen, point_of, terms_with, Stands, knowledge_of, Session, carried, Drove, Ending, BreaksRun, HasAsked, Says, SaysPart, Tries, Closing}
 use Rattle.session_store.specs.Keeps.{IsSameSession}
 use Rattle.session_store.specs.declared.keep.Keep.{Ghosts as KeepOf}
 use Rattle.acq_loop.specs.declared.driving.Drove.TheVariants as drove
 use Rattle.acq_loop.specs.declared.ending.Ending.TheVariants as ending
 use Rattle.acq_loop.specs.Loop.{EndsAs}
-use Rattle.acq_said.proofs.Closings.{okay, same_ok, err_ok, not_loops, read_by, read_said, disk_by, disk_said}
+use Rattle.acq_loop.proofs.Short.{CutOff, RanTo}
+use Rattle.acq_said.proofs.Closings.{AddsLast, AddsLastFront, okay, same_ok, err_ok, not_loops, read_by, read_said, disk_by, disk_said}
 
 not_err : false ≡ true → ⊥
 not_err e = cc
@@ -35,7 +36,7 @@ module _ (turns : Turns) (l : Language) (terms : Terms) (start later : List Even
   part_by end None ran cut part =
       let Cut : Option (List ℕ) → Type 0 = λ w. CutOff turns l terms (point_of start left written) (point_of later left' w) in
       inl (subst Cut (sym part.0) (cut refl))
-  part_by end (Some closing) ran cut part = inr (record { closing = closing; middle = middle; ran = ran; adds = part })
+  part_by end (Some closing) ran cut part = inr (closing, middle, ran, part)
 
   part_by_drove : (how : Drove) → Drives turns l terms (point_of start left written) (point_of later left' middle) how → SaysPart l terms (standing_on l later) middle written' how → BreaksRun turns l terms start later left written left' written'
   part_by_drove how drives part = part_by (ending_of how) (closing_of how) drives.closed drives.broken part

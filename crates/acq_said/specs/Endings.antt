@@ -1,42 +1,20 @@
 -- What was said of a session at its end, and what was done about a language.
-use Rattle.std.specs.Prelude.{◌≡◌, ℕ, List, Option, Some, None, Result, Ok, Err, IsErr, IfOk, OnErr}
-use Rattle.acq_io.specs.Streams.{Adds, AddsFront}
-use Rattle.acq_io.specs.declared.streams.Put.{Put}
-use Rattle.assign.specs.Events.{Answer}
-use Rattle.assign.specs.declared.events.Event.{Event}
-use Rattle.language.specs.Language.{Language}
-use Rattle.language.specs.Answers.{standing_on}
-use Rattle.target_oracle.specs.Turns.{Turns}
-use Rattle.acq_loop.specs.Run.{Closing}
+use Rattle.acq_said.specs.Prelude.{◌≡◌, ℕ, List, Option, Some, None, Result, Ok, Err, IsErr, IfOk, OnErr, Adds, AddsFront, Put, Answer, Event, Language, standing_on, Turns, Closing, closing_of, ending_of, Drives, LeavesNothing, point_of, closing_text, Terms, Drove, Ending, MatchOption}
 use Rattle.acq_said.specs.Breaks.{BreaksRun}
-use Rattle.acq_loop.specs.Closings.{closing_of, ending_of}
-use Rattle.acq_loop.specs.Driven.{Drives, LeavesNothing}
-use Rattle.acq_loop.specs.Points.{point_of}
 use Rattle.acq_said.specs.Said.{IsSaid, silent_end}
 use Rattle.acq_said.specs.Saying.{Saying, saying}
 use Rattle.acq_said.specs.declared.said.Unsaid.{Unsaid}
-use Rattle.acq_loop.specs.Texts.{closing_text}
-use Rattle.acq_loop.specs.declared.terms.Terms.{Terms}
-use Rattle.acq_loop.specs.declared.driving.Drove.{Drove}
-use Rattle.acq_loop.specs.declared.ending.Ending.{Ending}
-
--- the last lines were written, where there are any
-abbrev pub AddsLast : Language → Terms → List Answer → (written written' : Option (List ℕ)) → Option Closing → Type 0
-AddsLast l terms t written written' (Some closing) = Adds written written' (closing_text l terms t closing)
-AddsLast l terms t written written' None = written' ≡ written
 
 -- the program ends as the loop did, and said so
 abbrev pub Says : Language → Terms → List Answer → (written written' : Option (List ℕ)) → Drove → Ending → Type 0
-Says l terms t written written' how end = (ending_of how ≡ Ok end) × AddsLast l terms t written written' (closing_of how)
+Says l terms t written written' how end =
+    (ending_of how ≡ Ok end)
+    × MatchOption (closing_of how) (written' ≡ written) (λ closing. Adds written written' (closing_text l terms t closing))
 
--- a front of the last lines was written; where there are none, the loop had failed so
-abbrev pub AddsLastFront : Language → Terms → List Answer → (written written' : Option (List ℕ)) → Result Ending Put → Option Closing → Type 0
-AddsLastFront l terms t written written' end (Some closing) = AddsFront written written' (closing_text l terms t closing)
-AddsLastFront l terms t written written' end None = (written' ≡ written) × IsErr end
-
--- what was written where it could not be said whole
+-- a front of the last lines was written; where there are none, nothing was, and the loop had failed
 abbrev pub SaysPart : Language → Terms → List Answer → (written written' : Option (List ℕ)) → Drove → Type 0
-SaysPart l terms t written written' how = AddsLastFront l terms t written written' (ending_of how) (closing_of how)
+SaysPart l terms t written written' how =
+    MatchOption (closing_of how) ((written' ≡ written) × IsErr (ending_of how)) (λ closing. AddsFront written written' (closing_text l terms t closing))
 
 -- the last lines of a session are said, by how it ended; where there are none, nothing is
 abbrev pub SaysEndBy : Language → Terms → List Answer → Option Closing → Result Ending Put → Result Saying Unsaid → Type 0
@@ -54,7 +32,7 @@ pub record Tries (turns : Turns) (l : Language) (terms : Terms) (start events : 
   pub is : ending_of how ≡ Ok end
   pub middle : Option (List ℕ)
   pub ended : Drives turns l terms (point_of start left written) (point_of events left' middle) how
-  pub adds : AddsLast l terms (standing_on l events) middle written' (closing_of how)
+  pub adds : MatchOption (closing_of how) (written' ≡ middle) (λ closing. Adds middle written' (closing_text l terms (standing_on l events) closing))
   -- an example whose walk has ended, and wasn't cut off, is used up
   pub walked : LeavesNothing l terms.plan (standing_on l events)
 

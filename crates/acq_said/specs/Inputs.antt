@@ -1,7 +1,5 @@
 -- What a command says of its input, which it reads to the end.
-use Rattle.std.specs.Prelude.{◌≡◌, ℕ, List, Option, Result, Ok, Err}
-use Rattle.acq_io.specs.Whole.{Gives, all_of}
-use Rattle.acq_io.specs.declared.whole.AllFault.{AllFault}
+use Rattle.acq_said.specs.Prelude.{◌≡◌, ℕ, List, Option, Result, Ok, Err, Gives, all_of, AllFault}
 use Rattle.acq_io.specs.declared.whole.AllFault.TheVariants as all
 use Rattle.acq_said.specs.Saying.{Saying}
 use Rattle.acq_said.specs.declared.said.Unsaid.{Unsaid}

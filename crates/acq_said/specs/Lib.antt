@@ -1,3 +1,4 @@
+pub mod Prelude
 pub mod Breaks
 pub mod Saying
 pub mod Said
@@ -9,7 +10,6 @@ pub mod Over
 pub mod Trying
 pub mod Making
 pub mod Running
-pub mod Showing
 pub mod Exactly
 pub mod Reducing
 pub mod Printing

@@ -1,59 +1,30 @@
 -- What `reduce` says of a session.
-use Rattle.std.specs.Prelude.{◌≡◌, ◌⊎◌, ℕ, zero, suc, IsTrue, List, [], length, Option, Some, None}
-use Rattle.assign.specs.declared.events.Event.{Event}
-use Rattle.assign.specs.declared.events.Plan.{Plan}
-use Rattle.fd_solver.specs.declared.outcome.Outcome.{Outcome}
-use Rattle.fd_solver.specs.declared.outcome.Outcome.TheVariants.{Found, Absent, Spent}
-use Rattle.language.specs.declared.candidates.Candidate.{Candidate}
-use Rattle.language.specs.Language.{Language, HasSameSolutions}
-use Rattle.language.specs.Answers.{IsConverged, IsNetwork, agrees, standing_on}
-use Rattle.net_reduce.specs.Reduction.{IsReduction, Sifts}
-use Rattle.net_reduce.specs.Searched.{IsSearched, IsSpentAt, left_at, outcome_at}
-use Rattle.net_reduce.specs.Texts.{reduced_text, spent_text}
-use Rattle.net_reduce.specs.declared.fault.ReduceFault.{ReduceFault}
+use Rattle.acq_said.specs.Prelude.{◌≡◌, ◌⊎◌, ℕ, zero, suc, IsTrue, List, [], length, Option, Some, None, Candidate, Language, HasSameSolutions, IsConverged, IsNetwork, agrees, standing_on, IsReduction, Sifts, IsSearched, IsSpentAt, left_at, outcome_at, reduced_text, spent_text, ReduceFault, state_after, Opened, learned_in, option_or, is_spent, if◌then◌else◌, option_map_or}
 use Rattle.net_reduce.specs.declared.fault.ReduceFault.TheVariants as unreduced
-use Rattle.session_laws.specs.Session.{state_after}
-use Rattle.session_store.specs.Opened.{Opened}
 use Rattle.acq_said.specs.Saying.{Saying, saying}
-use Rattle.acq_loop.specs.Texts.{learned_in}
 use Rattle.acq_loop.specs.declared.ending.Ending.TheVariants as ending
 
--- the network to which the answers of events lead
-abbrev pub network_after : Language → Plan → List Event → List Candidate
-network_after l plan events = learned_in (state_after l plan (standing_on l events))
-
+-- the network to which the answers of a session lead
 abbrev pub network_of : Opened → List Candidate
-network_of o = network_after o.lang o.plan o.events
+network_of o = learned_in (state_after o.lang o.plan (standing_on o.lang o.events))
 
 -- ---- What is said of a network
-
--- the number of an item, where its search was spent, unless there is one already
-abbrev pub spent_first : Option ℕ → Outcome → ℕ → Option ℕ
-spent_first (Some i) outcome number = Some i
-spent_first None Spent number = Some number
-spent_first None (Found e) number = None
-spent_first None Absent number = None
 
 -- the first item whose search is spent, of so many
 abbrev pub first_spent : Language → List Candidate → ℕ → ℕ → Option ℕ
 first_spent l network budget zero = None
-first_spent l network budget (suc i) = spent_first (first_spent l network budget i) (outcome_at l network budget i) i
-
--- the items that remain, or the first whose search is spent
-abbrev pub sifted_said : Language → List Candidate → ℕ → Option ℕ → Saying
-sifted_said l network budget None = saying (reduced_text l (left_at l network budget (length network)) (length network)) ending.Done
-sifted_said l network budget (Some i) = saying (spent_text i) (ending.ReduceSpent i)
+first_spent l network budget (suc i) = option_or (first_spent l network budget i) (if is_spent (outcome_at l network budget i) then Some i else None)
 
 -- why there are none; where memory is wanting, nothing is said
 abbrev pub unreduced_said : ReduceFault → Saying
 unreduced_said (unreduced.Spent i) = saying (spent_text i) (ending.ReduceSpent i)
 unreduced_said unreduced.Memory = saying [] ending.Memory
 
-abbrev pub network_said : ℕ → Language → List Candidate → Saying
-network_said budget l network = sifted_said l network budget (first_spent l network budget (length network))
-
+-- the first item whose search is spent, or else the items that remain
 abbrev pub reduced_said : ℕ → Opened → Saying
-reduced_said budget o = network_said budget o.lang (network_of o)
+reduced_said budget o =
+    option_map_or (λ i. saying (spent_text i) (ending.ReduceSpent i)) (first_spent o.lang (network_of o) budget (length (network_of o)))
+    (saying (reduced_text o.lang (left_at o.lang (network_of o) budget (length (network_of o))) (length (network_of o))) ending.Done)
 
 -- ---- What is true of it
 
@@ -68,11 +39,7 @@ pub record IsReduced (budget : ℕ) (o : Opened) : Type 0 where
       IsTrue (agrees o.lang target (standing_on o.lang o.events)) → HasSameSolutions o.lang part target
   pub said : reduced_said budget o ≡ saying (reduced_text o.lang part (length (network_of o))) ending.Done
 
--- the first item whose search is spent was said
-pub record IsSpent (budget : ℕ) (o : Opened) : Type 0 where
-  pub number : ℕ
-  pub at : IsSpentAt o.lang (network_of o) budget number
-  pub said : reduced_said budget o ≡ saying (spent_text number) (ending.ReduceSpent number)
-
+-- that, or the first item whose search is spent was said
 abbrev pub ReducesTruly : ℕ → Opened → Type 0
-ReducesTruly budget o = IsReduced budget o ⊎ IsSpent budget o
+ReducesTruly budget o =
+    IsReduced budget o ⊎ ((number : ℕ) × IsSpentAt o.lang (network_of o) budget number × (reduced_said budget o ≡ saying (spent_text number) (ending.ReduceSpent number)))

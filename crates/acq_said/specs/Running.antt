@@ -1,33 +1,11 @@
 -- What a run over a journal has done, and `run`.
-use Rattle.std.specs.Prelude.{◌≡◌, ◌⊎◌, ◌+◌, ℕ, Bool, List, [], ◌∷◌, ◌++◌, Option, Result, Ok, IfOk, OnErr}
-use Rattle.std.specs.Option.{ForSome}
-use Rattle.answer_journal.specs.Calls.{AreReadingCalls}
-use Rattle.disk_model.specs.declared.disk.Disk.{Ghosts as DiskOf}
-use Rattle.acq_io.specs.declared.streams.Put.{Put}
-use Rattle.assign.specs.Assignment.{Assignment}
-use Rattle.assign.specs.declared.events.Event.{Event}
-use Rattle.assign.specs.declared.events.Plan.{Plan}
-use Rattle.disk_model.specs.Moments.{LeavesOnly}
-use Rattle.language.specs.Language.{Language}
-use Rattle.session_store.specs.Keeping.{calls_of}
-use Rattle.session_store.specs.Left.{IsRaisedOn, OpensWith, OpensWithin, SaysSession, LeavesNow}
-use Rattle.session_store.specs.Replay.{HavePlaces}
-use Rattle.voc_read.specs.Vocabulary.{IsVocabulary}
-use Rattle.target_oracle.specs.Lines.{line_turn}
-use Rattle.target_oracle.specs.Turns.{Turns}
-use Rattle.target_oracle.specs.declared.teacher.Told.{Told}
+use Rattle.acq_said.specs.Prelude.{◌≡◌, ◌⊎◌, ◌+◌, ℕ, Bool, List, [], ◌∷◌, ◌++◌, Option, Result, Ok, Err, IfOk, OnErr, ForSome, AreReadingCalls, DiskOf, Put, Assignment, Event, LeavesOnly, Language, calls_of, IsRaisedOn, OpensWith, OpensWithin, LeavesNow, Opened, Holds, HavePlaces, SFault, line_turn, Turns, Told, IsAdded, Loses, point_of, terms_with, Ending}
 use Rattle.acq_said.specs.Breaks.{BreaksRun}
-use Rattle.acq_loop.specs.Added.{IsAdded}
-use Rattle.acq_loop.specs.Driven.{Loses}
-use Rattle.acq_loop.specs.Points.{point_of, terms_with}
 use Rattle.acq_said.specs.Endings.{Tries}
-use Rattle.acq_loop.specs.declared.ending.Ending.{Ending}
-use Rattle.acq_said.specs.Journals.{StaysClosed}
+use Rattle.acq_said.specs.Journals.{Refuses}
+use Rattle.acq_said.specs.Over.{SaysOver}
+use Rattle.acq_said.specs.Said.{SaysSo}
 use Rattle.acq_loop.specs.declared.ending.Ending.TheVariants as ending
-
--- a person may give any answer
-abbrev pub any_answer : Language → Assignment → Told → Type 0
-any_answer l q told = Unit {0}
 
 -- the meanings of a disk
 module _ {D : Type 0} (disk : DiskOf D) where
@@ -36,32 +14,30 @@ module _ {D : Type 0} (disk : DiskOf D) where
   -- a front of the added ones. A crash at the end leaves all of them, and where the disk failed the event too whose adding failed,
   -- or not.
   pub record GoesOn (turns : Turns) (may : Language → Assignment → Told → Type 0) (budget : ℕ) (left written left' written' : Option (List ℕ)) (old new : D) (got : Result Ending Put) : Type 0 where
-    pub plan : Plan
-    pub voc : List ℕ
-    pub events : List Event
-    pub says : ForSome (disk.content old) (λ bytes. SaysSession bytes plan voc events)
-    pub some : (bytes : List ℕ) × SaysSession bytes plan voc events
-    pub lang : Language
-    pub read : IsVocabulary voc lang
-    pub places : HavePlaces lang plan events
+    pub of : Opened
+    pub opens : ForSome (disk.content old) (λ bytes. Holds bytes of)
+    pub some : (bytes : List ℕ) × Holds bytes of
     pub later : List Event
-    pub added : IsAdded lang plan (may lang) events later
-    pub tries : IfOk got (Tries turns lang (terms_with plan budget) events later left written left' written')
-    pub part : OnErr got (BreaksRun turns lang (terms_with plan budget) events later left written left' written')
+    pub added : IsAdded of.lang of.plan (may of.lang) of.events later
+    pub tries : IfOk got (Tries turns of.lang (terms_with of.plan budget) of.events later left written left' written')
+    pub part : OnErr got (BreaksRun turns of.lang (terms_with of.plan budget) of.events later left written left' written')
     -- the event whose adding failed: that of the reply to the question that came next
     pub last : List Event
     pub none_lost : (got ≡ Ok ending.DiskFault → ⊥) → last ≡ []
     pub one_lost : got ≡ Ok ending.DiskFault → (lost : Event) × (last ≡ lost ∷ [])
-        × Loses turns lang (terms_with plan budget) (point_of events left written) (point_of later left' written') lost
+        × Loses turns of.lang (terms_with of.plan budget) (point_of of.events left written) (point_of later left' written') lost
     -- each event has its place, and so has the lost one
-    pub all_places : HavePlaces lang plan (later ++ last)
-    pub any_moment : ForSome (disk.content old) (λ _. LeavesOnly disk old new (λ c. disk.may_leave old c ⊎ OpensWithin plan voc events (later ++ last) c))
-    pub now : ForSome (disk.content old) (λ _. LeavesNow disk (λ c. OpensWith plan voc later c ⊎ OpensWith plan voc (later ++ last) c) new)
+    pub all_places : HavePlaces of.lang of.plan (later ++ last)
+    pub any_moment : ForSome (disk.content old) (λ _. LeavesOnly disk old new (λ c. disk.may_leave old c ⊎ OpensWithin of.plan of.voc of.events (later ++ last) c))
+    pub now : ForSome (disk.content old) (λ _. LeavesNow disk (λ c. OpensWith of.plan of.voc later c ⊎ OpensWith of.plan of.voc (later ++ last) c) new)
     -- whether the journal was raised
     pub raised : Bool
     pub was_raised : ForSome (disk.content old) (λ bytes. IsRaisedOn bytes raised)
     -- the disk is called to open the journal and to add an event, and not between two of them
     pub calls : ForSome (disk.content old) (AreReadingCalls (5 + calls_of raised (added.more ++ last)) (disk.calls old) (disk.calls new))
 
+  -- A person may give any answer. Where no session is opened, that is told, and the input isn't read.
   abbrev pub RunsOn : ℕ → (left written left' written' : Option (List ℕ)) → D → D → Result Ending Put → Type 0
-  RunsOn budget left written left' written' old new got = StaysClosed disk left written left' written' old new got ⊎ GoesOn line_turn any_answer budget left written left' written' old new got
+  RunsOn budget left written left' written' old new got =
+      SaysSo (SaysOver disk (λ opening said. (fault : SFault) × (opening ≡ Err fault) × Refuses fault said × (left' ≡ left)) (λ o. Unit {0}) old new) written written' got
+      ⊎ GoesOn line_turn (λ l q told. Unit {0}) budget left written left' written' old new got

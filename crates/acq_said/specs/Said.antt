@@ -1,24 +1,16 @@
 -- What was said, or why nothing was, and what was written of it.
-use Rattle.std.specs.Prelude.{◌≡◌, ℕ, List, Option, Result, Ok, Err}
-use Rattle.acq_io.specs.Streams.{Adds, AddsFront}
-use Rattle.acq_io.specs.declared.streams.Put.{Put}
+use Rattle.acq_said.specs.Prelude.{◌≡◌, ℕ, List, Option, Result, Ok, Err, Adds, AddsFront, Put, Ending, MatchResult}
 use Rattle.acq_io.specs.declared.streams.Put.TheVariants as put
 use Rattle.acq_said.specs.Saying.{Saying}
-use Rattle.acq_loop.specs.declared.ending.Ending.{Ending}
 use Rattle.acq_loop.specs.declared.ending.Ending.TheVariants as ending
 use Rattle.acq_said.specs.declared.said.Unsaid.{Unsaid}
 use Rattle.acq_said.specs.declared.said.Unsaid.TheVariants as unsaid
 
 -- ---- What is said
 
--- this is true of what was said; or memory was wanting, and nothing was
-abbrev pub SaidSo : (Saying → Type 0) → Result Saying Unsaid → Type 0
-SaidSo IsTrue (Ok what) = IsTrue what
-SaidSo IsTrue (Err why) = why ≡ unsaid.Memory
-
 -- this was said; or memory was wanting, and nothing was
 abbrev pub IsSaid : Saying → Result Saying Unsaid → Type 0
-IsSaid what said = SaidSo (λ s. s ≡ what) said
+IsSaid what said = MatchResult said (λ s. s ≡ what) (λ why. why ≡ unsaid.Memory)
 
 -- what was made in memory, where there was enough
 abbrev pub or_silent : {E : Type 0} → Result Saying E → Result Saying Unsaid
@@ -33,16 +25,12 @@ silent_end unsaid.Memory = Err put.Memory
 
 -- ---- What is written of it
 
--- The command ended so and wrote this text. Or the output failed, and a front of it was written; or there was no memory
--- for it, and nothing was.
-abbrev pub EndsWith : Ending → List ℕ → (written written' : Option (List ℕ)) → Result Ending Put → Type 0
-EndsWith end text written written' (Ok e) = (e ≡ end) × Adds written written' text
-EndsWith end text written written' (Err put.Failed) = AddsFront written written' text
-EndsWith end text written written' (Err put.Memory) = written' ≡ written
-
--- What was said was written. Where nothing was said, nothing is.
+-- What was said was written, and the command ended as it says. Or the output failed, and a front of it was written; or there was no memory
+-- for it, and nothing was. Where nothing was said, nothing is.
 abbrev pub HasWritten : Result Saying Unsaid → (written written' : Option (List ℕ)) → Result Ending Put → Type 0
-HasWritten (Ok what) written written' got = EndsWith what.ending what.text written written' got
+HasWritten (Ok what) written written' (Ok e) = (e ≡ what.ending) × Adds written written' what.text
+HasWritten (Ok what) written written' (Err put.Failed) = AddsFront written written' what.text
+HasWritten (Ok what) written written' (Err put.Memory) = written' ≡ written
 HasWritten (Err why) written written' got = (got ≡ silent_end why) × (written' ≡ written)
 
 -- a command has said so, and written that

@@ -1,6 +1,5 @@
 -- A text and an ending.
-use Rattle.std.specs.Prelude.{ℕ, Bool, true, false, List}
-use Rattle.acq_loop.specs.declared.ending.Ending.{Ending}
+use Rattle.acq_said.specs.Prelude.{ℕ, Bool, true, false, List, Ending}
 use Rattle.acq_loop.specs.declared.ending.Ending.TheVariants as ending
 
 pub record Saying : Type 0 where

@@ -1,23 +1,11 @@
 -- What `model` says of a session and its input.
-use Rattle.std.specs.Prelude.{◌≡◌, ℕ, List, Option, Result, Ok, Err}
-use Rattle.std.specs.Option.{ForSome}
-use Rattle.acq_io.specs.Whole.{all_of}
-use Rattle.acq_io.specs.declared.whole.AllFault.{AllFault}
-use Rattle.assign.specs.Assignment.{Assignment}
-use Rattle.language.specs.Language.{Language}
-use Rattle.net_cnf.specs.Models.{model_of}
-use Rattle.net_cnf.specs.ModelTexts.{model_fault_line, solution_line}
-use Rattle.net_cnf.specs.declared.model_fault.ModelFault.{ModelFault}
+use Rattle.acq_said.specs.Prelude.{◌≡◌, ℕ, List, Option, Result, Ok, Err, AllFault, Assignment, Language, model_of, model_fault_line, solution_line, ModelFault, Opened, SFault}
 use Rattle.net_cnf.specs.declared.model_fault.ModelFault.TheVariants as model
-use Rattle.session_store.specs.Opened.{Opened}
-use Rattle.session_store.specs.declared.fault.SFault.{SFault}
 use Rattle.acq_said.specs.Inputs.{SaysOfInput}
 use Rattle.acq_said.specs.Journals.{Refuses}
-use Rattle.acq_said.specs.Over.{SaidEnds}
 use Rattle.acq_said.specs.Reducing.{network_of}
 use Rattle.acq_said.specs.Said.{IsSaid}
 use Rattle.acq_said.specs.Saying.{Saying, saying}
-use Rattle.acq_loop.specs.declared.ending.Ending.{Ending}
 use Rattle.acq_loop.specs.declared.ending.Ending.TheVariants as ending
 use Rattle.acq_said.specs.declared.said.Unsaid.{Unsaid}
 
@@ -37,9 +25,3 @@ solved_said (Err e) o = solution_said o.lang (Err model.TooLong)
 abbrev pub Solves : (left left' : Option (List ℕ)) → Result Opened SFault → Result Saying Unsaid → Type 0
 Solves left left' (Ok o) said = SaysOfInput 4194304 (λ read. IsSaid (solved_said read o)) left left' said
 Solves left left' (Err fault) said = Refuses fault said × (left' ≡ left)
-
--- ---- Exactly when
-
--- where input and disk tell their bytes
-abbrev pub SolveEnds : (left content : Option (List ℕ)) → Ending → Type 0
-SolveEnds left content end = ForSome left (λ bytes. SaidEnds (solved_said (all_of 4194304 bytes).got) content end)

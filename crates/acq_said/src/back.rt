@@ -1,13 +1,14 @@
 //! The command that takes the last answer back.
 
-ghost use Rattle.std.specs.Prelude.{◌≡◌, ◌≢◌, ◌↔◌, ◌<◌, ◌≤◌, ◌+◌, [], length, IfSome, IfNone, IfOk, IsTrue, Err};
+ghost use Rattle.std.specs.Prelude.{◌≡◌, ◌≢◌, ◌↔◌, ◌<◌, ◌≤◌, ◌+◌, ◌++◌, ◌∷◌, [], codes, length, IfSome, IfNone, IfOk, IsTrue, Err};
+ghost use Rattle.std.specs.Fmt.{decimal};
 ghost use Rattle.assign.specs.Events.{standing};
 ghost use Rattle.assign.specs.declared.events.Event.{Event};
 ghost use Rattle.disk_model.specs.Disk.{Rose as DiskRose};
 ghost use Rattle.language.specs.Answers.{standing_on};
 ghost use Rattle.session_store.specs.Keeps.{Keeps, IsKeeping};
 ghost use Rattle.acq_said.specs.Saying.{saying};
-ghost use Rattle.acq_said.specs.TakingBack.{EndsBack, TakesBack, taken_text};
+ghost use Rattle.acq_said.specs.TakingBack.{EndsBack, TakesBack};
 
 use crate::refusing::refused;
 use crate::said::{Said, Unsaid, fixed, or_silent};
@@ -19,7 +20,7 @@ use std::alloc::Global;
 
 /// Says which answer was taken back.
 fn taken(alloc: Global, m: u32) -> Result<Said, Memory>
-    ensures { IfOk result (λ said. said ≡ saying (taken_text m) Ending.Done) }
+    ensures { IfOk result (λ said. said ≡ saying (codes "took back answer " ++ (decimal m ++ 10 ∷ [])) Ending.Done) }
 {
     let text = format!(in alloc; "took back answer {m}\n")?;
     Ok(Said::new(text, Ending::Done))
@@ -35,7 +36,7 @@ fn take_last<D: Disk, P: Keep<D>>(
     requires keeper { IsKeeping P.Keep keep.old disk.old }
     requires room { length (P.record_of keep.old) + 1 < 1000000 }
     requires stands { standing (P.record_of keep.old) ≢ [] }
-    ensures ends { EndsBack (saying (taken_text m) Ending.Done) (P.record_of keep.old) (P.record_of keep.new) result }
+    ensures ends { EndsBack (saying (codes "took back answer " ++ (decimal m ++ 10 ∷ [])) Ending.Done) (P.record_of keep.old) (P.record_of keep.new) result }
     ensures keeps { Keeps P.Keep D.Disk (result ≡ Err Unsaid.DiskFault)
         (λ lost. lost ≡ Event.Back) keep.old keep.new disk.old disk.new }
 {

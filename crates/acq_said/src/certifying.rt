@@ -1,6 +1,7 @@
 //! What `certify` says: a certificate for the network on which a session's answers converge.
 
-ghost use Rattle.std.specs.Prelude.{◌≡◌, ◌<◌, ◌≤◌, All, length, IfOk};
+ghost use Rattle.std.specs.Prelude.{◌≡◌, ◌<◌, ◌≤◌, ◌++◌, ◌∷◌, [], All, codes, length, IfOk};
+ghost use Rattle.std.specs.Fmt.{decimal};
 ghost use Rattle.acq_words.specs.Request.{IsBudget};
 ghost use Rattle.cert_check.specs.Making.{made};
 ghost use Rattle.cert_check.specs.Texts.{make_fault_line};
@@ -11,10 +12,10 @@ ghost use Rattle.session_store.specs.Held.{IsWide};
 ghost use Rattle.session_store.specs.Opened.{opened_as};
 ghost use Rattle.session_store.specs.Replay.{IsAnswer, answer_in, seen, standing_numbers};
 ghost use Rattle.voc_read.specs.Vocabulary.{IsVocabulary};
-ghost use Rattle.acq_said.specs.Certifying.{CertifiesTruly, MakesGood, TellsEnd, certificate_said, certified_said, unconverged_said};
+ghost use Rattle.acq_said.specs.Certifying.{CertifiesTruly, MakesGood, TellsEnd, certificate_said, certified_said};
 ghost use Rattle.acq_loop.specs.Driven.{IsDone};
 ghost use Rattle.acq_loop.specs.Points.{terms_with};
-ghost use Rattle.acq_said.specs.Reducing.{network_after};
+ghost use Rattle.acq_said.specs.Reducing.{network_of};
 ghost use Rattle.acq_said.specs.Saying.{saying};
 
 use crate::said::Said;
@@ -102,7 +103,7 @@ fn has_converged<R: Threads + Sync, D: Disk, P: Keep<D>, G: Gate>(
 
 /// Says that the answers haven't converged.
 fn unconverged(alloc: Global, m: u32) -> Result<Said, Memory>
-    ensures { IfOk result (λ said. said ≡ unconverged_said m) }
+    ensures { IfOk result (λ said. said ≡ saying (codes "refused not converged " ++ (decimal m ++ 10 ∷ [])) (Ending.NotConverged m)) }
 {
     let text = format!(in alloc; "refused not converged {m}\n")?;
     Ok(Said::new(text, Ending::NotConverged(m)))
@@ -151,7 +152,7 @@ fn certify_converged<D: Disk, P: Keep<D>>(
     requires done { IsDone (P.lang keep.now) (terms_with (P.plan keep.now) budget) (standing_on (P.lang keep.now) (P.record_of keep.now)) }
     requires read { IsVocabulary voc.now (P.lang keep.now) }
     requires budget { IsBudget budget }
-    ensures is { IfOk result (λ said. said ≡ certificate_said (made voc.now (P.lang keep.now) (network_after (P.lang keep.now) (P.plan keep.now) (P.record_of keep.now)) (standing_on (P.lang keep.now) (P.record_of keep.now)) budget)) }
+    ensures is { IfOk result (λ said. said ≡ certificate_said (made voc.now (P.lang keep.now) (network_of (opened_as (P.plan keep.now) voc.now (P.record_of keep.now) (P.lang keep.now))) (standing_on (P.lang keep.now) (P.record_of keep.now)) budget)) }
     ensures good { IfOk result (λ _. MakesGood budget (opened_as (P.plan keep.now) voc.now (P.record_of keep.now) (P.lang keep.now))) }
 {
     let Ok(answers) = standing_entries::<D, P>(alloc, keep) else {

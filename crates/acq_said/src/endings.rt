@@ -1,16 +1,19 @@
 //! The last lines of a session, by how the loop ended.
 
-ghost use Rattle.std.specs.Prelude.{◌≡◌, ◌≢◌, List, filter, IfOk};
+ghost use Rattle.std.specs.Prelude.{◌≡◌, ◌≢◌, ◌++◌, List, filter, IfOk};
+ghost use Rattle.std.specs.List.{flat_map};
 ghost use Rattle.assign.specs.Events.{Answer};
 ghost use Rattle.language.specs.Language.{candidates};
 ghost use Rattle.language.specs.Answers.{IsNetwork};
+ghost use Rattle.network.specs.Texts.{network_text};
 ghost use Rattle.query_gen.specs.Marks.{IsMadeFor, is_open};
 ghost use Rattle.session_core.specs.Standing.{Stands, knowledge_of};
 ghost use Rattle.acq_loop.specs.Driven.{HasEnded, TellsOpen};
 ghost use Rattle.acq_said.specs.Endings.{SaysEnd};
 ghost use Rattle.acq_loop.specs.Points.{terms_with};
 ghost use Rattle.acq_said.specs.Saying.{saying};
-ghost use Rattle.acq_loop.specs.Texts.{collapsed_text, converged_text, suspended_text, undecided_text};
+ghost use Rattle.acq_loop.specs.Run.{Collapsed, Converged, Suspended, Undecided};
+ghost use Rattle.acq_loop.specs.Texts.{ending_line, open_line};
 
 use crate::opens::open_lines;
 use crate::said::{Said, Unsaid, fixed, or_silent};
@@ -24,7 +27,7 @@ use std::alloc::Global;
 /// Says that a session has converged, and on what.
 fn converged(alloc: Global, session: &Session, m: u32) -> Result<Said, Memory>
     requires { IsNetwork (knowledge_of session.now).lang (knowledge_of session.now).network.list }
-    ensures { IfOk result (λ said. said ≡ saying (converged_text (knowledge_of session.now).lang (knowledge_of session.now).network.list m) (Ending.Converged m)) }
+    ensures { IfOk result (λ said. said ≡ saying (ending_line Converged m ++ network_text (knowledge_of session.now).lang (knowledge_of session.now).network.list) (Ending.Converged m)) }
 {
     let Ok(network) = network_text(alloc, session.lang(), session.network()) else {
         return Err(Memory);
@@ -37,7 +40,7 @@ fn converged(alloc: Global, session: &Session, m: u32) -> Result<Said, Memory>
 
 /// Says that no network agrees with a session.
 fn collapsed(alloc: Global, m: u32) -> Result<Said, Memory>
-    ensures { IfOk result (λ said. said ≡ saying (collapsed_text m) (Ending.Collapsed m)) }
+    ensures { IfOk result (λ said. said ≡ saying (ending_line Collapsed m) (Ending.Collapsed m)) }
 {
     let text = format!(in alloc; "collapsed {m}\n")?;
     Ok(Said::new(text, Ending::Collapsed(m)))
@@ -48,7 +51,7 @@ fn undecided(alloc: Global, session: &Session, screen: &Screen, m: u32) -> Resul
     requires network { IsNetwork (knowledge_of session.now).lang (knowledge_of session.now).network.list }
     requires made { IsMadeFor (knowledge_of session.now).lang screen.now }
     ensures { let l = (knowledge_of session.now).lang in IfOk result (λ said. said ≡
-        saying (undecided_text l (knowledge_of session.now).network.list (filter (is_open l screen.now) (candidates l)) m) (Ending.Undecided m)) }
+        saying (ending_line Undecided m ++ (network_text l (knowledge_of session.now).network.list ++ flat_map (open_line l) (filter (is_open l screen.now) (candidates l)))) (Ending.Undecided m)) }
 {
     let Ok(network) = network_text(alloc, session.lang(), session.network()) else {
         return Err(Memory);
@@ -64,7 +67,7 @@ fn undecided(alloc: Global, session: &Session, screen: &Screen, m: u32) -> Resul
 
 /// Says that a session goes on another time.
 fn suspended(alloc: Global, m: u32) -> Result<Said, Memory>
-    ensures { IfOk result (λ said. said ≡ saying (suspended_text m) (Ending.Suspended m)) }
+    ensures { IfOk result (λ said. said ≡ saying (ending_line Suspended m) (Ending.Suspended m)) }
 {
     let text = format!(in alloc; "suspended {m}\n")?;
     Ok(Said::new(text, Ending::Suspended(m)))

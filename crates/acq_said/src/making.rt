@@ -1,10 +1,11 @@
 //! The command that makes a journal.
 
-ghost use Rattle.std.specs.Prelude.{◌≡◌, ◌≢◌, IfOk, Err};
+ghost use Rattle.std.specs.Prelude.{◌≡◌, ◌≢◌, ◌⊎◌, IfOk, MatchOption, Ok, Err};
 ghost use Rattle.acq_io.specs.Streams.{HasCalled, TakesSome};
 ghost use Rattle.disk_model.specs.Disk.{Rose as DiskRose};
-ghost use Rattle.acq_said.specs.Making.{Makes, News, RefusesMaking, created_text, voc_refused};
-ghost use Rattle.acq_said.specs.Saying.{saying};
+ghost use Rattle.acq_said.specs.Journals.{untold};
+ghost use Rattle.acq_said.specs.Making.{IsMade, IsNotMade, News, made_said, voc_refused};
+ghost use Rattle.acq_said.specs.Said.{IsSaid};
 
 use crate::refusing::{lang_of, refused};
 use crate::said::{Said, Unsaid, or_silent};
@@ -20,7 +21,7 @@ use voc_read::{MOST_VOCABULARY, VocFault, voc_text};
 
 /// Says that a journal was made.
 fn created(alloc: Global, lang: &Language) -> Result<Said, Memory>
-    ensures { IfOk result (λ said. said ≡ saying (created_text lang.now) Ending.Done) }
+    ensures { IfOk result (λ said. said ≡ made_said (Ok lang.now)) }
 {
     let variables = lang.n();
     let scopes = lang.scopes();
@@ -42,7 +43,7 @@ pub fn refused_voc(alloc: Global, fault: VocFault) -> Result<Said, Memory>
 
 /// Says why no journal is made.
 fn unmade(alloc: Global, fault: SFault) -> Result<Said, Unsaid>
-    ensures refuses { RefusesMaking fault result }
+    ensures refuses { MatchOption (untold fault) (IsSaid (made_said (Err fault)) result) (λ why. result ≡ Err why) }
     ensures no_read { result ≢ Err Unsaid.ReadFault }
     ensures lost { result ≡ Err Unsaid.DiskFault → fault ≡ SFault.Journal JFault.DiskFault }
 {
@@ -61,7 +62,7 @@ fn make_journal<D: Disk>(
     voc: &[u8],
     disk: &mut D,
 ) -> Result<Said, Unsaid>
-    ensures makes { Makes D.Disk plan voc.now disk.old disk.new result }
+    ensures makes { IsMade D.Disk plan voc.now disk.old disk.new result ⊎ IsNotMade D.Disk plan voc.now disk.old disk.new result }
     ensures no_read { result ≢ Err Unsaid.ReadFault }
     ensures lost { result ≡ Err Unsaid.DiskFault → DiskRose (D.faults disk.old) (D.faults disk.new) }
 {

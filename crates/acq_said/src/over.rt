@@ -1,13 +1,15 @@
 //! The commands that only say something of a journal's session.
 
-ghost use Rattle.std.specs.Prelude.{◌≡◌, ◌≢◌, IfOk, Err};
+ghost use Rattle.std.specs.Prelude.{◌≡◌, ◌≢◌, IfOk, MatchResult, Err};
 ghost use Rattle.disk_model.specs.Disk.{Rose as DiskRose};
 ghost use Rattle.language.specs.Answers.{standing_on};
 ghost use Rattle.session_core.specs.Settled.{IsSettled};
 ghost use Rattle.session_store.specs.Opened.{opened_as};
 ghost use Rattle.voc_read.specs.Vocabulary.{IsVocabulary};
 ghost use Rattle.acq_said.specs.Asks.{AsksTruly, IsAskable, asked_said};
-ghost use Rattle.acq_said.specs.Over.{SaysOpening, SaysOver};
+ghost use Rattle.acq_said.specs.Journals.{Refuses};
+ghost use Rattle.acq_said.specs.Over.{SaysOver};
+ghost use Rattle.acq_said.specs.Said.{IsSaid};
 
 use crate::ask::Ask;
 use crate::certifying::certified;
@@ -57,7 +59,7 @@ pub fn say_over<R: Threads + Sync, D: Disk, G: Gate>(
     gate: &G,
 ) -> Result<Said, Unsaid>
     requires { IsAskable ask }
-    ensures says { SaysOver D.Disk (SaysOpening (asked_said ask)) (AsksTruly ask) disk.old disk.new result }
+    ensures says { SaysOver D.Disk (λ opening said. MatchResult opening (λ o. IsSaid (asked_said ask o) said) (λ fault. Refuses fault said)) (AsksTruly ask) disk.old disk.new result }
     ensures no_read { result ≢ Err Unsaid.ReadFault }
     ensures lost { result ≡ Err Unsaid.DiskFault → DiskRose (D.faults disk.old) (D.faults disk.new) }
 {

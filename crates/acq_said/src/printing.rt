@@ -1,10 +1,11 @@
 //! What `cnf` says: a session's network for a SAT solver.
 
-ghost use Rattle.std.specs.Prelude.{◌≡◌, IfOk};
+ghost use Rattle.std.specs.Prelude.{◌≡◌, IfOk, Err};
 ghost use Rattle.session_store.specs.Opened.{opened_as};
-ghost use Rattle.acq_said.specs.Printing.{PrintsTruly, printed_said, too_large_text};
-ghost use Rattle.acq_said.specs.Saying.{saying};
+ghost use Rattle.acq_said.specs.Asks.{AsksTruly, asked_said};
+ghost use Rattle.acq_said.specs.Printing.{clauses_said};
 
+use crate::ask::Ask;
 use crate::said::Said;
 use acq_loop::Ending;
 use disk_model::Disk;
@@ -16,7 +17,7 @@ use std::alloc::Global;
 
 /// Says that the text of the clauses is too large.
 fn said_too_large(alloc: Global) -> Result<Said, Memory>
-    ensures { IfOk result (λ said. said ≡ saying too_large_text Ending.CnfTooLarge) }
+    ensures { IfOk result (λ said. said ≡ clauses_said (Err CnfFault.TooLarge)) }
 {
     let text = too_large_text(alloc)?;
     Ok(Said::new(text, Ending::CnfTooLarge))
@@ -25,8 +26,8 @@ fn said_too_large(alloc: Global) -> Result<Said, Memory>
 /// What `cnf` says of a keeper's session, in whatever state it is.
 pub(crate) fn printed<D: Disk, P: Keep<D>>(alloc: Global, keep: &P) -> Result<Said, Memory>
     requires { P.sound keep.now }
-    ensures says { IfOk result (λ said. said ≡ printed_said (opened_as (P.plan keep.now) (P.voc keep.now) (P.record_of keep.now) (P.lang keep.now))) }
-    ensures so { IfOk result (λ _. PrintsTruly (opened_as (P.plan keep.now) (P.voc keep.now) (P.record_of keep.now) (P.lang keep.now))) }
+    ensures says { IfOk result (λ said. said ≡ asked_said Ask.Cnf (opened_as (P.plan keep.now) (P.voc keep.now) (P.record_of keep.now) (P.lang keep.now))) }
+    ensures so { IfOk result (λ _. AsksTruly Ask.Cnf (opened_as (P.plan keep.now) (P.voc keep.now) (P.record_of keep.now) (P.lang keep.now))) }
 {
     // a law: the models of the clauses are the solutions
     clauses_encode();

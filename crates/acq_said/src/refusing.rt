@@ -2,7 +2,7 @@
 
 ghost use Rattle.std.specs.Prelude.{◌≡◌, ◌≢◌, IfOk, Err};
 ghost use Rattle.std.specs.String.{string_bytes};
-ghost use Rattle.acq_said.specs.Journals.{journal_text, store_text, refused_said, untold, Refuses};
+ghost use Rattle.acq_said.specs.Journals.{store_text, refused_said, untold, Refuses};
 
 use crate::said::{Said, Unsaid, or_silent};
 use acq_loop::Ending;
@@ -15,7 +15,7 @@ use voc_read::voc_text;
 
 /// Why a journal can't be made or read.
 fn journal_text(alloc: Global, fault: JFault) -> Result<String, AllocError>
-    ensures { IfOk result (λ text. string_bytes text ≡ journal_text fault) }
+    ensures { IfOk result (λ text. string_bytes text ≡ store_text (SFault.Journal fault)) }
 {
     match fault {
         JFault::SessionThere => String::from_str(alloc, "session there"),

@@ -1,6 +1,6 @@
 //! What is shown of a session.
 
-ghost use Rattle.std.specs.Prelude.{◌≡◌, ◌++◌, ◌<◌, List, All, length, IfOk, OnOk};
+ghost use Rattle.std.specs.Prelude.{◌≡◌, ◌++◌, ◌<◌, List, All, codes, if◌then◌else◌, length, IfOk, OnOk};
 ghost use Rattle.std.specs.String.{string_bytes};
 ghost use Rattle.assign.specs.Events.{Answer};
 ghost use Rattle.language.specs.Language.{variable_count};
@@ -11,9 +11,10 @@ ghost use Rattle.session_laws.specs.Session.{state_after};
 ghost use Rattle.session_store.specs.Held.{IsWide};
 ghost use Rattle.session_store.specs.Opened.{opened_as};
 ghost use Rattle.session_store.specs.Replay.{IsAnswer, seen, answer_in, answer_to, standing_numbers};
-ghost use Rattle.acq_said.specs.Showing.{shown_said};
-ghost use Rattle.acq_said.specs.Shows.{plan_text, said_text, answer_line, answer_lines, back_line, is_back, take_backs, reading_text, show_text};
+ghost use Rattle.acq_said.specs.Asks.{asked_said};
+ghost use Rattle.acq_said.specs.Shows.{plan_text, answer_line, answer_lines, back_line, is_back, take_backs, reading_text, show_text};
 
+use crate::ask::Ask;
 use crate::said::Said;
 use acq_loop::Ending;
 use assign::{Event, Partial, Plan};
@@ -35,7 +36,7 @@ fn plan_word(plan: Plan) -> &'static str
 }
 
 fn said_word(yes: bool) -> &'static str
-    ensures { result.now ≡ said_text yes }
+    ensures { result.now ≡ (if «yes» then codes "yes" else codes "no") }
 {
     if yes { "yes" } else { "no" }
 }
@@ -179,7 +180,7 @@ fn show_text(alloc: Global, session: &Session, events: &[Event]) -> Result<Strin
 pub(crate) fn shown<D: Disk, P: Keep<D>>(alloc: Global, keep: &P) -> Result<Said, Memory>
     requires sound { P.sound keep.now }
     requires settled { IsSettled (P.lang keep.now) (P.plan keep.now) (standing_on (P.lang keep.now) (P.record_of keep.now)) (P.question keep.now) }
-    ensures { IfOk result (λ said. said ≡ shown_said (opened_as (P.plan keep.now) (P.voc keep.now) (P.record_of keep.now) (P.lang keep.now))) }
+    ensures { IfOk result (λ said. said ≡ asked_said Ask.Show (opened_as (P.plan keep.now) (P.voc keep.now) (P.record_of keep.now) (P.lang keep.now))) }
 {
     let session = keep.session();
     let events = keep.events();

@@ -1,4 +1,4 @@
-use Rattle.acq_cli.proofs.Prelude.{refl, ◌∙◌, ap, inl, inr, Result, Err, rose_later, voc_of, question_of, SFault, line_turn, any_answer, goes_on, opened_raised}
+use Rattle.acq_cli.proofs.Prelude.{Err, Ok, Opened, Refuses, Result, SFault, Saying, Unsaid, any_answer, ap, goes_on, inl, inr, line_turn, opened_raised, over_refused, question_of, refl, rose_later, voc_of, ◌∙◌, ◌≡◌}
 use Rattle.session_store.specs.Store.{lang_of, plan_of, events_of}
 use Rattle.session_store.specs.declared.store.Store.{Store}
 use Rattle.acq_cli.proofs.commands.run_journal.Goals as goal
@@ -21,17 +21,15 @@ returns-in-Ok-clause-runs g c =
 
 pub returns-in-Err-clause-runs : goal.returns-in-Err-clause-runs
 returns-in-Err-clause-runs g c =
-    inl (record {
-      fault = c.in-Err.fault;
-      why = c.in-Err.ensures.refused;
-      some = c.in-Err.ensures.some;
-      refuses = c.refuse_journal.ensures.refuses;
-      unread = refl;
-      same = c.open.ensures.only_read.same;
-      any_moment = c.open.ensures.only_read.any_moment;
-      now = inl c.in-Err.ensures.synced;
-      calls = c.open.ensures.few_calls;
-    })
+    let left = g.S.Source.left c.args.input.now in
+    let refused = c.refuse_journal.ensures.refuses in
+    let Says : Result Opened SFault → Result Saying Unsaid → Type 0 = λ opening said. (fault : SFault) × (opening ≡ Err fault) × Refuses fault said × (left ≡ left) in
+    inl (
+      refused.0,
+      over_refused g.D.Disk Says (λ o. Unit {0}) c.args.disk.now c.open.new.disk refused.0 c.open.ensures.only_read.same c.open.ensures.only_read.any_moment c.open.ensures.few_calls
+          c.in-Err.fault c.in-Err.ensures.refused c.in-Err.ensures.some (inl c.in-Err.ensures.synced) (c.in-Err.fault, refl, refused.1, refl),
+      refused.2,
+    )
 
 pub returns-in-Ok-clause-lost : goal.returns-in-Ok-clause-lost
 returns-in-Ok-clause-lost g c is = rose_later _ _ _ c.open.ensures.only_read.later (c.ask_on.ensures.keeps.cause is).1

@@ -1,8 +1,9 @@
-use Rattle.acq_cli.proofs.Prelude.{◌≡◌, ◌∙◌, ℕ, List, Option, IsTrue, length, subst, sym, Err, Plan, Quacq, Candidate, Language, IsNetwork, agrees, standing_on, both_as, lang_of, plan_of, events_of, target_of, HasDriven, demo_text, terms_with, learned_after, ends_part}
+use Rattle.acq_cli.proofs.Prelude.{Candidate, Err, HasDriven, IsNetwork, IsTrue, Language, List, Ok, Option, Plan, Quacq, agrees, both_as, demo_text, ends_part, events_of, lang_of, learned_after, length, plan_of, standing_on, subst, sym, target_of, terms_with, ℕ, ◌∙◌, ◌≡◌}
 use Rattle.std.proofs.lemmas.Result.{err_from_is_err_and}
 use Rattle.acq_io.specs.declared.streams.Put.TheVariants as put
 use Rattle.acq_loop.specs.declared.ending.Ending.TheVariants as ending
-use Rattle.acq_cli.proofs.Demoing.{demo_done, demo_stopped, front_of_first, front_of_line, line_put, sums_up}
+use Rattle.acq_cli.proofs.Demoing.{demo_done, demo_stopped, line_put}
+use Rattle.target_oracle.proofs.Fronts.{front_whole}
 use Rattle.acq_cli.proofs.demo.demo_number.Goals as goal
 
 pub drive_quietly-drove-requires-clause-target : goal.drive_quietly-drove-requires-clause-target
@@ -19,8 +20,7 @@ returns-in_err-put-clause-demos g c =
     let line = line_put c.args.number l c.made.result c.or_silent.result old new (Err c.in_err-put.field-0.0) c.or_silent.ensures c.made.ensures.says c.in_err-put.ensures.writes in
     let p = err_from_is_err_and c.from_residual.result c.from_residual.ensures.1 in
     rw (p.1, p.2)
-    (demo_stopped c.args.number c.args.budget l c.in-Ok.ensures.language c.made.ensures.lawful lawful old new c.in_err-put.field-0.0
-    (front_of_first c.args.number l (terms_with Quacq c.args.budget) c.made.ensures.lawful old new (ends_part ending.Done (demo_text c.args.number l) old new (Err c.in_err-put.field-0.0) line)))
+    (demo_stopped c.args.number c.args.budget l c.in-Ok.ensures.language c.made.ensures.lawful lawful old new c.in_err-put.field-0.0 (ends_part ending.Done (demo_text c.args.number l) old new (Err c.in_err-put.field-0.0) line))
 
 pub returns-in_default-new-clause-demos : goal.returns-in_default-new-clause-demos
 returns-in_default-new-clause-demos g c =
@@ -29,8 +29,7 @@ returns-in_default-new-clause-demos g c =
     let new : Option (List ℕ) = g.K.Sink.written c.put.new.out in
     let lawful = subst (IsNetwork l) c.in-Ok.ensures.target c.in-Ok.ensures.network in
     let line = line_put c.args.number l c.made.result c.or_silent.result old new _ c.or_silent.ensures c.made.ensures.says c.in_ok-put.ensures.writes in
-    demo_stopped c.args.number c.args.budget l c.in-Ok.ensures.language c.made.ensures.lawful lawful old new put.Memory
-    (front_of_line c.args.number l (terms_with Quacq c.args.budget) c.made.ensures.lawful old new line.1)
+    demo_stopped c.args.number c.args.budget l c.in-Ok.ensures.language c.made.ensures.lawful lawful old new put.Memory (front_whole old new (demo_text c.args.number l) line.1)
 
 pub returns-clause-demos : goal.returns-clause-demos
 returns-clause-demos g c =
@@ -49,9 +48,7 @@ returns-clause-demos g c =
     let old : Option (List ℕ) = g.K.Sink.written c.args.out.now in
     let middle : Option (List ℕ) = g.K.Sink.written c.put.new.out in
     let line = line_put c.args.number l c.made.result c.or_silent.result old middle _ c.or_silent.ensures c.made.ensures.says c.in_ok-put.ensures.writes in
-    demo_done c.args.number c.args.budget l c.in-Ok.ensures.language c.made.ensures.lawful lawful old events middle (g.K.Sink.written c.put-2.new.out) c.learned_by-learned.result how c.put-2.result
-    line.1
+    demo_done c.args.number c.args.budget l c.in-Ok.ensures.language c.made.ensures.lawful lawful old events middle (g.K.Sink.written c.put-2.new.out) c.learned_by-learned.result line.1
     (both_as Learned (lang_of after) l (plan_of after) Quacq (c.drive_quietly-drove.ensures.same.lang ∙ c.in-Ok-new.ensures.lang) (c.drive_quietly-drove.ensures.same.plan ∙ c.in-Ok-new.ensures.plan) (c.learned_by-learned.ensures.is c.args.budget))
-    (both_as Driven (lang_of keep) l (plan_of keep) Quacq c.in-Ok-new.ensures.lang c.in-Ok-new.ensures.plan (subst Own c.in-Ok.ensures.target c.drive_quietly-drove.ensures.driven))
-    (sums_up c.learned_by-learned.result c.summed.result middle (g.K.Sink.written c.put-2.new.out) c.put-2.result how c.summed.ensures c.put-2.ensures.writes)
-    (subst Agreeing c.in-Ok-new.ensures.lang (subst Given c.in-Ok.ensures.target c.drive_quietly-drove.ensures.agreeing))
+    (subst Agreeing c.in-Ok-new.ensures.lang (subst Given c.in-Ok.ensures.target c.drive_quietly-drove.ensures.agreeing)) how c.summed.result c.put-2.result
+    (both_as Driven (lang_of keep) l (plan_of keep) Quacq c.in-Ok-new.ensures.lang c.in-Ok-new.ensures.plan (subst Own c.in-Ok.ensures.target c.drive_quietly-drove.ensures.driven)) c.summed.ensures c.put-2.ensures.writes

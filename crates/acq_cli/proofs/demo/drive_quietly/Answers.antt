@@ -1,4 +1,4 @@
-use Rattle.acq_cli.proofs.Prelude.{◌∙◌, ℕ, List, Option, Some, ap, subst, arith, Candidate, Language, IsLanguage, standing_on, false_is_not_true, lang_of, plan_of, events_of, net_may_say, IsAdded, MayEnd, ending_of, terms_with}
+use Rattle.acq_cli.proofs.Prelude.{Candidate, IsAdded, IsLanguage, Language, List, MayEnd, Option, Some, ap, arith, ending_of, events_of, false_is_not_true, lang_of, net_may_say, plan_of, standing_on, subst, terms_with, ℕ, ◌∙◌}
 use Rattle.acq_cli.proofs.Demoing.{driven_by, driven_from, not_collapsed}
 use Rattle.acq_cli.proofs.Targets.{agreeing_added, not_filled}
 use Rattle.acq_cli.proofs.demo.drive_quietly.Goals as goal

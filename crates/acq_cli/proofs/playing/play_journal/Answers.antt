@@ -1,76 +1,70 @@
-use Rattle.acq_cli.proofs.Prelude.{◌≡◌, Bool, false, List, [], refl, sym, subst, arith, inl, inr, ◌∙◌, ap, Result, Ok, Err, IfOk, OnErr, Event, Plan, Language, Candidate, standing_on, voc_of, question_of, net_turn, net_may_say, Loses, Tries, IsAnsweredBy, MayLack, ReadsTarget, SaysWithout, stale_said, point_of, terms_with, goes_on_with, opened_now, opened_raised, IsDisk, said_as, silent_not, NoTarget, called_as, takes_then}
+use Rattle.acq_cli.proofs.Prelude.{Bool, Candidate, Err, Event, GoesOn, Holds, IfOk, IsAnsweredBy, IsDisk, IsSaid, Language, List, Loses, Ok, OnErr, Option, Plan, ReadsTarget, Result, Saying, SaysNoNetwork, SaysUnplayed, Tries, Unsaid, [], ap, arith, called_as, false, goes_on_with, inl, inr, net_may_say, net_turn, ok_any, opened_raised, over_opened, over_refused, point_of, question_of, refl, said_as, silent_not, stale_said, standing_on, subst, sym, takes_then, terms_with, voc_of, ℕ, ◌∙◌, ◌≡◌, ◌≤◌}
 use Rattle.acq_io.proofs.CallLemmas.{called_on}
 use Rattle.session_store.specs.Keeping.{FailsWith}
 use Rattle.session_store.specs.Store.{lang_of, plan_of, events_of}
 use Rattle.acq_said.specs.Breaks.{BreaksRun}
+use Rattle.acq_said.specs.Inputs.{SaysOfInput}
 use Rattle.acq_cli.proofs.Targets.{answered, none_at_all}
 use Rattle.acq_cli.proofs.Causes.{called_unless, ends_read}
-use Rattle.acq_cli.specs.declared.playing.NoTarget.TheVariants as without
 use Rattle.acq_said.specs.declared.said.Unsaid.TheVariants as unsaid
 use Rattle.network.specs.Learned.{Learned}
 use Rattle.acq_cli.proofs.playing.play_journal.Goals as goal
 
-abbrev untaken : NoTarget → Result Learned NoTarget
-untaken why = Err why
+abbrev Targeted : Type 0
+Targeted = Result Learned (Result Saying Unsaid)
 
-same_why : (a b : NoTarget) → untaken a ≡ untaken b → a ≡ b
-same_why a b e = cc
-
-abbrev taken : Learned → Result Learned NoTarget
+abbrev taken : Learned → Targeted
 taken target = Ok target
 
-lacks_none : (target : Learned) (why : NoTarget) → taken target ≡ untaken why → ⊥
-lacks_none target why e = cc
+abbrev untaken : Result Saying Unsaid → Targeted
+untaken said = Err said
+
+same_said : (a b : Result Saying Unsaid) → untaken a ≡ untaken b → a ≡ b
+same_said a b e = cc
+
+lacks_none : (target : Learned) (said : Result Saying Unsaid) → taken target ≡ untaken said → ⊥
+lacks_none target said e = cc
+
+pub returns-in-Err-clause-plays : goal.returns-in-Err-clause-plays
+returns-in-Err-clause-plays g c =
+    let left = g.S.Source.left c.args.input.now in
+    let refused = c.refuse_journal.ensures.refuses in
+    inl (
+      refused.0,
+      over_refused g.D.Disk (SaysUnplayed left left) (λ o. Unit {0}) c.args.disk.now c.open.new.disk refused.0 c.open.ensures.only_read.same c.open.ensures.only_read.any_moment c.open.ensures.few_calls
+          c.in-Err.fault c.in-Err.ensures.refused c.in-Err.ensures.some (inl c.in-Err.ensures.synced) (refused.1, refl),
+      refused.2,
+    )
 
 pub returns-then-count-ge1-clause-plays : goal.returns-then-count-ge1-clause-plays
 returns-then-count-ge1-clause-plays g c =
-    let store = c.in-Ok.store in
-    inr (inl (record {
-      opened = record {
-        plan = plan_of store;
-        voc = voc_of store;
-        events = events_of store;
-        says = c.in-Ok.ensures.opened;
-        some = c.in-Ok.ensures.some;
-        lang = lang_of store;
-        read = c.in-Ok.ensures.sound.read;
-        places = c.in-Ok.ensures.places;
-        same = c.open.ensures.only_read.same;
-        any_moment = c.open.ensures.only_read.any_moment;
-        now = λ bytes told. let was = c.open.ensures.only_read.same ∙ told in opened_now g.D.Disk c.open.new.disk store bytes was (c.in-Ok.ensures.sits c.in-Ok.ensures.live bytes was);
-        calls = c.open.ensures.few_calls;
-      };
-      number = c.answers_of-count.result;
-      is = c.answers_of-count.ensures.is;
-      some = omega (arith, c.if-count-ge1.true);
-      tells = (c.or_silent.result, said_as c.stale.result c.or_silent.result (stale_said c.answers_of-count.result) (stale_said c.answers_of-count.result) c.or_silent.ensures refl c.stale.ensures, c.put.ensures.writes);
-      unread = refl;
-    }))
+    let left = g.S.Source.left c.args.input.now in
+    let said = c.or_silent.result in
+    let m = c.answers_of-count.result in
+    let Stale : ℕ → Type 0 = λ n. (1 ≤ n) × IsSaid (stale_said n) said in
+    let stale : Stale m = (omega (arith, c.if-count-ge1.true), said_as c.stale.result said (stale_said m) (stale_said m) c.or_silent.ensures refl c.stale.ensures) in
+    let told = subst Stale c.answers_of-count.ensures.is stale in
+    inl (
+      said,
+      over_opened g.D.Disk (SaysUnplayed left left) (λ o. Unit {0}) c.args.disk.now c.open.new.disk said c.open.ensures.only_read.same c.open.ensures.only_read.any_moment c.open.ensures.few_calls
+          c.in-Ok.store c.in-Ok.ensures.opened c.in-Ok.ensures.some c.in-Ok.ensures.sound.read c.in-Ok.ensures.places (c.in-Ok.ensures.sits c.in-Ok.ensures.live) (inl (told.0, told.1, refl)) (ok_any said tt),
+      c.put.ensures.writes,
+    )
 
 pub returns-clause-plays : goal.returns-clause-plays
 returns-clause-plays g c =
     let store = c.in-Ok.store in
-    let Lacks : Language → Type 0 = λ l. MayLack l (g.S.Source.left c.args.input.now) (g.S.Source.left c.read_target.new.input) c.in-Err-read_target.why in
-    inr (inr (inl (record {
-      opened = record {
-        plan = plan_of store;
-        voc = voc_of store;
-        events = events_of store;
-        says = c.in-Ok.ensures.opened;
-        some = c.in-Ok.ensures.some;
-        lang = lang_of store;
-        read = c.in-Ok.ensures.sound.read;
-        places = c.in-Ok.ensures.places;
-        same = c.open.ensures.only_read.same;
-        any_moment = c.open.ensures.only_read.any_moment;
-        now = λ bytes told. let was = c.open.ensures.only_read.same ∙ told in opened_now g.D.Disk c.open.new.disk store bytes was (c.in-Ok.ensures.sits c.in-Ok.ensures.live bytes was);
-        calls = c.open.ensures.few_calls;
-      };
-      fresh = none_at_all (standing_on (lang_of store) (events_of store)) (let few = c.if-count-ge1.false in let is = c.answers_of-count.ensures.is in omega (arith, few, is));
-      why = c.in-Err-read_target.why;
-      lacks = subst Lacks c.lang_of.ensures.is c.in-Err-read_target.ensures.lacks;
-      ends = (c.untargeted.result, c.untargeted.ensures.says, c.put-in-Err-read_target.ensures.writes);
-    })))
+    let left = g.S.Source.left c.args.input.now in
+    let left' = g.S.Source.left c.read_target.new.input in
+    let said = c.in-Err-read_target.said in
+    let Lacks : Language → Type 0 = λ l. SaysOfInput 4194304 (SaysNoNetwork l) left left' said in
+    let fresh : standing_on (lang_of store) (events_of store) ≡ [] = none_at_all (standing_on (lang_of store) (events_of store)) (let few = c.if-count-ge1.false in let is = c.answers_of-count.ensures.is in omega (arith, few, is)) in
+    inl (
+      said,
+      over_opened g.D.Disk (SaysUnplayed left left') (λ o. Unit {0}) c.args.disk.now c.open.new.disk said c.open.ensures.only_read.same c.open.ensures.only_read.any_moment c.open.ensures.few_calls
+          store c.in-Ok.ensures.opened c.in-Ok.ensures.some c.in-Ok.ensures.sound.read c.in-Ok.ensures.places (c.in-Ok.ensures.sits c.in-Ok.ensures.live) (inr (fresh, subst Lacks c.lang_of.ensures.is c.in-Err-read_target.ensures.lacks)) (ok_any said tt),
+      c.put-in-Err-read_target.ensures.writes,
+    )
 
 pub returns-in-Ok-read_target-clause-plays : goal.returns-in-Ok-read_target-clause-plays
 returns-in-Ok-read_target-clause-plays g c =
@@ -105,7 +99,11 @@ returns-in-Ok-read_target-clause-plays g c =
     (λ no bytes told. c.ask_on.ensures.keeps.persists refl bytes told no) (subst Lost c.new-teacher.ensures.quiet (λ is. c.ask_on.ensures.keeps.fails is))
     tries (subst Part c.new-teacher.ensures.quiet c.ask_on.ensures.asked.part)
     (fresh, reads, answered (net_turn target false) l terms target (events_of store) (events_of after) rest written left' written' c.ask_on.result reads.lawful fresh c.ask_on.ensures.taught.added c.ask_on.ensures.taught.said tries) in
-    inr (inr (inr (record { target = target; rest = rest; on = on.0; fresh = on.1.0; reads = on.1.1; alone = ap g.S.Source.left (c.ask_on.ensures.unread refl); answered = on.1.2 })))
+    let Played : Option (List ℕ) → Type 0 = λ r.
+    (on : GoesOn D (net_turn target false) (net_may_say target) c.args.budget r written left' written' c.args.disk.now c.ask_on.new.disk c.ask_on.result) × (standing_on on.of.lang on.of.events ≡ []) × ReadsTarget on.of.lang left r target
+    × IsAnsweredBy target on.of.lang (terms_with on.of.plan c.args.budget) (standing_on on.of.lang on.later) c.ask_on.result in
+    let played = subst Played (sym (ap g.S.Source.left (c.ask_on.ensures.unread refl))) (on.0, on.1.0, on.1.1, on.1.2) in
+    inr (record { target = target; on = played.0; fresh = played.1; reads = played.2; answered = played.3 })
 
 pub returns-in-Ok-read_target-clause-takes : goal.returns-in-Ok-read_target-clause-takes
 returns-in-Ok-read_target-clause-takes g c = takes_then _ _ _ c.read_target.ensures.takes c.ask_on.ensures.faults.read.takes
@@ -113,7 +111,7 @@ returns-in-Ok-read_target-clause-takes g c = takes_then _ _ _ c.read_target.ensu
 pub returns-in-Ok-read_target-clause-read : goal.returns-in-Ok-read_target-clause-read
 returns-in-Ok-read_target-clause-read g c =
     called_on _ _ _ _ _ _ _
-    (called_as _ _ _ _ _ _ (λ is. lacks_none c.in-Ok-read_target.target without.ReadFault (sym c.in-Ok-read_target.is ∙ is)) (λ never. absurd never) c.read_target.ensures.called)
+    (called_as _ _ _ _ _ _ (λ is. lacks_none c.in-Ok-read_target.target (Err unsaid.ReadFault) (sym c.in-Ok-read_target.is ∙ is)) (λ never. absurd never) c.read_target.ensures.called)
     c.ask_on.ensures.faults.read.called
 
 pub returns-then-count-ge1-clause-read : goal.returns-then-count-ge1-clause-read
@@ -124,13 +122,10 @@ returns-then-count-ge1-clause-lost g c is = absurd (silent_not c.stale.result c.
 
 pub returns-clause-read : goal.returns-clause-read
 returns-clause-read g c =
-    let why : NoTarget = c.in-Err-read_target.why in
-    let Says : NoTarget → Type 0 = λ w. SaysWithout w c.untargeted.result in
     called_as _ _ _ _ _ _
-    (λ is.
-    ends_read c.untargeted.result (g.K.Sink.written c.args.out.now) (g.K.Sink.written c.put-in-Err-read_target.new.out) c.put-in-Err-read_target.result c.put-in-Err-read_target.ensures.writes
-    (subst Says (same_why why without.ReadFault (sym c.in-Err-read_target.is ∙ is)) c.untargeted.ensures.says))
-    (λ is. c.in-Err-read_target.is ∙ ap untaken (c.untargeted.ensures.read (c.put-in-Err-read_target.ensures.read is))) c.read_target.ensures.called
+    (λ is. ends_read c.in-Err-read_target.said (g.K.Sink.written c.args.out.now) (g.K.Sink.written c.put-in-Err-read_target.new.out) c.put-in-Err-read_target.result c.put-in-Err-read_target.ensures.writes
+    (same_said c.in-Err-read_target.said (Err unsaid.ReadFault) (sym c.in-Err-read_target.is ∙ is)))
+    (λ is. c.in-Err-read_target.is ∙ ap untaken (c.put-in-Err-read_target.ensures.read is)) c.read_target.ensures.called
 
 pub returns-clause-lost : goal.returns-clause-lost
-returns-clause-lost g c is = absurd (c.untargeted.ensures.no_disk (c.put-in-Err-read_target.ensures.lost is))
+returns-clause-lost g c is = absurd (c.in-Err-read_target.ensures.no_disk (c.put-in-Err-read_target.ensures.lost is))

@@ -1,4 +1,4 @@
-use Rattle.acq_cli.proofs.Prelude.{◌≡◌, ◌⊎◌, ◌≤◌, ◌∙◌, ℕ, inl, inr, ⊎_elim, Result, Ok, Err, sym, subst, refl, arith, Put, Language, IsLanguage, standing_on, knowledge_of, keeps_still, keeps_as, rose_later, terms_with, Ending, called_as, okay, begun_part, at_turn, said_of}
+use Rattle.acq_cli.proofs.Prelude.{Ending, Err, IsLanguage, Language, Ok, Put, Result, arith, at_turn, begun_part, called_as, failed, inl, inr, keeps_as, keeps_still, knowledge_of, okay, refl, rose_later, rules, said_of, standing_on, subst, sym, terms_with, ℕ, ⊎_elim, ◌∙◌, ◌≡◌, ◌≤◌, ◌⊎◌}
 use Rattle.acq_io.specs.Streams.{Rose}
 use Rattle.acq_io.specs.declared.streams.Put.TheVariants as puts
 use Rattle.query_gen.specs.Marks.{IsMadeFor}
@@ -12,163 +12,109 @@ use Rattle.acq_cli.proofs.top.ask_on.Goals as goal
 
 -- whether the output failed in the loop
 write_failed : (how : Drove) → (how ≡ drove.WriteFault) ⊎ (how ≡ drove.WriteFault → ⊥)
-write_failed (drove.Converged m) = inr (λ e. cc)
-write_failed (drove.Collapsed m) = inr (λ e. cc)
-write_failed (drove.Undecided m) = inr (λ e. cc)
-write_failed (drove.Suspended m) = inr (λ e. cc)
-write_failed drove.LineTooLong = inr (λ e. cc)
-write_failed drove.Unreadable = inr (λ e. cc)
-write_failed drove.ReadFault = inr (λ e. cc)
 write_failed drove.WriteFault = inl refl
-write_failed drove.DiskFault = inr (λ e. cc)
-write_failed drove.JournalFull = inr (λ e. cc)
-write_failed drove.Memory = inr (λ e. cc)
+write_failed how = inr (λ e. cc)
 
 rose_still : (a b c : ℕ) → Rose a b → b ≤ c → Rose a c
 rose_still a b c rose le = omega arith
 
-not_failed : (let r : Result Ending Put = Err puts.Memory in r) ≡ Err puts.Failed → ⊥
-not_failed e = cc
+wanting : (let r : Result Ending Put = Err puts.Memory in r) ≡ Err puts.Failed → ⊥
+wanting e = cc
 
-pub returns-clause-asked : goal.returns-clause-asked
-returns-clause-asked g c =
+not_okay : (let r : Result Ending Put = Err puts.Memory in r) ≡ Ok ending.DiskFault → ⊥
+not_okay e = cc
+
+pub returns : goal.returns
+returns g c =
     let P = g.P.Keep in
     let old = c.args.keep.now in
     let new = c.drive-drove.new.keep in
     let there = c.session-session.ensures in
+    let drives = c.drive-drove.ensures in
     let on = said_of P (g.T.Teacher.turn c.args.teacher.now) old new c.args.budget (g.S.Source.left c.args.input.now) (g.K.Sink.written c.args.out.now) (g.S.Source.left c.drive-drove.new.source) (g.K.Sink.written c.drive-drove.new.sink)
-    (g.K.Sink.written c.say.new.out) c.session-session.result.now c.drive-drove.new.screen c.drive-drove.result c.say.result (g.T.Teacher.may_say c.args.teacher.now (P.lang old)) c.drive-drove.ensures.same there.stands there.lang there.plan c.drive-drove.ensures.walked c.drive-drove.ensures.ends
-    (c.say.ensures.says c.args.budget) (c.say.ensures.part c.args.budget) in
-    on.asked
-
-pub returns-clause-faults : goal.returns-clause-faults
-returns-clause-faults g c =
-    let P = g.P.Keep in
-    let old = c.args.keep.now in
-    let new = c.drive-drove.new.keep in
-    let there = c.session-session.ensures in
-    let on = said_of P (g.T.Teacher.turn c.args.teacher.now) old new c.args.budget (g.S.Source.left c.args.input.now) (g.K.Sink.written c.args.out.now) (g.S.Source.left c.drive-drove.new.source) (g.K.Sink.written c.drive-drove.new.sink)
-    (g.K.Sink.written c.say.new.out) c.session-session.result.now c.drive-drove.new.screen c.drive-drove.result c.say.result (g.T.Teacher.may_say c.args.teacher.now (P.lang old)) c.drive-drove.ensures.same there.stands there.lang there.plan c.drive-drove.ensures.walked c.drive-drove.ensures.ends
+    (g.K.Sink.written c.say.new.out) c.session-session.result.now c.drive-drove.new.screen c.drive-drove.result c.say.result (g.T.Teacher.may_say c.args.teacher.now (P.lang old)) drives.same there.stands there.lang there.plan drives.walked drives.ends
     (c.say.ensures.says c.args.budget) (c.say.ensures.part c.args.budget) in
     record {
-      read = record {
-        takes = c.drive-drove.ensures.faults.read.takes;
-        called = called_as _ _ _ _ (c.drive-drove.result ≡ drove.ReadFault) (c.say.result ≡ okay ending.ReadFault) on.read_told on.read_of c.drive-drove.ensures.faults.read.called;
+      asked = on.asked;
+      faults = record {
+        read = record {
+          takes = drives.faults.read.takes;
+          called = called_as _ _ _ _ (c.drive-drove.result ≡ drove.ReadFault) (c.say.result ≡ okay ending.ReadFault) on.read_told on.read_of drives.faults.read.called;
+        };
+        write = record {
+          later = omega (arith, drives.faults.write.later, c.say.ensures.later_sink);
+          rose = λ failed.
+              ⊎_elim (λ is. rose_still _ _ _ (drives.faults.write.rose is) c.say.ensures.later_sink) (λ other. rose_later _ _ _ drives.faults.write.later (c.say.ensures.failed failed other)) (write_failed c.drive-drove.result);
+        };
       };
-      write = record {
-        later = omega (arith, c.drive-drove.ensures.faults.write.later, c.say.ensures.later_sink);
-        rose = λ failed.
-            ⊎_elim (λ is. rose_still _ _ _ (c.drive-drove.ensures.faults.write.rose is) c.say.ensures.later_sink)
-            (λ other. rose_later _ _ _ c.drive-drove.ensures.faults.write.later (c.say.ensures.failed failed other)) (write_failed c.drive-drove.result);
-      };
+      no_fault = on.no_fault;
+      taught = record { added = drives.taught.added; said = on.may_end drives.taught.said };
+      unread = search rules;
+      keeps = keeps_as g.D.Disk g.met.D.Disk.counts_now g.met.D.Disk.only_now P (c.drive-drove.result ≡ drove.DiskFault) (c.say.result ≡ Ok ending.DiskFault) _ _ old new c.args.disk.now c.drive-drove.new.disk on.disk_of on.disk_told on.loses drives.keeps;
+      same = search rules;
+      lawful = subst IsLanguage (c.lang-lang.ensures.is ∙ c.session-start.ensures.lang) c.lang-lang.ensures.lawful;
     }
 
-pub returns-in_default-clause-faults : goal.returns-in_default-clause-faults
-returns-in_default-clause-faults g c = record {
-  read = record { takes = takes_same (g.S.Source.left c.args.input.now); called = called_idle _ _ _ tt };
-  write = record { later = omega arith; rose = λ failed. absurd (not_failed failed) };
-}
-
-pub returns-in_default-new-clause-faults : goal.returns-in_default-new-clause-faults
-returns-in_default-new-clause-faults g c = record {
-  read = record { takes = takes_same (g.S.Source.left c.args.input.now); called = called_idle _ _ _ tt };
-  write = record { later = omega arith; rose = λ failed. absurd (not_failed failed) };
-}
-
-pub returns-clause-taught : goal.returns-clause-taught
-returns-clause-taught g c =
+pub returns-in_default : goal.returns-in_default
+returns-in_default g c =
+    let D = g.D.Disk in
     let P = g.P.Keep in
-    let old = c.args.keep.now in
-    let new = c.drive-drove.new.keep in
-    let there = c.session-session.ensures in
-    let on = said_of P (g.T.Teacher.turn c.args.teacher.now) old new c.args.budget (g.S.Source.left c.args.input.now) (g.K.Sink.written c.args.out.now) (g.S.Source.left c.drive-drove.new.source) (g.K.Sink.written c.drive-drove.new.sink)
-    (g.K.Sink.written c.say.new.out) c.session-session.result.now c.drive-drove.new.screen c.drive-drove.result c.say.result (g.T.Teacher.may_say c.args.teacher.now (P.lang old)) c.drive-drove.ensures.same there.stands there.lang there.plan c.drive-drove.ensures.walked c.drive-drove.ensures.ends
-    (c.say.ensures.says c.args.budget) (c.say.ensures.part c.args.budget) in
-    record { added = c.drive-drove.ensures.taught.added; said = on.may_end c.drive-drove.ensures.taught.said }
+    let l = P.lang c.args.keep.now in
+    let plan = P.plan c.args.keep.now in
+    let may = g.T.Teacher.may_say c.args.teacher.now l in
+    let t = standing_on l (P.record_of c.args.keep.now) in
+    let s = c.session-start.result.now in
+    let at = at_turn s l c.lang-lang.result.now plan t (knowledge_of s).answers c.session-start.ensures.stands c.session-start.ensures.lang c.session-start.ensures.plan refl c.lang-lang.ensures.is c.lang-lang.ensures.lawful in
+    record {
+      asked = record {
+        tries = tt;
+        part = begun_part (g.T.Teacher.turn c.args.teacher.now) l (terms_with plan c.args.budget) (P.record_of c.args.keep.now) (g.S.Source.left c.args.input.now) (g.K.Sink.written c.args.out.now) at.lawful
+            (record { reached = at.reached; few = g.met.P.Keep.few c.args.keep.now c.requires.keeper.sound });
+      };
+      faults = record {
+        read = record { takes = takes_same (g.S.Source.left c.args.input.now); called = called_idle _ _ _ tt };
+        write = record { later = omega arith; rose = λ failed. absurd (wanting failed) };
+      };
+      no_fault = tt;
+      taught = taught_none l plan may (P.record_of c.args.keep.now) (P.record_of c.args.keep.now) refl tt;
+      unread = λ still. refl;
+      keeps = keeps_still D g.met.D.Disk.counts_now g.met.D.Disk.only_now P _ _ c.args.keep.now c.args.keep.now c.args.disk.now not_okay refl refl refl refl refl refl c.requires.keeper.live c.requires.keeper.sits
+          (λ w bytes told f left. g.met.P.Keep.lasts c.args.keep.now c.args.disk.now w c.requires.keeper.live c.requires.keeper.sits bytes told f left);
+      same = search rules;
+      lawful = at.lawful;
+    }
 
-pub returns-clause-no_fault : goal.returns-clause-no_fault
-returns-clause-no_fault g c =
+pub returns-in_default-new : goal.returns-in_default-new
+returns-in_default-new g c =
+    let D = g.D.Disk in
     let P = g.P.Keep in
-    let old = c.args.keep.now in
-    let new = c.drive-drove.new.keep in
-    let there = c.session-session.ensures in
-    let on = said_of P (g.T.Teacher.turn c.args.teacher.now) old new c.args.budget (g.S.Source.left c.args.input.now) (g.K.Sink.written c.args.out.now) (g.S.Source.left c.drive-drove.new.source) (g.K.Sink.written c.drive-drove.new.sink)
-    (g.K.Sink.written c.say.new.out) c.session-session.result.now c.drive-drove.new.screen c.drive-drove.result c.say.result (g.T.Teacher.may_say c.args.teacher.now (P.lang old)) c.drive-drove.ensures.same there.stands there.lang there.plan c.drive-drove.ensures.walked c.drive-drove.ensures.ends
-    (c.say.ensures.says c.args.budget) (c.say.ensures.part c.args.budget) in
-    on.no_fault
-
-pub returns-clause-keeps : goal.returns-clause-keeps
-returns-clause-keeps g c =
-    let P = g.P.Keep in
-    let old = c.args.keep.now in
-    let new = c.drive-drove.new.keep in
-    let there = c.session-session.ensures in
-    let on = said_of P (g.T.Teacher.turn c.args.teacher.now) old new c.args.budget (g.S.Source.left c.args.input.now) (g.K.Sink.written c.args.out.now) (g.S.Source.left c.drive-drove.new.source) (g.K.Sink.written c.drive-drove.new.sink)
-    (g.K.Sink.written c.say.new.out) c.session-session.result.now c.drive-drove.new.screen c.drive-drove.result c.say.result (g.T.Teacher.may_say c.args.teacher.now (P.lang old)) c.drive-drove.ensures.same there.stands there.lang there.plan c.drive-drove.ensures.walked c.drive-drove.ensures.ends
-    (c.say.ensures.says c.args.budget) (c.say.ensures.part c.args.budget) in
-    keeps_as g.D.Disk g.met.D.Disk.counts_now g.met.D.Disk.only_now P (c.drive-drove.result ≡ drove.DiskFault) (c.say.result ≡ Ok ending.DiskFault) _ _ old new c.args.disk.now c.drive-drove.new.disk on.disk_of on.disk_told on.loses
-    c.drive-drove.ensures.keeps
-
-pub returns-in_default-clause-taught : goal.returns-in_default-clause-taught
-returns-in_default-clause-taught g c = taught_none (g.P.Keep.lang c.args.keep.now) (g.P.Keep.plan c.args.keep.now) (g.T.Teacher.may_say c.args.teacher.now (g.P.Keep.lang c.args.keep.now)) (g.P.Keep.record_of c.args.keep.now) (g.P.Keep.record_of c.args.keep.now) refl tt
-
-pub returns-in_default-new-clause-taught : goal.returns-in_default-new-clause-taught
-returns-in_default-new-clause-taught g c = taught_none (g.P.Keep.lang c.args.keep.now) (g.P.Keep.plan c.args.keep.now) (g.T.Teacher.may_say c.args.teacher.now (g.P.Keep.lang c.args.keep.now)) (g.P.Keep.record_of c.args.keep.now) (g.P.Keep.record_of c.args.keep.now) refl tt
-
-pub returns-clause-lawful : goal.returns-clause-lawful
-returns-clause-lawful g c = subst IsLanguage (c.lang-lang.ensures.is ∙ c.session-start.ensures.lang) c.lang-lang.ensures.lawful
-
-pub returns-in_default-clause-lawful : goal.returns-in_default-clause-lawful
-returns-in_default-clause-lawful g c = subst IsLanguage (c.lang-lang.ensures.is ∙ c.session-start.ensures.lang) c.lang-lang.ensures.lawful
-
-pub returns-in_default-new-clause-lawful : goal.returns-in_default-new-clause-lawful
-returns-in_default-new-clause-lawful g c = subst IsLanguage (c.lang-lang.ensures.is ∙ c.session-start.ensures.lang) c.lang-lang.ensures.lawful
+    let l = P.lang c.args.keep.now in
+    let plan = P.plan c.args.keep.now in
+    let may = g.T.Teacher.may_say c.args.teacher.now l in
+    let t = standing_on l (P.record_of c.args.keep.now) in
+    let s = c.session-start.result.now in
+    let at = at_turn s l c.lang-lang.result.now plan t (knowledge_of s).answers c.session-start.ensures.stands c.session-start.ensures.lang c.session-start.ensures.plan refl c.lang-lang.ensures.is c.lang-lang.ensures.lawful in
+    record {
+      asked = record {
+        tries = tt;
+        part = begun_part (g.T.Teacher.turn c.args.teacher.now) l (terms_with plan c.args.budget) (P.record_of c.args.keep.now) (g.S.Source.left c.args.input.now) (g.K.Sink.written c.args.out.now) at.lawful
+            (record { reached = at.reached; few = g.met.P.Keep.few c.args.keep.now c.requires.keeper.sound });
+      };
+      faults = record {
+        read = record { takes = takes_same (g.S.Source.left c.args.input.now); called = called_idle _ _ _ tt };
+        write = record { later = omega arith; rose = λ failed. absurd (wanting failed) };
+      };
+      no_fault = tt;
+      taught = taught_none l plan may (P.record_of c.args.keep.now) (P.record_of c.args.keep.now) refl tt;
+      unread = λ still. refl;
+      keeps = keeps_still D g.met.D.Disk.counts_now g.met.D.Disk.only_now P _ _ c.args.keep.now c.args.keep.now c.args.disk.now not_okay refl refl refl refl refl refl c.requires.keeper.live c.requires.keeper.sits
+          (λ w bytes told f left. g.met.P.Keep.lasts c.args.keep.now c.args.disk.now w c.requires.keeper.live c.requires.keeper.sits bytes told f left);
+      same = search rules;
+      lawful = at.lawful;
+    }
 
 pub say-requires : goal.say-requires
 say-requires g c =
     let P = g.P.Keep in
     let Made : Language → Type 0 = λ m. IsMadeFor m c.drive-drove.new.screen in
     record { made = subst Made (sym (c.session-session.ensures.lang ∙ c.drive-drove.ensures.same.lang)) c.drive-drove.ensures.ends.tells.made }
-
-not_okay : (let r : Result Ending Put = Err puts.Memory in r) ≡ Ok ending.DiskFault → ⊥
-not_okay e = cc
-
-pub returns-in_default-clause-asked : goal.returns-in_default-clause-asked
-returns-in_default-clause-asked g c =
-    let P = g.P.Keep in
-    let l = P.lang c.args.keep.now in
-    let plan = P.plan c.args.keep.now in
-    let t = standing_on l (P.record_of c.args.keep.now) in
-    let s = c.session-start.result.now in
-    let at = at_turn s l c.lang-lang.result.now plan t (knowledge_of s).answers c.session-start.ensures.stands c.session-start.ensures.lang c.session-start.ensures.plan refl c.lang-lang.ensures.is c.lang-lang.ensures.lawful in
-    record {
-      tries = tt;
-      part = begun_part (g.T.Teacher.turn c.args.teacher.now) l (terms_with plan c.args.budget) (P.record_of c.args.keep.now) (g.S.Source.left c.args.input.now) (g.K.Sink.written c.args.out.now) at.lawful
-          (record { reached = at.reached; few = g.met.P.Keep.few c.args.keep.now c.requires.keeper.sound });
-    }
-
-pub returns-in_default-clause-keeps : goal.returns-in_default-clause-keeps
-returns-in_default-clause-keeps g c =
-    let D = g.D.Disk in let P = g.P.Keep in
-    keeps_still D g.met.D.Disk.counts_now g.met.D.Disk.only_now P _ _ c.args.keep.now c.args.keep.now c.args.disk.now not_okay refl refl refl refl refl refl c.requires.keeper.live c.requires.keeper.sits
-    (λ w bytes told f left. g.met.P.Keep.lasts c.args.keep.now c.args.disk.now w c.requires.keeper.live c.requires.keeper.sits bytes told f left)
-
-pub returns-in_default-new-clause-asked : goal.returns-in_default-new-clause-asked
-returns-in_default-new-clause-asked g c =
-    let P = g.P.Keep in
-    let l = P.lang c.args.keep.now in
-    let plan = P.plan c.args.keep.now in
-    let t = standing_on l (P.record_of c.args.keep.now) in
-    let s = c.session-start.result.now in
-    let at = at_turn s l c.lang-lang.result.now plan t (knowledge_of s).answers c.session-start.ensures.stands c.session-start.ensures.lang c.session-start.ensures.plan refl c.lang-lang.ensures.is c.lang-lang.ensures.lawful in
-    record {
-      tries = tt;
-      part = begun_part (g.T.Teacher.turn c.args.teacher.now) l (terms_with plan c.args.budget) (P.record_of c.args.keep.now) (g.S.Source.left c.args.input.now) (g.K.Sink.written c.args.out.now) at.lawful
-          (record { reached = at.reached; few = g.met.P.Keep.few c.args.keep.now c.requires.keeper.sound });
-    }
-
-pub returns-in_default-new-clause-keeps : goal.returns-in_default-new-clause-keeps
-returns-in_default-new-clause-keeps g c =
-    let D = g.D.Disk in let P = g.P.Keep in
-    keeps_still D g.met.D.Disk.counts_now g.met.D.Disk.only_now P _ _ c.args.keep.now c.args.keep.now c.args.disk.now not_okay refl refl refl refl refl refl c.requires.keeper.live c.requires.keeper.sits
-    (λ w bytes told f left. g.met.P.Keep.lasts c.args.keep.now c.args.disk.now w c.requires.keeper.live c.requires.keeper.sits bytes told f left)

@@ -1,59 +1,34 @@
-use Rattle.acq_cli.proofs.Prelude.{◌∙◌, Result, Ok, ap, map, subst, sym, string_bytes, Command, UsageFault, Does, terms_with, Spares, command_asked, acquires_as}
+use Rattle.acq_cli.proofs.Prelude.{Ok, acquires_as, command_asked, map, string_bytes, terms_with}
 use Rattle.acq_cli.proofs.Asked.{does_nothing, does_speak}
 use Rattle.acq_cli.proofs.Causes.{called_put, ok_causes}
 use Rattle.acq_cli.proofs.top.perform.Goals as goal
 
-abbrev asked_for : Command → Result Command UsageFault
-asked_for c = Ok c
-
 pub returns-in-Err-Memory-clause-does : goal.returns-in-Err-Memory-clause-does
 returns-in-Err-Memory-clause-does g c =
-    let D = g.D.Disk in
-    does_nothing D g.met.D.Disk.only_now (g.S.Source.left c.args.input.now) (g.K.Sink.written c.args.out.now) c.args.disk.now (command_asked (map string_bytes c.args.words.now))
+    does_nothing g.D.Disk g.met.D.Disk.only_now (g.S.Source.left c.args.input.now) (g.K.Sink.written c.args.out.now) c.args.disk.now (command_asked (map string_bytes c.args.words.now))
 
 pub returns-in-Run-clause-does : goal.returns-in-Run-clause-does
-returns-in-Run-clause-does g c =
-    let D = g.D.Disk in
-    let Done : Result Command UsageFault → Type 0 = λ asked.
-    Does D asked (g.S.Source.left c.args.input.now) (g.K.Sink.written c.args.out.now) (g.S.Source.left c.run_journal.new.input) (g.K.Sink.written c.run_journal.new.out) c.args.disk.now c.run_journal.new.disk c.run_journal.result in
-    subst Done (sym (c.in-Ok.ensures.is ∙ ap asked_for c.in-Run.is)) c.run_journal.ensures.runs
+returns-in-Run-clause-does g c = rw (c.in-Ok.ensures.is, c.in-Run.is) c.run_journal.ensures.runs
 
 pub returns-in-Try-clause-does : goal.returns-in-Try-clause-does
 returns-in-Try-clause-does g c =
-    let D = g.D.Disk in
-    let Done : Result Command UsageFault → Type 0 = λ asked.
-    Does D asked (g.S.Source.left c.args.input.now) (g.K.Sink.written c.args.out.now) (g.S.Source.left c.try_input.new.input) (g.K.Sink.written c.try_input.new.out) c.args.disk.now c.args.disk.now c.try_input.result in
-    subst Done (sym (c.in-Ok.ensures.is ∙ ap asked_for c.in-Try.is)) (acquires_as (terms_with c.in-Try.plan c.in-Try.budget) (g.S.Source.left c.args.input.now) (g.K.Sink.written c.args.out.now) (g.S.Source.left c.try_input.new.input) (g.K.Sink.written c.try_input.new.out) c.try_input.result c.try_input.ensures.acquires c.try_input.ensures.part)
+    rw (c.in-Ok.ensures.is, c.in-Try.is)
+    (acquires_as (terms_with c.in-Try.plan c.in-Try.budget) (g.S.Source.left c.args.input.now) (g.K.Sink.written c.args.out.now) (g.S.Source.left c.try_input.new.input) (g.K.Sink.written c.try_input.new.out) c.try_input.result c.try_input.ensures.acquires c.try_input.ensures.part)
 
 pub returns-in-Play-clause-does : goal.returns-in-Play-clause-does
-returns-in-Play-clause-does g c =
-    let D = g.D.Disk in
-    let Done : Result Command UsageFault → Type 0 = λ asked.
-    Does D asked (g.S.Source.left c.args.input.now) (g.K.Sink.written c.args.out.now) (g.S.Source.left c.play_journal.new.input) (g.K.Sink.written c.play_journal.new.out) c.args.disk.now c.play_journal.new.disk c.play_journal.result in
-    subst Done (sym (c.in-Ok.ensures.is ∙ ap asked_for c.in-Play.is)) c.play_journal.ensures.plays
+returns-in-Play-clause-does g c = rw (c.in-Ok.ensures.is, c.in-Play.is) c.play_journal.ensures.plays
 
 pub returns-in-Demo-clause-does : goal.returns-in-Demo-clause-does
-returns-in-Demo-clause-does g c =
-    let D = g.D.Disk in
-    let Done : Result Command UsageFault → Type 0 = λ asked.
-    Does D asked (g.S.Source.left c.args.input.now) (g.K.Sink.written c.args.out.now) (g.S.Source.left c.args.input.now) (g.K.Sink.written c.demo_number.new.out) c.args.disk.now c.args.disk.now c.demo_number.result in
-    subst Done (sym (c.in-Ok.ensures.is ∙ ap asked_for c.in-Demo.is)) c.demo_number.ensures.demos
+returns-in-Demo-clause-does g c = rw (c.in-Ok.ensures.is, c.in-Demo.is) c.demo_number.ensures.demos
 
 pub returns-in-New-clause-does : goal.returns-in-New-clause-does
 returns-in-New-clause-does g c =
-    let D = g.D.Disk in
-    let left = g.S.Source.left c.args.input.now in
-    let written = g.K.Sink.written c.args.out.now in
-    let left' = g.S.Source.left c.speak.new.input in
-    let written' = g.K.Sink.written c.put.new.out in
-    let Done : Result Command UsageFault → Type 0 = λ asked. Does D asked left written left' written' c.args.disk.now c.speak.new.disk c.put.result in
-    subst Done (sym c.in-Ok.ensures.is)
-    (does_speak D left written left' written' c.args.disk.now c.speak.new.disk c.put.result c.in-Ok.command (c.speak.result, c.speak.ensures.spoke, c.put.ensures.writes))
+    rw c.in-Ok.ensures.is
+    (does_speak g.D.Disk (g.S.Source.left c.args.input.now) (g.K.Sink.written c.args.out.now) (g.S.Source.left c.speak.new.input) (g.K.Sink.written c.put.new.out) c.args.disk.now c.speak.new.disk c.put.result c.in-Ok.command
+    (c.speak.result, c.speak.ensures.spoke, c.put.ensures.writes))
 
 pub returns-in-New-clause-spares : goal.returns-in-New-clause-spares
-returns-in-New-clause-spares g c =
-    let Spared : Result Command UsageFault → Type 0 = λ asked. Spares asked (g.S.Source.left c.args.input.now) (g.S.Source.left c.speak.new.input) c.args.disk.now c.speak.new.disk in
-    subst Spared (sym c.in-Ok.ensures.is) c.speak.ensures.spares
+returns-in-New-clause-spares g c = rw c.in-Ok.ensures.is c.speak.ensures.spares
 
 pub returns-in-New-clause-read : goal.returns-in-New-clause-read
 returns-in-New-clause-read g c = called_put _ _ _ _ c.speak.result (g.K.Sink.written c.args.out.now) (g.K.Sink.written c.put.new.out) c.put.result c.put.ensures.writes c.put.ensures.read c.speak.ensures.read

@@ -1,4 +1,4 @@
-use Rattle.acq_cli.proofs.Prelude.{refl, voc_refused, ends_ok, ends_part, ends_as, said_as}
+use Rattle.acq_cli.proofs.Prelude.{ends_as, ends_ok, ends_part, refl, said_as, voc_refused}
 use Rattle.acq_cli.proofs.top.refuse.Goals as goal
 
 pub returns-clause-ok : goal.returns-clause-ok

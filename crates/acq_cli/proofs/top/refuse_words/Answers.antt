@@ -1,4 +1,4 @@
-use Rattle.acq_cli.proofs.Prelude.{refl, saying, usage_text, ends_as, said_as}
+use Rattle.acq_cli.proofs.Prelude.{ends_as, refl, said_as, saying, usage_text}
 use Rattle.acq_loop.specs.declared.ending.Ending.TheVariants as ending
 use Rattle.acq_cli.proofs.top.refuse_words.Goals as goal
 

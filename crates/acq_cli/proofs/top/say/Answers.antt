@@ -1,4 +1,4 @@
-use Rattle.acq_cli.proofs.Prelude.{knowledge_of, terms_with}
+use Rattle.acq_cli.proofs.Prelude.{ended, knowledge_of, terms_with}
 use Rattle.acq_said.proofs.Sayings.{part_so, says_so}
 use Rattle.acq_cli.proofs.top.say.Goals as goal
 

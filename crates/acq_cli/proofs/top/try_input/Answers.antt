@@ -1,4 +1,4 @@
-use Rattle.acq_cli.proofs.Prelude.{rules, List, ℕ, Some, Result, refl, ap, sym, subst, ◌≡◌, ◌∙◌, Ok, Err, Vec, Global, AllFault, IsVocabulary, refusal_of_vocabulary, acquires_in, breaks_in, breaks_refused, called_as, takes_then}
+use Rattle.acq_cli.proofs.Prelude.{AllFault, Err, Global, IsVocabulary, List, Ok, Result, Some, Vec, acquires_in, ap, breaks_in, breaks_refused, called_as, failed, refl, refusal_of_vocabulary, rules, subst, sym, takes_then, ℕ, ◌∙◌, ◌≡◌}
 use Rattle.acq_io.specs.declared.whole.AllFault.TheVariants.{TooLong}
 use Rattle.acq_cli.proofs.top.try_input.Goals as goal
 

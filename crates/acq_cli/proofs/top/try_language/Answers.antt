@@ -1,4 +1,4 @@
-use Rattle.acq_cli.proofs.Prelude.{lang_of, plan_of, events_of, [], line_turn, false_is_not_true, begun, begun_part, fresh_tries, fresh_part}
+use Rattle.acq_cli.proofs.Prelude.{[], begun, begun_part, events_of, false_is_not_true, fresh_part, fresh_tries, lang_of, line_turn, plan_of}
 use Rattle.acq_cli.proofs.Causes.{no_disk_fault}
 use Rattle.acq_cli.proofs.top.try_language.Goals as goal
 

@@ -1,4 +1,5 @@
-use Rattle.acq_loop.proofs.Prelude.{◌≡◌, ◌∙◌, ◌+◌, ℕ, true, false, arith, List, length, is_some, ap, sym, subst, refl, Option, Some, called_as, called_not, Assignment, Event, Plan, Language, standing_on, IsSettled, knowledge_of, both_as, keeps_as, keeps_still, keeps_then, loses_none, loses_none_as, loses_nothing, Turns, Terms, Loses, MayFollow, EventKept, heard_of, event_on, EndsAs, is_unasked, point_of, terms_with, JournalFull, Drove, Entry}
+use Rattle.acq_loop.proofs.Prelude.{◌≡◌, ◌∙◌, ◌+◌, ℕ, true, false, arith, List, length, is_some, ap, sym, subst, refl, Option, Some, called_as, called_not, Assignment, Event, Plan, Language, standing_on, IsSettled, knowledge_of, both_as, keeps_as, keeps_still, keeps_then, loses_none, loses_none_as, loses_nothing, Turns, Terms, Loses, EventKept, heard_of, event_on, EndsAs, is_unasked, point_of, terms_with, JournalFull, Drove, Entry}
+use Rattle.acq_loop.proofs.Short.{MayFollow}
 use Rattle.acq_loop.specs.declared.driving.Drove.TheVariants as drove
 use Rattle.acq_loop.specs.declared.driving.Heard.TheVariants as heard
 use Rattle.acq_loop.proofs.Added.{adds, taught_kept, taught_none}
@@ -80,7 +81,7 @@ returns-then-is_full g c =
       again = λ none. absurd (let no : ⊥ = cc in no);
       ready = λ none. absurd (let no : ⊥ = cc in no);
       ends = subst Ends (sym only.events) (ends_closed turns l terms a a c.put_next.new.screen c.put_next.ensures.screen drove.JournalFull (λ m e. cc)
-          (λ is. record { question = due.question; puts = due.puts; full = full }, λ f. refl) (λ e. cc) (λ e. cc) (record { number = tt; found = (due.question, due.puts) })
+          (λ is. ((due.question, due.puts), full), λ f. refl) (λ e. cc) (λ e. cc) (record { number = tt; found = (due.question, due.puts) })
           (ran_end turns l terms JournalFull a (next_full l terms events due.question due.puts full)));
       same = record { lang = only.lang; plan = only.plan; sound = only.sound };
       taught = taught_none l (P.plan one) (g.T.Teacher.may_say c.args.teacher.now l) events (P.record_of two) only.events tt;
@@ -112,7 +113,6 @@ hear-requires g c =
 pub keep_event-requires : goal.keep_event-requires
 keep_event-requires g c =
     let P = g.P.Keep in
-    let D = g.D.Disk in
     let one = c.args.keep.now in
     let two = c.put_next.new.keep in
     let only = c.put_next.ensures.keeper in
@@ -126,12 +126,7 @@ keep_event-requires g c =
     let asked = asks P one two c.args.budget s only c.session.ensures.stands c.session.ensures.lang c.session.ensures.plan c.session.ensures.question c.hear.ensures.lawful c.hear.ensures.fits (c.put_next.ensures.put c.in_default.is) room in
     let q : Assignment = asked.question in
     let at : AtQuestion l terms events k.answers k.lang q = asked.asked in
-    let turns : Turns = g.T.Teacher.turn c.args.teacher.now in
     let may = g.T.Teacher.may_say c.args.teacher.now l in
-    let left : Option (List ℕ) = g.S.Source.left c.args.source.now in
-    let written : Option (List ℕ) = g.K.Sink.written c.args.sink.now in
-    let left' : Option (List ℕ) = g.S.Source.left c.hear.new.source in
-    let written' : Option (List ℕ) = g.K.Sink.written c.hear.new.sink in
     let hears = c.in-Keep.ensures.hears q asked.is_open in
     let Followed : List Event → Type 0 = λ es. MayFollow es q (event_on c.in-Keep.entry (Some q)) in
     record {

@@ -1,4 +1,5 @@
-use Rattle.acq_loop.proofs.Prelude.{◌≡◌, ◌⊎◌, ◌∙◌, ℕ, List, length, true, false, Some, ap, sym, subst, refl, inl, inr, Answer, Event, Language, standing_on, Turns, Point, Drives, IsFull, IsPending, is_unasked, Closing, Converged, Collapsed, Undecided, Ends, Puts, next_after, Terms, Drove}
+use Rattle.acq_loop.proofs.Prelude.{◌≡◌, ◌⊎◌, ◌∙◌, ℕ, List, length, true, false, Some, ap, sym, subst, refl, inl, inr, Answer, Event, Language, standing_on, Turns, Point, Drives, IsPending, is_unasked, Closing, Converged, Collapsed, Undecided, Ends, Puts, next_after, Terms, Drove}
+use Rattle.acq_loop.proofs.Short.{IsFull}
 use Rattle.acq_loop.specs.declared.driving.Drove.TheVariants as drove
 use Rattle.acq_loop.proofs.laws.endings_exclude.Goals as goal
 
@@ -27,14 +28,11 @@ module _ (turns : Turns) (l : Language) (terms : Terms) (a b : Point) where
   ended (drove.Converged m) drives = inl (record { closing = Converged; ends = drives.says.found.ends; is = ap drove.Converged drives.says.number })
   ended (drove.Collapsed m) drives = inl (record { closing = Collapsed; ends = drives.says.found.ends; is = ap drove.Collapsed drives.says.number })
   ended (drove.Undecided m) drives = inl (record { closing = Undecided; ends = drives.says.found.ends; is = ap drove.Undecided drives.says.number })
-  ended (drove.Suspended m) drives = inr (record { pending = drives.says.found; asked = refl })
-  ended drove.LineTooLong drives = inr (record { pending = drives.says.found; asked = refl })
-  ended drove.Unreadable drives = inr (record { pending = drives.says.found; asked = refl })
-  ended drove.JournalFull drives = inr (record { pending = drives.says.found; asked = refl })
   ended drove.ReadFault drives = inr (record { pending = drives.pending refl; asked = refl })
   ended drove.WriteFault drives = inr (record { pending = drives.pending refl; asked = refl })
   ended drove.DiskFault drives = inr (record { pending = drives.pending refl; asked = refl })
   ended drove.Memory drives = inr (record { pending = drives.pending refl; asked = refl })
+  ended how drives = inr (record { pending = drives.says.found; asked = refl })
 
 -- of the same answers only one of these is true
 one_end : (l : Language) (terms : Terms) (t : List Answer) (how other : Drove) → IsUnasked l terms t how ⊎ IsAsked l terms t how → IsUnasked l terms t other ⊎ IsAsked l terms t other → is_unasked how ≡ true → other ≡ how

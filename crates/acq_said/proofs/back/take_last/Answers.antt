@@ -1,9 +1,10 @@
-use Rattle.acq_said.proofs.Prelude.{arith, ◌≡◌, ◌∙◌, ap, sym, refl, Some, None, inl, ⊎_elim, Event, keeps_as, Saying, saying, taken_text, Drove}
+use Rattle.acq_said.proofs.Prelude.{arith, ◌≡◌, ◌∙◌, ap, sym, refl, Some, None, inl, ⊎_elim, Event, keeps_as, Saying, Drove}
 use Rattle.assign.specs.declared.events.Event.TheVariants as event
 use Rattle.acq_loop.specs.declared.driving.Drove.TheVariants as drove
 use Rattle.acq_loop.specs.declared.ending.Ending.TheVariants as ending
 use Rattle.acq_said.specs.declared.said.Unsaid.TheVariants as unsaid
 use Rattle.acq_said.proofs.Spoken.{said_as, same_why, silent, silent_not}
+use Rattle.acq_said.proofs.TakenBack.{taken_said}
 use Rattle.acq_said.proofs.back.take_last.Goals as goal
 
 not_failed : None ≡ Some drove.DiskFault → ⊥
@@ -11,7 +12,7 @@ not_failed e = cc
 
 pub returns-in-None-clause-ends : goal.returns-in-None-clause-ends
 returns-in-None-clause-ends g c =
-    let what : Saying = saying (taken_text c.args.m) ending.Done in
+    let what : Saying = taken_said c.args.m in
     inl (c.in-None.ensures.kept, said_as c.taken.result c.or_silent.result what what c.or_silent.ensures refl c.taken.ensures)
 
 pub returns-in-None-clause-keeps : goal.returns-in-None-clause-keeps

@@ -1,87 +1,80 @@
-use Rattle.acq_said.proofs.Prelude.{length, refl, sym, ap, subst, ℕ, List, filter, Language, candidates, is_open, knowledge_of, HasEnded, SaysEnd, terms_with, Converged, Undecided, saying, closing_text, collapsed_text, converged_text, suspended_text, undecided_text, too_long_text, refused_text, full_text, Drove, Terms}
+use Rattle.acq_said.proofs.Prelude.{◌≡◌, refl, sym, ap, subst, ℕ, List, Option, Some, None, Result, Ok, Err, IfOk, Put, Answer, Language, knowledge_of, HasEnded, SaysEnd, SaysEndBy, terms_with, closing_of, ending_of, Closing, Collapsed, Converged, JournalFull, LineTooLong, Suspended, Undecided, Unreadable, or_silent, silent_end, Saying, saying, closing_text, ending_line, Drove, Ending, Terms, Unsaid}
 use Rattle.acq_loop.specs.declared.ending.Ending.TheVariants as ending
 use Rattle.acq_said.specs.declared.said.Unsaid.TheVariants as unsaid
 use Rattle.acq_said.proofs.Sayings.{converged_so, undecided_so}
 use Rattle.acq_said.proofs.Spoken.{said_as, silent}
 use Rattle.acq_said.proofs.endings.closing.Goals as goal
 
+-- it ended so, and its last lines were said, or nothing was
+module _ (l : Language) (terms : Terms) (t : List Answer) (how at : Drove) (is : how ≡ at) (said : Result Saying Unsaid) where
+  abbrev So : Drove → Type 0
+  So d = SaysEnd l terms t d said
+
+  line_said : {E : Type 0} (r : Result Saying E) (closing : Closing) (end : Ending) (text : List ℕ) → closing_of at ≡ Some closing → ending_of at ≡ Ok end → said ≡ or_silent r → text ≡ closing_text l terms t closing → IfOk r (λ s. s ≡ saying text end) → So how
+  line_said r closing end text closes ends made same holds =
+      let By : Option Closing → Type 0 = λ o. SaysEndBy l terms t o (ending_of at) said in
+      let Ends : Result Ending Put → Type 0 = λ e. SaysEndBy l terms t (Some closing) e said in
+      subst So (sym is) (subst By (sym closes) (subst Ends (sym ends) (said_as r said (saying text end) (saying (closing_text l terms t closing) end) made (ap (λ (x : List ℕ). saying x end) same) holds)))
+
+  nothing_said : (why : Unsaid) → said ≡ Err why → closing_of at ≡ None → ending_of at ≡ silent_end why → So how
+  nothing_said why none closes ends =
+      let By : Option Closing → Type 0 = λ o. SaysEndBy l terms t o (ending_of at) said in
+      subst So (sym is) (subst By (sym closes) (why, none, ends))
+
 pub returns-in-Converged : goal.returns-in-Converged
 returns-in-Converged c budget t stands ended tells =
     let k = knowledge_of c.args.session.now in
-    let l : Language = k.lang in
     let terms : Terms = terms_with k.plan budget in
-    let done = subst (HasEnded l terms t) c.in-Converged.is ended in
-    let So : Drove → Type 0 = λ how. SaysEnd l terms t how c.or_silent.result in
-    subst So (sym c.in-Converged.is) (said_as c.converged.result c.or_silent.result (saying (converged_text l k.network.list c.in-Converged.m) (ending.Converged c.in-Converged.m)) (saying (closing_text l terms t Converged) (ending.Converged c.in-Converged.m)) c.or_silent.ensures (ap (λ (x : List ℕ). saying x (ending.Converged c.in-Converged.m)) (converged_so c.args.session.now budget t stands c.in-Converged.m done)) c.converged.ensures)
+    let done = subst (HasEnded k.lang terms t) c.in-Converged.is ended in
+    line_said k.lang terms t c.args.drove _ c.in-Converged.is c.or_silent.result c.converged.result Converged (ending.Converged c.in-Converged.m) _ refl refl c.or_silent.ensures (converged_so c.args.session.now budget t stands c.in-Converged.m done) c.converged.ensures
 
 pub returns-in-Collapsed : goal.returns-in-Collapsed
 returns-in-Collapsed c budget t stands ended tells =
     let k = knowledge_of c.args.session.now in
-    let l : Language = k.lang in
     let terms : Terms = terms_with k.plan budget in
-    let done = subst (HasEnded l terms t) c.in-Collapsed.is ended in
-    let So : Drove → Type 0 = λ how. SaysEnd l terms t how c.or_silent-in-Collapsed.result in
-    subst So (sym c.in-Collapsed.is) (said_as c.collapsed.result c.or_silent-in-Collapsed.result (saying (collapsed_text c.in-Collapsed.m) (ending.Collapsed c.in-Collapsed.m)) (saying (collapsed_text (length t)) (ending.Collapsed c.in-Collapsed.m)) c.or_silent-in-Collapsed.ensures (ap (λ (n : ℕ). saying (collapsed_text n) (ending.Collapsed c.in-Collapsed.m)) done.number) c.collapsed.ensures)
+    let done = subst (HasEnded k.lang terms t) c.in-Collapsed.is ended in
+    line_said k.lang terms t c.args.drove _ c.in-Collapsed.is c.or_silent-in-Collapsed.result c.collapsed.result Collapsed (ending.Collapsed c.in-Collapsed.m) _ refl refl c.or_silent-in-Collapsed.ensures (ap (ending_line Collapsed) done.number) c.collapsed.ensures
 
 pub returns-in-Undecided : goal.returns-in-Undecided
 returns-in-Undecided c budget t stands ended tells =
     let k = knowledge_of c.args.session.now in
-    let l : Language = k.lang in
     let terms : Terms = terms_with k.plan budget in
-    let done = subst (HasEnded l terms t) c.in-Undecided.is ended in
-    let So : Drove → Type 0 = λ how. SaysEnd l terms t how c.or_silent-in-Undecided.result in
-    subst So (sym c.in-Undecided.is) (said_as c.undecided.result c.or_silent-in-Undecided.result (saying (undecided_text l k.network.list (filter (is_open l c.args.screen.now) (candidates l)) c.in-Undecided.m) (ending.Undecided c.in-Undecided.m)) (saying (closing_text l terms t Undecided) (ending.Undecided c.in-Undecided.m)) c.or_silent-in-Undecided.ensures (ap (λ (x : List ℕ). saying x (ending.Undecided c.in-Undecided.m)) (undecided_so c.args.session.now budget t stands c.args.screen.now c.in-Undecided.m done (tells c.in-Undecided.m c.in-Undecided.is))) c.undecided.ensures)
+    let done = subst (HasEnded k.lang terms t) c.in-Undecided.is ended in
+    line_said k.lang terms t c.args.drove _ c.in-Undecided.is c.or_silent-in-Undecided.result c.undecided.result Undecided (ending.Undecided c.in-Undecided.m) _ refl refl c.or_silent-in-Undecided.ensures (undecided_so c.args.session.now budget t stands c.args.screen.now c.in-Undecided.m done (tells c.in-Undecided.m c.in-Undecided.is)) c.undecided.ensures
 
 pub returns-in-Suspended : goal.returns-in-Suspended
 returns-in-Suspended c budget t stands ended tells =
     let k = knowledge_of c.args.session.now in
-    let l : Language = k.lang in
     let terms : Terms = terms_with k.plan budget in
-    let done = subst (HasEnded l terms t) c.in-Suspended.is ended in
-    let So : Drove → Type 0 = λ how. SaysEnd l terms t how c.or_silent-in-Suspended.result in
-    subst So (sym c.in-Suspended.is) (said_as c.suspended.result c.or_silent-in-Suspended.result (saying (suspended_text c.in-Suspended.m) (ending.Suspended c.in-Suspended.m)) (saying (suspended_text (length t)) (ending.Suspended c.in-Suspended.m)) c.or_silent-in-Suspended.ensures (ap (λ (n : ℕ). saying (suspended_text n) (ending.Suspended c.in-Suspended.m)) done.number) c.suspended.ensures)
+    let done = subst (HasEnded k.lang terms t) c.in-Suspended.is ended in
+    line_said k.lang terms t c.args.drove _ c.in-Suspended.is c.or_silent-in-Suspended.result c.suspended.result Suspended (ending.Suspended c.in-Suspended.m) _ refl refl c.or_silent-in-Suspended.ensures (ap (ending_line Suspended) done.number) c.suspended.ensures
 
 pub returns-in-LineTooLong : goal.returns-in-LineTooLong
 returns-in-LineTooLong c budget t stands ended tells =
     let k = knowledge_of c.args.session.now in
-    let l : Language = k.lang in
     let terms : Terms = terms_with k.plan budget in
-    let done = subst (HasEnded l terms t) c.in-LineTooLong.is ended in
-    let So : Drove → Type 0 = λ how. SaysEnd l terms t how c.or_silent-in-LineTooLong.result in
-    subst So (sym c.in-LineTooLong.is) (said_as c.fixed.result c.or_silent-in-LineTooLong.result (saying too_long_text ending.LineTooLong) (saying too_long_text ending.LineTooLong) c.or_silent-in-LineTooLong.ensures refl c.fixed.ensures)
+    line_said k.lang terms t c.args.drove _ c.in-LineTooLong.is c.or_silent-in-LineTooLong.result c.fixed.result LineTooLong ending.LineTooLong _ refl refl c.or_silent-in-LineTooLong.ensures refl c.fixed.ensures
 
 pub returns-in-Unreadable : goal.returns-in-Unreadable
 returns-in-Unreadable c budget t stands ended tells =
     let k = knowledge_of c.args.session.now in
-    let l : Language = k.lang in
     let terms : Terms = terms_with k.plan budget in
-    let done = subst (HasEnded l terms t) c.in-Unreadable.is ended in
-    let So : Drove → Type 0 = λ how. SaysEnd l terms t how c.or_silent-in-Unreadable.result in
-    subst So (sym c.in-Unreadable.is) (said_as c.fixed-in-Unreadable.result c.or_silent-in-Unreadable.result (saying refused_text ending.Unreadable) (saying refused_text ending.Unreadable) c.or_silent-in-Unreadable.ensures refl c.fixed-in-Unreadable.ensures)
+    line_said k.lang terms t c.args.drove _ c.in-Unreadable.is c.or_silent-in-Unreadable.result c.fixed-in-Unreadable.result Unreadable ending.Unreadable _ refl refl c.or_silent-in-Unreadable.ensures refl c.fixed-in-Unreadable.ensures
 
 pub returns-in-JournalFull : goal.returns-in-JournalFull
 returns-in-JournalFull c budget t stands ended tells =
     let k = knowledge_of c.args.session.now in
-    let l : Language = k.lang in
     let terms : Terms = terms_with k.plan budget in
-    let done = subst (HasEnded l terms t) c.in-JournalFull.is ended in
-    let So : Drove → Type 0 = λ how. SaysEnd l terms t how c.or_silent-in-JournalFull.result in
-    subst So (sym c.in-JournalFull.is) (said_as c.fixed-in-JournalFull.result c.or_silent-in-JournalFull.result (saying full_text ending.JournalFull) (saying full_text ending.JournalFull) c.or_silent-in-JournalFull.ensures refl c.fixed-in-JournalFull.ensures)
+    line_said k.lang terms t c.args.drove _ c.in-JournalFull.is c.or_silent-in-JournalFull.result c.fixed-in-JournalFull.result JournalFull ending.JournalFull _ refl refl c.or_silent-in-JournalFull.ensures refl c.fixed-in-JournalFull.ensures
 
 pub returns-in-ReadFault : goal.returns-in-ReadFault
 returns-in-ReadFault c budget t stands ended tells =
-    let k = knowledge_of c.args.session.now in
-    let So : Drove → Type 0 = λ how. SaysEnd k.lang (terms_with k.plan budget) t how (silent unsaid.ReadFault) in
-    subst So (sym c.in-ReadFault.is) (unsaid.ReadFault, refl, refl)
+    let k = knowledge_of c.args.session.now in nothing_said k.lang (terms_with k.plan budget) t c.args.drove _ c.in-ReadFault.is (silent unsaid.ReadFault) unsaid.ReadFault refl refl refl
 
 pub returns-in-DiskFault : goal.returns-in-DiskFault
 returns-in-DiskFault c budget t stands ended tells =
-    let k = knowledge_of c.args.session.now in
-    let So : Drove → Type 0 = λ how. SaysEnd k.lang (terms_with k.plan budget) t how (silent unsaid.DiskFault) in
-    subst So (sym c.in-DiskFault.is) (unsaid.DiskFault, refl, refl)
+    let k = knowledge_of c.args.session.now in nothing_said k.lang (terms_with k.plan budget) t c.args.drove _ c.in-DiskFault.is (silent unsaid.DiskFault) unsaid.DiskFault refl refl refl
 
 pub returns-in-Memory : goal.returns-in-Memory
 returns-in-Memory c budget t stands ended tells =
-    let k = knowledge_of c.args.session.now in
-    let So : Drove → Type 0 = λ how. SaysEnd k.lang (terms_with k.plan budget) t how (silent unsaid.Memory) in
-    subst So (sym c.in-Memory.is) (unsaid.Memory, refl, refl)
+    let k = knowledge_of c.args.session.now in nothing_said k.lang (terms_with k.plan budget) t c.args.drove _ c.in-Memory.is (silent unsaid.Memory) unsaid.Memory refl refl refl

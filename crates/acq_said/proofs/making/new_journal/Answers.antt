@@ -1,4 +1,5 @@
-use Rattle.acq_said.proofs.Prelude.{◌∙◌, refl, ap, subst, ℕ, List, Result, Err, Vec, Global, AllFault, Makes, voc_refused}
+use Rattle.acq_said.proofs.Prelude.{◌∙◌, refl, ap, subst, ℕ, List, Result, Err, Vec, Global, AllFault, voc_refused}
+use Rattle.acq_said.proofs.Journals.{MakesOf}
 use Rattle.acq_io.specs.declared.whole.AllFault.TheVariants as all
 use Rattle.voc_read.specs.declared.fault.VocFault.TheVariants as vocs
 use Rattle.acq_said.proofs.Spoken.{fine, long_one, said_as}
@@ -9,7 +10,7 @@ fault_of e = Err e
 
 pub returns-in-Ok-clause-news : goal.returns-in-Ok-clause-news
 returns-in-Ok-clause-news g c =
-    let Made : List ℕ → Type 0 = λ v. Makes g.D.Disk c.args.plan v c.args.disk.now c.make_journal.new.disk c.make_journal.result in
+    let Made : List ℕ → Type 0 = λ v. MakesOf g.D.Disk c.args.plan c.args.disk.now c.make_journal.new.disk (fine v) c.make_journal.result in
     record { read = fine c.in-Ok.voc.items; says = (c.in-Ok.ensures.all, subst Made c.deref.ensures.value c.make_journal.ensures.makes); untouched = λ none. absurd (let no : ⊥ = cc in no) }
 
 pub returns-in-Err-TooLong-clause-news : goal.returns-in-Err-TooLong-clause-news

@@ -1,6 +1,6 @@
-use Rattle.acq_said.proofs.Prelude.{refl, sym, subst, SFault, Refuses, RefusesMaking, voc_refused}
+use Rattle.acq_said.proofs.Prelude.{refl, sym, subst, SFault, Refuses, voc_refused}
 use Rattle.acq_said.specs.declared.said.Unsaid.TheVariants as unsaid
-use Rattle.acq_said.proofs.Spoken.{said_as, silent_not}
+use Rattle.acq_said.proofs.Spoken.{RefusesMaking, said_as, silent_not}
 use Rattle.acq_said.proofs.making.unmade.Goals as goal
 
 pub returns-in-Voc-clause-refuses : goal.returns-in-Voc-clause-refuses

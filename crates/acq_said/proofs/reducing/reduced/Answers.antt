@@ -1,6 +1,6 @@
-use Rattle.acq_said.proofs.Prelude.{◌≡◌, ◌∙◌, sym, subst, ap, inl, IfOk, Language, IsNetwork, Learned, opened_as, Saying}
+use Rattle.acq_said.proofs.Prelude.{◌≡◌, ◌∙◌, sym, subst, inl, IfOk, Language, IsNetwork, Saying}
 use Rattle.acq_said.proofs.Spoken.{ok_any}
-use Rattle.acq_said.proofs.Reduced.{learned_as, part_said, reduced_truly, unreduced_so, unreduced_truly}
+use Rattle.acq_said.proofs.Reduced.{learned_of, of_keeper, part_said, reduced_truly, unreduced_so, unreduced_truly}
 use Rattle.acq_said.proofs.reducing.reduced.Goals as goal
 
 pub reduce-requires-clause-network : goal.reduce-requires-clause-network
@@ -8,43 +8,39 @@ reduce-requires-clause-network g c = subst (λ (l : Language). IsNetwork l c.net
 
 pub returns-in-Ok-reduce-clause-says : goal.returns-in-Ok-reduce-clause-says
 returns-in-Ok-reduce-clause-says g c =
-    let P = g.P.Keep in
-    let keep = c.args.keep.now in
-    let session = c.session-session in
-    let learned = learned_as session.result.now (P.lang keep) (P.plan keep) (P.record_of keep) session.ensures.lang session.ensures.plan session.ensures.stands in
+    let o = of_keeper g.P.Keep c.args.keep.now in
+    let session = c.session-session.ensures in
+    let learned = learned_of o c.session-session.result.now c.network-network.result.now c.network-network.ensures.is session.lang session.plan session.stands in
     subst (λ (what : Saying). IfOk c.said_part.result (λ said. said ≡ what))
-    (part_said c.args.budget (opened_as (P.plan keep) (P.voc keep) (P.record_of keep) (P.lang keep)) c.lang-lang.result.now c.network-network.result.now.list
-    (c.lang-lang.ensures.is ∙ session.ensures.lang) (ap (λ (n : Learned). n.list) c.network-network.ensures.is ∙ learned)
+    (part_said c.args.budget o c.lang-lang.result.now c.network-network.result.now.list
+    (c.lang-lang.ensures.is ∙ session.lang) learned
     c.in-Ok-reduce.part.items c.deref.result.now c.len.result c.deref.ensures.value c.len.ensures.is c.in-Ok-reduce.ensures.searched)
     c.said_part.ensures
 
 pub returns-in-Ok-reduce-clause-so : goal.returns-in-Ok-reduce-clause-so
 returns-in-Ok-reduce-clause-so g c =
-    let P = g.P.Keep in
-    let keep = c.args.keep.now in
-    let session = c.session-session in
-    let learned = learned_as session.result.now (P.lang keep) (P.plan keep) (P.record_of keep) session.ensures.lang session.ensures.plan session.ensures.stands in
+    let o = of_keeper g.P.Keep c.args.keep.now in
+    let session = c.session-session.ensures in
+    let learned = learned_of o c.session-session.result.now c.network-network.result.now c.network-network.ensures.is session.lang session.plan session.stands in
     ok_any c.said_part.result
-    (inl (reduced_truly c.args.budget (opened_as (P.plan keep) (P.voc keep) (P.record_of keep) (P.lang keep)) c.lang-lang.result.now c.network-network.result.now.list
-    (c.lang-lang.ensures.is ∙ session.ensures.lang) (ap (λ (n : Learned). n.list) c.network-network.ensures.is ∙ learned)
+    (inl (reduced_truly c.args.budget o c.lang-lang.result.now c.network-network.result.now.list
+    (c.lang-lang.ensures.is ∙ session.lang) learned
     c.in-Ok-reduce.part.items c.in-Ok-reduce.ensures.searched c.in-Ok-reduce.ensures.sifted c.in-Ok-reduce.ensures.reduction))
 
 pub returns-clause-says : goal.returns-clause-says
 returns-clause-says g c =
-    let P = g.P.Keep in
-    let keep = c.args.keep.now in
-    let session = c.session-session in
-    let learned = learned_as session.result.now (P.lang keep) (P.plan keep) (P.record_of keep) session.ensures.lang session.ensures.plan session.ensures.stands in
-    unreduced_so c.args.budget (opened_as (P.plan keep) (P.voc keep) (P.record_of keep) (P.lang keep)) c.lang-lang.result.now c.network-network.result.now.list
-    (c.lang-lang.ensures.is ∙ session.ensures.lang) (ap (λ (n : Learned). n.list) c.network-network.ensures.is ∙ learned)
+    let o = of_keeper g.P.Keep c.args.keep.now in
+    let session = c.session-session.ensures in
+    let learned = learned_of o c.session-session.result.now c.network-network.result.now c.network-network.ensures.is session.lang session.plan session.stands in
+    unreduced_so c.args.budget o c.lang-lang.result.now c.network-network.result.now.list
+    (c.lang-lang.ensures.is ∙ session.lang) learned
     c.said_unreduced.result c.in-Err.fault c.in-Err.ensures.spent c.said_unreduced.ensures.says c.said_unreduced.ensures.silent
 
 pub returns-clause-so : goal.returns-clause-so
 returns-clause-so g c =
-    let P = g.P.Keep in
-    let keep = c.args.keep.now in
-    let session = c.session-session in
-    let learned = learned_as session.result.now (P.lang keep) (P.plan keep) (P.record_of keep) session.ensures.lang session.ensures.plan session.ensures.stands in
-    unreduced_truly c.args.budget (opened_as (P.plan keep) (P.voc keep) (P.record_of keep) (P.lang keep)) c.lang-lang.result.now c.network-network.result.now.list
-    (c.lang-lang.ensures.is ∙ session.ensures.lang) (ap (λ (n : Learned). n.list) c.network-network.ensures.is ∙ learned)
+    let o = of_keeper g.P.Keep c.args.keep.now in
+    let session = c.session-session.ensures in
+    let learned = learned_of o c.session-session.result.now c.network-network.result.now c.network-network.ensures.is session.lang session.plan session.stands in
+    unreduced_truly c.args.budget o c.lang-lang.result.now c.network-network.result.now.list
+    (c.lang-lang.ensures.is ∙ session.lang) learned
     c.said_unreduced.result c.in-Err.fault c.in-Err.ensures.spent c.said_unreduced.ensures.silent
