@@ -1,5 +1,6 @@
 -- When a command comes to its own end.
-use Rattle.acq_cli.proofs.Prelude.{Acquires, AllFault, Answer, Bool, Candidate, Closing, Command, Completes, Demos, DiskOf, Does, Drove, Ending, EndsExactly, Err, Event, Gathered, Gives, HasEnded, HasFound, HasRoom, HasWritten, HavePlaces, Holds, Idle, IfOk, IfSome, IsAffordable, IsBrokenOff, IsEnough, IsLanguage, IsLeftOpen, IsReached, IsRefusal, IsVocabulary, JournalFull, Language, LineTooLong, List, None, Ok, Opened, OpensAs, Option, Plan, PlaysOn, Quacq, RanTo, ReadOnce, ReadsTarget, ReadsVocabulary, Refuses, Result, RunsOn, SFault, Saying, SaysNoNetwork, SaysUnplayed, Some, Suspended, Terms, Tries, Turns, Undecided, Unreadable, Unsaid, UsageFault, [], all_of, answers_fit, ap, append-nil, arith, closing_of, cond, drop, ending_of, err_ok, false, fine, fine_long, first_line_of, gathered, gives_got, holds_none, inl, input_end, inr, length, line_turn, long_one, most_answers, nat_le, net_turn, network_of, not_refused, okay, one_language, option_map, point_of, ran, refl, refusal_of_vocabulary, refuses_end, replay_on, same_fine, same_ok, same_session, standing_on, subst, sym, terms_with, true, whole_of, ℕ, ⊎_elim, ◌+◌, ◌∙◌, ◌≡◌, ◌≤◌, ◌⊎◌}
+use Rattle.acq_cli.proofs.Prelude.{Acquires, AllFault, Answer, Bool, Candidate, Closing, Command, Completes, Demos, DiskOf, Does, Drove, Ending, EndsExactly, Err, Event, Gathered, Gives, HasEnded, HasFound, HasRoom, HasWritten, HavePlaces, Holds, Idle, IfOk, IfSome, IsAffordable, IsBrokenOff, IsEnough, IsLanguage, IsLeftOpen, IsReached, IsRefusal, IsVocabulary, JournalFull, Language, LineTooLong, List, None, Ok, Opened, OpensAs, Option, Plan, PlaysOn, Quacq, RanTo, ReadOnce, ReadsTarget, ReadsVocabulary, Refuses, Result, SFault, Saying, SaysNoNetwork, SaysUnplayed, Some, Suspended, Terms, Tries, Turns, Undecided, Unreadable, Unsaid, UsageFault, [], all_of, answers_fit, ap, append-nil, arith, closing_of, cond, drop, ending_of, err_ok, false, fine, fine_long, first_line_of, gathered, gives_got, holds_none, inl, input_end, inr, length, line_turn, long_one, most_answers, nat_le, net_turn, network_of, not_refused, okay, one_language, option_map, point_of, ran, refl, refusal_of_vocabulary, refuses_end, replay_on, same_fine, same_ok, same_session, standing_on, subst, sym, terms_with, true, whole_of, ℕ, ⊎_elim, ◌+◌, ◌∙◌, ◌≡◌, ◌≤◌, ◌⊎◌}
+use Rattle.acq_said.proofs.Exactly.{RunsOn}
 use Rattle.acq_io.specs.declared.streams.Put.TheVariants as put
 use Rattle.acq_words.specs.declared.request.Command.TheVariants as command
 use Rattle.fd_solver.specs.Outcomes.{outcome_of_candidate}

@@ -1,5 +1,6 @@
 -- What `check` tells of the input, exactly.
-use Rattle.acq_cli.proofs.Prelude.{AllFault, ConfirmsExactly, Ending, Err, ForSome, HasWritten, IfOk, IsBrokenOff, IsCheck, IsCheckOf, IsJudged, IsReading, List, Ok, Option, Put, Result, SaidSo, Saying, SaysOfInput, SaysSo, Unsaid, all_of, ap, checked_said, ended_as, inl, input_end, inr, okay, refl, silently, subst, sym, too_many, whole_of, ℕ, ⊎_elim, ◌∙◌, ◌≡◌, ◌⊎◌}
+use Rattle.acq_cli.proofs.Prelude.{AllFault, ConfirmsExactly, Ending, Err, ForSome, HasWritten, IfOk, IsBrokenOff, IsCheck, IsJudged, IsReading, List, Ok, Option, Put, Result, SaidSo, Saying, SaysOfInput, SaysSo, Unsaid, all_of, ap, checked_said, ended_as, inl, input_end, inr, okay, refl, silently, subst, sym, too_many, whole_of, ℕ, ⊎_elim, ◌∙◌, ◌≡◌, ◌⊎◌}
+use Rattle.acq_said.proofs.Spoken.{IsCheckOf}
 use Rattle.acq_io.specs.declared.streams.Put.TheVariants as put
 use Rattle.cert_check.specs.Certificate.{Certificate}
 use Rattle.cert_check.specs.declared.fault.CertFault.{CertFault}

@@ -1,4 +1,5 @@
 mod Prelude
+pub mod Short
 pub mod Causes
 pub mod Asked
 pub mod Targets

@@ -68,13 +68,13 @@ pub use Rattle.voc_read.proofs.OneReading.{one_language}
 pub use Rattle.voc_read.proofs.Refused.{not_refused}
 pub use Rattle.voc_read.specs.Vocabulary.{refusal_of_vocabulary}
 pub use Rattle.voc_read.specs.declared.fault.VocFault.{VocFault}
-pub use Rattle.acq_cli.specs.Prelude.{Acquires, Adds, AddsFront, All, AllFault, Answer, AsksTruly, Candidate, Closing, Collapsed, Command, ConfirmsExactly, Converged, DiskOf, Drove, Ending, EndsAsOpened, Event, ForSome, Gives, GoesOn, HasFound, HasSameSolutions, Holds, Idle, IfOk, IsAnswer, IsCheckOf, IsConverged, IsGenerated, IsLanguage, IsNetwork, IsSaid, IsVocabulary, Language, LineTooLong, NetFault, News, NoneAgrees, OnErr, Opened, Plan, Put, Quacq, Ran, Refuses, Runs, RunsOn, SFault, Said, Saying, SaysOfInput, SaysOver, SaysSo, Scopes, Solves, Suspended, Terms, Turns, Undecided, Unreadable, Unsaid, UsageFault, agrees, asked_said, back_said, candidates, codes, ended_as, ending_line, first_line_of, flat_map, kept, learned_after, learned_in, line_turn, most_answers, net_may_say, net_turn, saying, solved_said, standing_on, state_after, target_of, terms_with, usage_text, variable_count, ◌↔◌, ◌≢◌}
+pub use Rattle.acq_cli.specs.Prelude.{Acquires, Adds, AddsFront, All, AllFault, Answer, AsksTruly, Candidate, Closing, Collapsed, Command, ConfirmsExactly, Converged, DiskOf, Drove, Ending, EndsAsOpened, Event, ForSome, Gives, GoesOn, HasFound, HasSameSolutions, Holds, Idle, IfOk, IsAnswer, IsConverged, IsGenerated, IsLanguage, IsNetwork, IsSaid, IsVocabulary, Language, LineTooLong, NetFault, News, NoneAgrees, OnErr, Opened, Plan, Put, Quacq, Ran, Refuses, Runs, SFault, Said, Saying, SaysOfInput, SaysOver, SaysSo, Scopes, Solves, Suspended, Terms, Turns, Undecided, Unreadable, Unsaid, UsageFault, agrees, asked_said, back_said, candidates, codes, ended_as, ending_line, first_line_of, flat_map, kept, learned_after, learned_in, line_turn, most_answers, net_may_say, net_turn, saying, solved_said, standing_on, state_after, target_of, terms_with, usage_text, variable_count, ◌↔◌, ◌≢◌}
 pub use Rattle.acq_cli.specs.Commands.{EndsExactly}
 pub use Rattle.acq_cli.specs.Completing.{Completes, HasRoom, IsAffordable, IsAnswerLine, IsEnough}
 pub use Rattle.acq_cli.specs.Demoing.{ClosesQuietly, Demos, HasDriven, IsDemo, SaysSum, demo_text, summary_text, whole_demo}
 pub use Rattle.acq_cli.specs.Doing.{Asks, Does, Spoke}
 pub use Rattle.acq_cli.specs.Headline.{FindsNetwork, FindsNone, IsOfJournal, IsSessionOf}
 pub use Rattle.acq_cli.specs.Laws.{BudgetIsEnough, GeneratedIsShort, RoomIsLeft}
-pub use Rattle.acq_cli.specs.Playing.{IsAnsweredBy, PlaysExactly, PlaysOn, ReadsTarget, SaysNoNetwork, SaysUnplayed, stale_said, target_refused}
+pub use Rattle.acq_cli.specs.Playing.{IsAnsweredBy, PlaysExactly, PlaysOn, ReadsTarget, SaysNoNetwork, SaysUnplayed, target_refused}
 pub use Rattle.acq_cli.specs.Words.{IsAsked, Spares, command_in}
 unfoldable pub use Rattle.acq_cli.specs.Words.{command_asked}

@@ -1,5 +1,6 @@
 -- What `play` has done, of what its target said, and exactly when it refuses.
-use Rattle.acq_cli.proofs.Prelude.{All, All-cons, All-head, All-nil, All-tail, AllFault, Answer, Asks, AsksTruly, Assignment, Bool, Candidate, Command, DiskOf, Does, Drove, Ending, EndsAsOpened, EndsExactly, Err, Event, ForSome, HasEnded, HasSameSolutions, HasWritten, Holds, IfOk, IsAdded, IsAnsweredBy, IsBrokenOff, IsDone, IsLanguage, IsNetwork, IsSaid, Language, List, MayAdd, MayEnd, NetFault, None, Ok, Opened, OpensAs, Option, Plan, PlaysExactly, PlaysOn, Put, ReadOnce, RefusesOpening, Result, SFault, Saying, SaysNoNetwork, SaysSo, SaysUnplayed, Some, TellsFull, Terms, Tries, Turns, Unsaid, UsageFault, [], accepts, agrees, all_of, answer, ap, append-nil, append_assoc, arith, asked_said, back_ends, cond, cut_to-standing-push, due_reached, ended, ends_said, false, few_answers, fine, gives_got, holds_none, inl, input_end, inr, is_told, json_of, learned_after, learned_in, length, long_one, loop_end, loops_by, net_may_say, network_in, network_of, not_loops, ok_or, okay, only_long, opens_once, over_ends, refl, refuses_end, same_session, solve_ends, stale_said, standing_on, subst, suc, sym, target_refused, told_of_answer, too_many, true, variable_count, whole_of, ℕ, ⊎_elim, ◌&&◌, ◌++◌, ◌+◌, ◌↔◌, ◌∙◌, ◌∷◌, ◌≡◌, ◌≢◌, ◌≤◌, ◌⊎◌}
+use Rattle.acq_cli.proofs.Prelude.{All, All-cons, All-head, All-nil, All-tail, AllFault, Answer, Asks, AsksTruly, Assignment, Bool, Candidate, Command, DiskOf, Does, Drove, Ending, EndsAsOpened, EndsExactly, Err, Event, ForSome, HasEnded, HasSameSolutions, HasWritten, Holds, IfOk, IsAdded, IsAnsweredBy, IsBrokenOff, IsDone, IsLanguage, IsNetwork, IsSaid, Language, List, MayAdd, MayEnd, NetFault, None, Ok, Opened, OpensAs, Option, Plan, PlaysExactly, PlaysOn, Put, ReadOnce, RefusesOpening, Result, SFault, Saying, SaysNoNetwork, SaysSo, SaysUnplayed, Some, TellsFull, Terms, Tries, Turns, Unsaid, UsageFault, [], accepts, agrees, all_of, answer, ap, append-nil, append_assoc, arith, asked_said, back_ends, cond, cut_to-standing-push, due_reached, ended, ends_said, false, few_answers, fine, gives_got, holds_none, inl, input_end, inr, is_told, json_of, learned_after, learned_in, length, long_one, loop_end, loops_by, net_may_say, network_in, network_of, not_loops, ok_or, okay, only_long, opens_once, over_ends, refl, refuses_end, same_session, solve_ends, standing_on, subst, suc, sym, target_refused, told_of_answer, too_many, true, variable_count, whole_of, ℕ, ⊎_elim, ◌&&◌, ◌++◌, ◌+◌, ◌↔◌, ◌∙◌, ◌∷◌, ◌≡◌, ◌≢◌, ◌≤◌, ◌⊎◌}
+use Rattle.acq_cli.proofs.Short.{stale_said}
 use Rattle.std.specs.Bool.{beq}
 use Rattle.std.proofs.lemmas.Bool.{lt-ltb}
 use Rattle.acq_io.specs.declared.whole.AllFault.TheVariants as long

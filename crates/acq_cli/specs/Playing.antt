@@ -21,16 +21,13 @@ pub record ReadsTarget (l : Language) (left left' : Option (List ℕ)) (target :
   pub is : network_of l bytes ≡ Ok target
   pub lawful : IsNetwork l target
 
--- what is said of answers that stand
-abbrev pub stale_said : ℕ → Saying
-stale_said m = saying (codes "refused not fresh " ++ (decimal m ++ 10 ∷ [])) (ending.NotFresh m)
-
 -- Of a session: how many answers stand, before anything is read; or where none does, why the input is no network, where it didn't
 -- fail and memory was enough. Of a refusal, which one it is; nothing is read then.
 abbrev pub SaysUnplayed : (left left' : Option (List ℕ)) → Result Opened SFault → Result Saying Unsaid → Type 0
 SaysUnplayed left left' (Ok o) said =
     let m = length (standing_on o.lang o.events) in
-    ((1 ≤ m) × IsSaid (stale_said m) said × (left' ≡ left)) ⊎ ((standing_on o.lang o.events ≡ []) × SaysOfInput 4194304 (SaysNoNetwork o.lang) left left' said)
+    ((1 ≤ m) × IsSaid (saying (codes "refused not fresh " ++ (decimal m ++ 10 ∷ [])) (ending.NotFresh m)) said × (left' ≡ left))
+    ⊎ ((standing_on o.lang o.events ≡ []) × SaysOfInput 4194304 (SaysNoNetwork o.lang) left left' said)
 SaysUnplayed left left' (Err fault) said = Refuses fault said × (left' ≡ left)
 
 -- ---- Its answers

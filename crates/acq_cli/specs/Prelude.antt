@@ -9,16 +9,16 @@ pub use Rattle.acq_loop.specs.Program.{ended_as}
 pub use Rattle.acq_loop.specs.Run.{Collapsed, LineTooLong, Suspended, Undecided, Unreadable}
 pub use Rattle.acq_loop.specs.Texts.{learned_after, usage_text}
 pub use Rattle.acq_said.specs.Asks.{AsksTruly, asked_said}
-pub use Rattle.acq_said.specs.Confirming.{ConfirmsExactly, IsCheckOf}
+pub use Rattle.acq_said.specs.Confirming.{ConfirmsExactly, IsCheck, checked_said}
 pub use Rattle.acq_said.specs.Inputs.{SaysOfInput}
 pub use Rattle.acq_said.specs.Journals.{Refuses}
 pub use Rattle.acq_said.specs.Making.{IsMaking, News, made_said}
 pub use Rattle.acq_said.specs.Over.{EndsAsOpened, EndsAsSaid, SaysOver}
-pub use Rattle.acq_said.specs.Running.{GoesOn, RunsOn}
+pub use Rattle.acq_said.specs.Running.{GoesOn}
 pub use Rattle.acq_said.specs.Said.{HasWritten, IsSaid, SaysSo}
 pub use Rattle.acq_said.specs.Saying.{Saying, saying}
 pub use Rattle.acq_said.specs.Solving.{Solves, solved_said}
-pub use Rattle.acq_said.specs.TakingBack.{TakesBack, back_said}
+pub use Rattle.acq_said.specs.TakingBack.{HasTakenBack, back_said}
 pub use Rattle.acq_said.specs.Trying.{Acquires, IsWholeText}
 pub use Rattle.acq_said.specs.declared.ask.Ask.{Ask}
 pub use Rattle.acq_said.specs.declared.said.Unsaid.{Unsaid}

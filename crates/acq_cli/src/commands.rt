@@ -5,8 +5,9 @@ ghost use Rattle.acq_io.specs.Streams.{HasCalled, Rose, TakesSome};
 ghost use Rattle.acq_words.specs.Request.{IsBudget};
 ghost use Rattle.disk_model.specs.Disk.{Rose as DiskRose};
 ghost use Rattle.acq_said.specs.Journals.{Refuses};
-ghost use Rattle.acq_said.specs.Running.{RunsOn};
 ghost use Rattle.acq_said.specs.Said.{SaysSo};
+ghost use Rattle.acq_words.specs.declared.request.Command.TheVariants.{Run};
+ghost use Rattle.acq_cli.specs.Doing.{Does};
 
 use crate::top::ask_on;
 use acq_io::{Put, Sink, Source};
@@ -47,7 +48,7 @@ pub fn run_journal<R: Threads + Sync, S: Source, K: Sink, D: Disk, G: Gate>(
     gate: &G,
 ) -> Result<Ending, Put>
     requires { IsBudget budget }
-    ensures runs { RunsOn D.Disk budget (S.left input.old) (K.written out.old) (S.left input.new) (K.written out.new) disk.old disk.new result }
+    ensures runs { Does D.Disk (Ok (Run budget)) (S.left input.old) (K.written out.old) (S.left input.new) (K.written out.new) disk.old disk.new result }
     ensures takes { TakesSome (S.left input.old) (S.left input.new) }
     ensures read { HasCalled (S.faults input.old) (S.faults input.new) (S.late input.old) (S.late input.new) (result ≡ Ok Ending.ReadFault) }
     ensures no_fault { IfOk result (λ ending. ending ≢ Ending.WriteFault) }

@@ -1,6 +1,7 @@
 //! The command that lets a network answer.
 
-ghost use Rattle.std.specs.Prelude.{◌≡◌, ◌≢◌, ◌≤◌, length, IfOk, IfErr, Ok, Err};
+ghost use Rattle.std.specs.Prelude.{◌≡◌, ◌≢◌, ◌≤◌, ◌++◌, ◌∷◌, [], codes, length, IfOk, IfErr, Ok, Err};
+ghost use Rattle.std.specs.Fmt.{decimal};
 ghost use Rattle.acq_io.specs.Streams.{HasCalled, Rose, TakesSome};
 ghost use Rattle.acq_words.specs.Request.{IsBudget};
 ghost use Rattle.disk_model.specs.Disk.{Rose as DiskRose};
@@ -8,7 +9,8 @@ ghost use Rattle.language.specs.Answers.{standing_on};
 ghost use Rattle.network.specs.Learned.{Learned};
 ghost use Rattle.acq_said.specs.Inputs.{SaysOfInput};
 ghost use Rattle.acq_said.specs.Said.{IsSaid};
-ghost use Rattle.acq_cli.specs.Playing.{PlaysOn, ReadsTarget, SaysNoNetwork, stale_said, target_refused};
+ghost use Rattle.acq_said.specs.Saying.{saying};
+ghost use Rattle.acq_cli.specs.Playing.{PlaysOn, ReadsTarget, SaysNoNetwork, target_refused};
 
 use crate::commands::refuse_journal;
 use crate::top::ask_on;
@@ -37,7 +39,7 @@ fn answers_of<D: Disk, P: Keep<D>>(keep: &P) -> u32
 
 /// Says that some answers stand.
 fn stale(alloc: Global, m: u32) -> Result<Said, Memory>
-    ensures { IfOk result (λ said. said ≡ stale_said m) }
+    ensures { IfOk result (λ said. said ≡ saying (codes "refused not fresh " ++ (decimal m ++ 10 ∷ [])) (Ending.NotFresh m)) }
 {
     let text = format!(in alloc; "refused not fresh {m}\n")?;
     Ok(Said::new(text, Ending::NotFresh(m)))

@@ -4,7 +4,7 @@ use Rattle.std.specs.Prelude.{filter}
 use Rattle.std.proofs.lemmas.Nat.{mul-le}
 use Rattle.find_scope.specs.Bound.{log_up}
 use Rattle.session_laws.specs.Bound.{greatest_arity}
-use Rattle.acq_loop.specs.Few.{AreFew}
+use Rattle.language.specs.Answers.{agrees}
 
 abbrev scopes_of_network : Language → List Candidate → List ℕ
 scopes_of_network l network = filter (has_scope network) (numbers (length l.scopes))
@@ -23,11 +23,10 @@ each_scope l owner legal k d low =
     let here : list_any (λ c. c.scope == s) owner ≡ true = list_any_at (λ c. c.scope == s) owner k d low (eq-eqb s s refl) in
     any-filter (λ v. v == s) (has_scope owner) (numbers (length l.scopes)) ∙ any_number (λ v. has_scope owner v && (v == s)) (length l.scopes) s (legal k d low).scope (and_from _ _ here (eq-eqb s s refl))
 
-pub are_few : (l : Language) (plan : Plan) (t : List Answer) (network : List Candidate) (end : Option WalkEnd) → IsLanguage l → state_after l plan t ≡ At (Idle network end) → AreFew l network t
-are_few l plan t network end lawful at =
-    let low = answers_are_few l plan t network end lawful at in
-    record {
-      bounded = low;
-      loosely = looser (length t) (length (candidates l)) (length network) (greatest_arity l) (log_up (variable_count l)) low;
-      learned = λ owner legal agreeing. learned_are_few l plan t network end owner (scopes_of_network l owner) lawful at legal agreeing (each_scope l owner legal);
-    }
+pub bounded_loosely : (l : Language) (plan : Plan) (t : List Answer) (network : List Candidate) (end : Option WalkEnd) → IsLanguage l → state_after l plan t ≡ At (Idle network end) →
+    length t ≤ length (candidates l) + length network * (2 * greatest_arity l * log_up (variable_count l) + 1)
+bounded_loosely l plan t network end lawful at = looser (length t) (length (candidates l)) (length network) (greatest_arity l) (log_up (variable_count l)) (answers_are_few l plan t network end lawful at)
+
+pub learned_few : (l : Language) (plan : Plan) (t : List Answer) (network : List Candidate) (end : Option WalkEnd) → IsLanguage l → state_after l plan t ≡ At (Idle network end) →
+    (owner : List Candidate) → IsNetwork l owner → IsTrue (agrees l owner t) → length network ≤ length (scopes_of_network l owner)
+learned_few l plan t network end lawful at owner legal agreeing = learned_are_few l plan t network end owner (scopes_of_network l owner) lawful at legal agreeing (each_scope l owner legal)

@@ -1,5 +1,5 @@
 -- What comes next in a session.
-use Rattle.acq_loop.proofs.Prelude.{◌≡◌, ℕ, true, List, length, refl, sym, ◌∙◌, ap, subst, Option, Some, None, ◌≢◌, ◌&&◌, is_some, not, option_map, and_parts, numbers, Assignment, Answer, Plan, Scopes, Quacq, Multi, Candidate, Language, IsLanguage, IsCandidate, IsNetwork, IsCovered, has_scope, kept, find_some, outcome_of_candidate, is_among, is_spent, next_query, Remembered, is_open, State, Idle, Halving, Choosing, Walking, Over, At, is_just, is_lawful, is_undecided, next_scope, open_question, scope_question, state_after, WalkEnd, network_in, assignment_same, implied_is_covered, over_means_none, idle_is_in_step, Knowledge, Session, Stands, Knows, IsAskedIn, knowledge_of, open_in, question_put, IsSettled, IsLawfulAfter, Terms, terms_with, Next, Puts, Ends, Converged, Collapsed, searched, idle_next, next_at, next_in, next_after, IsDone, IsCollapsed, IsLeftOpen, TellsOpen, NextIs}
+use Rattle.acq_loop.proofs.Prelude.{◌≡◌, ℕ, true, List, length, refl, sym, ◌∙◌, ap, subst, Option, Some, None, ◌≢◌, ◌&&◌, is_some, not, option_map, and_parts, numbers, Assignment, Answer, Plan, Scopes, Quacq, Multi, Candidate, Language, IsLanguage, IsCandidate, IsNetwork, IsCovered, has_scope, kept, find_some, outcome_of_candidate, is_among, is_spent, next_query, Remembered, is_open, State, Idle, Halving, Choosing, Walking, Over, At, is_just, is_lawful, is_undecided, next_scope, open_question, scope_question, state_after, WalkEnd, network_in, assignment_same, implied_is_covered, over_means_none, idle_is_in_step, Knowledge, Session, Stands, Knows, IsAskedIn, knowledge_of, open_in, question_put, IsSettled, IsLawfulAfter, Terms, terms_with, Next, Puts, Ends, Converged, Collapsed, searched, idle_next, next_at, next_in, next_after, IsDone, IsCollapsed, IsLeftOpen, TellsOpen, NextIs, answers_are_few}
 use Rattle.acq_loop.proofs.Short.{puts_or}
 use Rattle.language.proofs.Covered.{covered_converged}
 use Rattle.language.specs.TellingApart.{splitting_tuple}
@@ -13,7 +13,7 @@ use Rattle.session_core.proofs.Opened.{open_asked}
 use Rattle.acq_loop.specs.declared.next.Upcoming.{Upcoming}
 use Rattle.acq_loop.specs.declared.next.Upcoming.TheVariants as nexts
 use Rattle.acq_loop.proofs.Questions.{IsLawfulExample, asked_is_example, all_are_implied, undecided_is_spent, kept_network, same_state}
-use Rattle.acq_loop.proofs.Few.{are_few}
+use Rattle.acq_loop.proofs.Few.{bounded_loosely, learned_few}
 use Rattle.acq_loop.proofs.OpenCandidates.{some_open, each_open}
 use Rattle.acq_loop.proofs.Standings.{carried, stands_at}
 
@@ -53,7 +53,9 @@ module _ (k : Knowledge) (t : List Answer) (budget : ℕ) (end : Option WalkEnd)
     ends = ends;
     covered = covered.1;
     converged = covered_converged k.lang k.network.list t lawful covered.0 covered.1;
-    few = are_few k.lang k.plan t k.network.list end lawful at;
+    bounded = answers_are_few k.lang k.plan t k.network.list end lawful at;
+    loosely = bounded_loosely k.lang k.plan t k.network.list end lawful at;
+    learned = learned_few k.lang k.plan t k.network.list end lawful at;
   }
 
   pub scoped_done : IsLanguage k.lang → k.plan ≡ Scopes → None ≡ scope_question k.lang k.kept.members k.network.list → IsDone k.lang terms t

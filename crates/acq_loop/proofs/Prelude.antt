@@ -50,7 +50,7 @@ pub use Rattle.target_oracle.specs.Turns.{Ended, Overlong, Reply, Said, Stopped,
 pub use Rattle.target_oracle.specs.declared.teacher.Told.{Told}
 pub use Rattle.acq_loop.specs.Added.{IsAdded, IsTaught, MayAdd, MayEnd}
 pub use Rattle.acq_loop.specs.Closings.{closing_of, ending_of}
-pub use Rattle.acq_loop.specs.Driven.{Drives, HasEnded, HasFound, IsCollapsed, IsDone, IsLeftOpen, IsOwned, IsPending, LeavesNothing, Loses, Point, Remembers, StepsTo, StopsAt, TellsOpen, next_lines}
+pub use Rattle.acq_loop.specs.Driven.{Drives, HasEnded, HasFound, IsCollapsed, IsDone, IsLeftOpen, IsOwned, IsPending, Loses, Point, Remembers, StepsTo, TellsOpen, next_lines}
 pub use Rattle.acq_loop.specs.Due.{EventKept, IsDue, IsOneMore, NextIs, ended_by}
 pub use Rattle.acq_loop.specs.Heard.{Forgets, Hears, MayKeep, end_of, event_on, heard_of}
 pub use Rattle.acq_loop.specs.Loop.{EndsAs, EndsUnasked, HasTurned, TellsCandidates, is_unasked}

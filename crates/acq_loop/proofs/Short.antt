@@ -1,8 +1,11 @@
 -- Short names for what the definitions write out.
-use Rattle.acq_loop.proofs.Prelude.{◌≡◌, ◌≢◌, ◌⊎◌, ◌+◌, ◌++◌, List, [], length, Bool, ℕ, ForSome, Assignment, Event, standing, answer_event, Language, standing_on, Turns, Terms, Closing, Ran, Point, IsPending, Loses, Drove, Option, Turned, after_text, heard_on, option_map, Next, Puts, Ends}
+use Rattle.acq_loop.proofs.Prelude.{◌≡◌, ◌≢◌, ◌⊎◌, ◌+◌, ◌++◌, List, [], length, Bool, ℕ, ForSome, Assignment, Event, standing, answer_event, Language, standing_on, Answer, Plan, Multi, At, state_after, Turns, Terms, Closing, Ran, Point, IsPending, Loses, Drove, Option, Some, Turned, after_text, heard_on, option_map, Next, Puts, Ends}
 use Rattle.std.specs.Option.{option_map_or}
 use Rattle.std.specs.Prelude.{◌↔◌}
 use Rattle.assign.specs.declared.events.Event.TheVariants as event
+use Rattle.session_laws.specs.Laws.{IsWalked, network_in}
+use Rattle.session_laws.specs.Session.{State, walk_end}
+use Rattle.session_laws.specs.Walk.{Ended}
 use Rattle.acq_loop.specs.Driven.{IsCut, IsRun}
 use Rattle.acq_loop.specs.Texts.{closing_text}
 use Rattle.acq_loop.specs.declared.driving.Drove.TheVariants as drove
@@ -41,3 +44,7 @@ turned_on again events q turned = option_map (after_text turned.text) (heard_on 
 -- a question, or else an end
 abbrev pub puts_or : Closing → Option Assignment → Next
 puts_or closing o = option_map_or Puts o (Ends closing)
+
+-- where the last answer has ended the walk of an example, nothing is left to learn from the example
+abbrev pub LeavesNothing : Language → Plan → List Answer → Type 0
+LeavesNothing l plan t = (e : Assignment) (state : State) → plan ≡ Multi → state_after l plan t ≡ At state → walk_end l t ≡ Some (Ended e) → IsWalked l t (network_in state) e

@@ -1,5 +1,5 @@
 -- What the loop has done after a turn, and after many.
-use Rattle.acq_loop.proofs.Prelude.{◌≡◌, ℕ, List, [], ◌∷◌, ◌++◌, ap, sym, ◌∙◌, refl, Option, Some, None, subst, append_assoc, IfSome, ForSome, append-nil, Adds, AddsFront, adds_none, adds_then, Assignment, Event, Language, IsLanguage, IsQuestion, standing_on, Turns, Reply, AsksFirst, Turn, closing_of, Closing, Runs, Next, Puts, Ends, next_after, next_on, number_on, after_text, ended, event_heard, SaysNext, Terms, Point, StepsTo, StopsAt, next_lines, Loses, Drives, Drove}
+use Rattle.acq_loop.proofs.Prelude.{◌≡◌, ℕ, List, [], ◌∷◌, ◌++◌, ap, sym, ◌∙◌, refl, Option, Some, None, subst, append_assoc, IfSome, ForSome, append-nil, Adds, AddsFront, adds_none, adds_then, Assignment, Event, Language, IsLanguage, IsQuestion, standing_on, Turns, Reply, AsksFirst, Turn, closing_of, Closing, Runs, Next, Puts, Ends, next_after, next_on, number_on, after_text, ended, event_heard, SaysNext, Terms, Point, StepsTo, next_lines, Loses, Drives, Drove}
 use Rattle.acq_loop.proofs.Short.{RanTo, CutOff, MayFollow}
 use Rattle.target_oracle.proofs.Fronts.{front_longer, front_none, front_then, front_whole}
 use Rattle.acq_loop.proofs.Running.{text_after, runs_heard, EndsSo, runs_closed, runs_end, IsWithin, puts_next, RunLaws, turn_exists}
@@ -50,15 +50,13 @@ steps_cut turns l terms a b c first second bytes left =
       text = front_then a.written b.written c.written f.done s.run.text f.written s.text;
       later = s.later;
       events = s.events;
-      stops = record {
-        rest = s.stops.rest;
-        done = f.done ++ s.stops.done;
-        middle = s.stops.middle;
-        before = adds_then a.written b.written s.stops.middle f.done s.stops.done f.written s.stops.before;
-        begins = λ run runs. subst (Runs turns l terms a.events bytes) (text_after f.done s.stops.done run) (f.begins (after_text s.stops.done run) (s.stops.begins run runs));
-        text = s.stops.text;
-        asked = s.stops.asked;
-      };
+      rest = s.rest;
+      done = f.done ++ s.done;
+      middle = s.middle;
+      before = adds_then a.written b.written s.middle f.done s.done f.written s.before;
+      begins = λ run runs. subst (Runs turns l terms a.events bytes) (text_after f.done s.done run) (f.begins (after_text s.done run) (s.begins run runs));
+      lines = s.lines;
+      asked = s.asked;
     }
 
 pub steps_loses : (turns : Turns) (l : Language) (terms : Terms) (a b c : Point) (lost : Event) → StepsTo turns l terms a b → Loses turns l terms b c lost → Loses turns l terms a c lost
@@ -169,20 +167,20 @@ cut_turn laws turns l terms lawful q a b within due same told asked bytes left =
       text = subst Begun (sym turn.begins) (front_longer a.written b.written (turns l (number_on l a.events) q bytes).text turn.more f);
       later = turn.has.later;
       events = turn.has.extends ∙ ap (λ x. x ++ turn.has.later) (sym same);
-      stops =
-          let Stops : List Event → Type 0 = λ x. StopsAt turns l terms a.events x bytes a.written b.left b.written in
+      rest = bytes;
+      done = [];
+      middle = a.written;
+      before = adds_none a.written;
+      begins = λ run runs. let P : List Event → Type 0 = λ xs. Runs turns l terms xs bytes run in subst P same runs;
+      lines =
           let Lines : Option Next → Type 0 = λ n. AddsFront a.written b.written (next_lines turns l a.events bytes n) in
+          let At : List Event → Type 0 = λ x. AddsFront a.written b.written (next_lines turns l x bytes (next_on l terms x)) in
+          subst At (sym same) (subst Lines (sym due) f);
+      asked =
           let Asked : Option Next → Type 0 = λ n. AsksFirst (Some bytes) a.written b.left b.written (next_lines turns l a.events [] n) in
           let From : Option (List ℕ) → Type 0 = λ o. AsksFirst o a.written b.left b.written (turns l (number_on l a.events) q []).text in
-          subst Stops (sym same) (record {
-            rest = bytes;
-            done = [];
-            middle = a.written;
-            before = adds_none a.written;
-            begins = λ run runs. runs;
-            text = subst Lines (sym due) f;
-            asked = subst Asked (sym due) (subst From left asked);
-          });
+          let At : List Event → Type 0 = λ x. AsksFirst (Some bytes) a.written b.left b.written (next_lines turns l x [] (next_on l terms x)) in
+          subst At (sym same) (subst Asked (sym due) (subst From left asked));
     }
 
 -- a turn whose event wasn't kept

@@ -1,5 +1,6 @@
 -- Where the walk of an example has ended, nothing is left to learn from the example.
-use Rattle.acq_loop.proofs.Prelude.{List, Answer, Plan, Scopes, Quacq, Multi, Language, IsLanguage, LeavesNothing}
+use Rattle.acq_loop.proofs.Prelude.{List, Answer, Plan, Scopes, Quacq, Multi, Language, IsLanguage}
+use Rattle.acq_loop.proofs.Short.{LeavesNothing}
 use Rattle.session_laws.proofs.Pending.{ended_is_walked}
 
 pub leaves_nothing : (l : Language) (plan : Plan) (t : List Answer) → IsLanguage l → LeavesNothing l plan t

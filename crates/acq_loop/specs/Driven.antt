@@ -1,9 +1,7 @@
 -- What the loop has done, by how it ended.
-use Rattle.acq_loop.specs.Prelude.{◌≡◌, ◌≢◌, ◌⊎◌, ◌↔◌, ◌<◌, ◌+◌, ℕ, Bool, IsTrue, List, [], ◌++◌, length, All, ◌&&◌, Option, Some, None, IfSome, ForSome, Adds, AddsFront, Assignment, Answer, standing, Event, Plan, Scopes, Multi, Candidate, Language, HasSameSolutions, IsCandidate, IsImplied, IsQuestion, IsNetwork, IsCovered, IsConverged, NoneAgrees, kept, standing_on, plain_size, Spent, outcome_of_candidate, is_among, is_spent, Remembered, MarksHold, is_open, IsUndecided, State, Idle, Over, At, state_after, walk_end, WalkEnd, IsWalked, network_in, answer_event, Turns, AsksFirst}
+use Rattle.acq_loop.specs.Prelude.{◌≡◌, ◌≢◌, ◌⊎◌, ◌↔◌, ◌<◌, ◌≤◌, ◌+◌, ◌*◌, ℕ, Bool, IsTrue, List, [], ◌++◌, length, filter, All, ◌&&◌, Option, Some, None, IfSome, ForSome, Adds, AddsFront, Assignment, Answer, standing, Event, Scopes, Candidate, Language, variable_count, candidates, agrees, has_scope, numbers, log_up, bound, greatest_arity, HasSameSolutions, IsCandidate, IsImplied, IsQuestion, IsNetwork, IsCovered, IsConverged, NoneAgrees, kept, standing_on, plain_size, Spent, outcome_of_candidate, is_among, is_spent, Remembered, MarksHold, is_open, IsUndecided, State, Idle, Over, At, state_after, WalkEnd, network_in, answer_event, Turns, AsksFirst}
 use Rattle.assign.specs.declared.events.Event.TheVariants as event
-use Rattle.session_laws.specs.Walk.{Ended}
 use Rattle.acq_loop.specs.Closings.{closing_of, number_of}
-use Rattle.acq_loop.specs.Few.{AreFew}
 use Rattle.acq_loop.specs.Run.{Closing, Converged, Collapsed, Undecided, Next, Puts, Ends, next_after, next_on, number_on, Ran, Runs, after_text, event_heard}
 use Rattle.acq_loop.specs.Texts.{open_candidates}
 use Rattle.acq_loop.specs.declared.terms.Terms.{Terms}
@@ -43,28 +41,23 @@ next_lines turns l events bytes None = []
 next_lines turns l events bytes (Some (Ends closing)) = []
 next_lines turns l events bytes (Some (Puts q)) = (turns l (number_on l events) q bytes).text
 
--- What was written goes no further than the lines of the question that comes after these events. So no event is missing behind
--- whose lines something was written. Of the bytes that were there when the question came, the input has an end. Before any of
--- them was taken, what the question's turn writes to no bytes stood there: its line.
-pub record StopsAt (turns : Turns) (l : Language) (terms : Terms) (start events : List Event) (bytes : List ℕ) (written left' written' : Option (List ℕ)) : Type 0 where
-  pub rest : List ℕ
-  pub done : List ℕ
-  -- what the sink had when the question came
-  pub middle : Option (List ℕ)
-  pub before : Adds written middle done
-  pub begins : (run : Ran) → Runs turns l terms events rest run → Runs turns l terms start bytes (after_text done run)
-  pub text : AddsFront middle written' (next_lines turns l events rest (next_on l terms events))
-  pub asked : AsksFirst (Some rest) middle left' written' (next_lines turns l events [] (next_on l terms events))
-
--- What was written is a front of the run's text, and the events are a front of its events, with each behind whose lines
--- something was written.
+-- What was written is a front of the run's text, and the events are a front of its events. What was written goes no further than
+-- the lines of the question that comes after these events. So no event is missing behind whose lines something was written.
 pub record IsCut (turns : Turns) (l : Language) (terms : Terms) (bytes : List ℕ) (old new : Point) : Type 0 where
   pub run : Ran
   pub runs : Runs turns l terms old.events bytes run
   pub text : AddsFront old.written new.written run.text
   pub later : List Event
   pub events : run.events ≡ new.events ++ later
-  pub stops : StopsAt turns l terms old.events new.events bytes old.written new.left new.written
+  -- what was written when the question came, and the bytes that were there then, of which the input has an end
+  pub rest : List ℕ
+  pub done : List ℕ
+  pub middle : Option (List ℕ)
+  pub before : Adds old.written middle done
+  pub begins : (run : Ran) → Runs turns l terms new.events rest run → Runs turns l terms old.events bytes (after_text done run)
+  pub lines : AddsFront middle new.written (next_lines turns l new.events rest (next_on l terms new.events))
+  -- before any of them was taken, what the question's turn writes to no bytes stood there: its line
+  pub asked : AsksFirst (Some rest) middle new.left new.written (next_lines turns l new.events [] (next_on l terms new.events))
 
 -- This question was put: its lines were written, and a reply was heard, whose event, which is this one, isn't there.
 pub record IsUnkept (turns : Turns) (l : Language) (terms : Terms) (question : Assignment) (lost : Event) (bytes : List ℕ) (old new : Point) : Type 0 where
@@ -85,7 +78,8 @@ pub record Loses (turns : Turns) (l : Language) (terms : Terms) (old new : Point
   -- where the source tells
   pub told : ForSome old.left (λ bytes. IsUnkept turns l terms question lost bytes old new)
 
--- nothing is left to ask, and the few answers converge on what was learned
+-- Nothing is left to ask, and the answers converge on what was learned. There are at most as many as the bound says of the learned
+-- candidates, and each network that agrees with them has candidates on at least as many scopes.
 pub record IsDone (l : Language) (terms : Terms) (t : List Answer) : Type 0 where
   pub network : List Candidate
   pub end : Option WalkEnd
@@ -93,7 +87,10 @@ pub record IsDone (l : Language) (terms : Terms) (t : List Answer) : Type 0 wher
   pub ends : next_after l terms t ≡ Some (Ends Converged)
   pub covered : IsCovered l network t
   pub converged : IsConverged l network t
-  pub few : AreFew l network t
+  pub bounded : length t ≤ bound l (length network)
+  -- a looser sum, in which a scope's length counts twice
+  pub loosely : length t ≤ length (candidates l) + length network * (2 * greatest_arity l * log_up (variable_count l) + 1)
+  pub learned : (owner : List Candidate) → IsNetwork l owner → IsTrue (agrees l owner t) → length network ≤ length (filter (has_scope owner) (numbers (length l.scopes)))
 
 -- no network agrees with the answers, which never comes scope by scope
 pub record IsCollapsed (l : Language) (terms : Terms) (t : List Answer) : Type 0 where
@@ -153,11 +150,6 @@ abbrev pub IsOwned : Language → Terms → List Candidate → List Answer → C
 IsOwned l terms owner t Converged = (network : List Candidate) × (end : Option WalkEnd) × (state_after l terms.plan t ≡ At (Idle network end)) × HasSameSolutions l owner network
 IsOwned l terms owner t Collapsed = ⊥
 IsOwned l terms owner t closing = Unit {0}
-
--- Where the last answer has ended the walk of an example, which wasn't cut off, nothing is left to learn from the example. Other
--- plans walk none.
-abbrev pub LeavesNothing : Language → Plan → List Answer → Type 0
-LeavesNothing l plan t = (e : Assignment) (state : State) → plan ≡ Multi → state_after l plan t ≡ At state → walk_end l t ≡ Some (Ended e) → IsWalked l t (network_in state) e
 
 -- ---- what a screen says of the candidates
 

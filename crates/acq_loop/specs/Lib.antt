@@ -1,6 +1,5 @@
 pub mod Prelude
 pub mod Run
-pub mod Few
 pub mod Closings
 pub mod Driven
 pub mod Added

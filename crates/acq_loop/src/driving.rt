@@ -1,7 +1,9 @@
 ghost use Rattle.std.specs.Prelude.{◌≡◌, ◌≢◌, ◌+◌, ◌<◌, List, [], length, Some, None, IfSome, IsSome, IsTrue, IsFalse};
 ghost use Rattle.std.specs.Option.{ForSome};
 ghost use Rattle.acq_io.specs.Streams.{Rose};
+ghost use Rattle.assign.specs.Assignment.{Assignment};
 ghost use Rattle.assign.specs.Events.{Answer, standing};
+ghost use Rattle.assign.specs.declared.events.Plan.TheVariants.{Multi};
 ghost use Rattle.language.specs.declared.candidates.Candidate.{Candidate};
 ghost use Rattle.language.specs.Language.{Language, IsLanguage, IsQuestion};
 ghost use Rattle.language.specs.Answers.{IsNetwork, agrees, standing_on};
@@ -9,10 +11,13 @@ ghost use Rattle.query_gen.specs.Marks.{IsMadeFor};
 ghost use Rattle.par_screen.specs.Eighths.{AreMadeFor};
 ghost use Rattle.session_core.specs.Settled.{IsSettled};
 ghost use Rattle.session_core.specs.Standing.{Stands, knowledge_of, open_in};
+ghost use Rattle.session_laws.specs.Laws.{IsWalked, network_in};
+ghost use Rattle.session_laws.specs.Session.{State, At, state_after, walk_end};
+ghost use Rattle.session_laws.specs.Walk.{Ended};
 ghost use Rattle.session_store.specs.Keeps.{Keeps, IsKeeping, IsSameSession, OnlyPuts};
 ghost use Rattle.target_oracle.specs.Teaching.{TeachesOn};
 ghost use Rattle.acq_loop.specs.Closings.{closing_of, ending_of};
-ghost use Rattle.acq_loop.specs.Driven.{IsOwned, LeavesNothing, Loses, Remembers};
+ghost use Rattle.acq_loop.specs.Driven.{IsOwned, Loses, Remembers};
 ghost use Rattle.acq_loop.specs.Added.{IsTaught, MayEnd};
 ghost use Rattle.acq_loop.specs.Due.{IsDue, EventKept};
 ghost use Rattle.acq_loop.specs.Heard.{heard_of, event_on, MayKeep, Forgets, Hears, end_of};
@@ -282,7 +287,9 @@ pub fn drive<R: Threads + Sync, S: Source, K: Sink, D: Disk, T: Teacher<S, K>, P
         (point_of (P.record_of keep.new) (S.left source.new) (K.written sink.new)) screen.new result }
     ensures owner { (owner : List Candidate) → IsNetwork (P.lang keep.old) owner → IsTrue (agrees (P.lang keep.old) owner (standing_on (P.lang keep.old) (P.record_of keep.new)))
         → IfSome (closing_of result) (IsOwned (P.lang keep.old) (terms_with (P.plan keep.old) budget) owner (standing_on (P.lang keep.old) (P.record_of keep.new))) }
-    ensures walked { LeavesNothing (P.lang keep.old) (P.plan keep.old) (standing_on (P.lang keep.old) (P.record_of keep.new)) }
+    ensures walked { (e : Assignment) (state : State) → P.plan keep.old ≡ Multi → state_after (P.lang keep.old) (P.plan keep.old) (standing_on (P.lang keep.old) (P.record_of keep.new)) ≡ At state
+        → walk_end (P.lang keep.old) (standing_on (P.lang keep.old) (P.record_of keep.new)) ≡ Some (Ended e)
+        → IsWalked (P.lang keep.old) (standing_on (P.lang keep.old) (P.record_of keep.new)) (network_in state) e }
     ensures same { IsSameSession P.Keep keep.old keep.new }
     ensures taught { IsTaught (P.lang keep.old) (P.plan keep.old) (T.may_say teacher.old (P.lang keep.old)) (P.record_of keep.old) (P.record_of keep.new)
         (MayEnd (T.may_say teacher.old (P.lang keep.old)) (ending_of result)) }

@@ -1,5 +1,5 @@
 -- Exactly when a command over a journal is done or refused, of what it has done.
-use Rattle.acq_said.proofs.Prelude.{◌≡◌, ◌⊎◌, ℕ, List, Option, Result, Ok, Err, refl, sym, ◌∙◌, ap, subst, inl, inr, ⊎_elim, ForSome, DiskOf, Put, Opened, Holds, RefusesOpening, SFault, IsBrokenOff, RunsOn, ended_as, Ending, MatchResult}
+use Rattle.acq_said.proofs.Prelude.{◌≡◌, ◌⊎◌, ℕ, List, Option, Result, Ok, Err, refl, sym, ◌∙◌, ap, subst, inl, inr, ⊎_elim, ForSome, DiskOf, Put, Opened, Holds, RefusesOpening, SFault, IsBrokenOff, Refuses, SaysOver, SaysSo, GoesOn, line_turn, ended_as, Ending, MatchResult}
 use Rattle.acq_io.specs.declared.streams.Put.TheVariants as put
 use Rattle.std.specs.Prelude.{◌↔◌}
 use Rattle.session_store.specs.Opening.{NotOpened}
@@ -30,7 +30,13 @@ pub closed_exactly : ReadOnce → (file : List ℕ) (end : Ending) (f : SFault) 
 closed_exactly once file end f why is n = (λ e. subst (RefusesOpening file) (same_reason end f n is e) why, λ so. is ∙ refused_as f n (bytes_only_reason once file f n why so))
 
 module _ {D : Type 0} (disk : DiskOf D) where
-  pub run_ends : ReadOnce → (budget : ℕ) (left written left' written' : Option (List ℕ)) (old new : D) (got : Result Ending Put) → RunsOn disk budget left written left' written' old new got →
+  -- what `run` has done
+  abbrev pub RunsOn : ℕ → (left written left' written' : Option (List ℕ)) → D → D → Result Ending Put → Type 0
+  RunsOn budget left written left' written' old new got =
+      SaysSo (SaysOver disk (λ opening said. (fault : SFault) × (opening ≡ Err fault) × Refuses fault said × (left' ≡ left)) (λ o. Unit {0}) old new) written written' got
+      ⊎ GoesOn disk line_turn (λ l q told. Unit {0}) budget left written left' written' old new got
+
+  pub run_ends : ReadOnce → (budget : ℕ) (left written left' written' : Option (List ℕ)) (old new : D) (got : Result Ending Put) → RunsOn budget left written left' written' old new got →
       ForSome (disk.content old) (λ file. IsBrokenOff (ended_as got) ⊎ OpensExactly file (ended_as got))
   run_ends once budget left written left' written' old new (Err put.Failed) runs = λ file told. inl (inr (inl refl))
   run_ends once budget left written left' written' old new (Err put.Memory) runs = λ file told. inl (inr (inr (inr refl)))

@@ -46,15 +46,13 @@ begun_part turns l terms start left written lawful within = inl (λ bytes from.
       text = front_none written written has.run.text refl;
       later = has.later;
       events = has.extends;
-      stops = record {
-        rest = bytes;
-        done = [];
-        middle = written;
-        before = adds_none written;
-        begins = λ run runs. runs;
-        text = front_none written written (next_lines turns l start bytes (next_on l terms start)) refl;
-        asked = record { takes = (let Left : Option (List ℕ) → Type 0 = λ o. TakesSome o left in subst Left from (takes_same left)); first = inl from };
-      };
+      rest = bytes;
+      done = [];
+      middle = written;
+      before = adds_none written;
+      begins = λ run runs. runs;
+      lines = front_none written written (next_lines turns l start bytes (next_on l terms start)) refl;
+      asked = record { takes = (let Left : Option (List ℕ) → Type 0 = λ o. TakesSome o left in subst Left from (takes_same left)); first = inl from };
     })
 
 -- a front of the whole text of a run of these bytes

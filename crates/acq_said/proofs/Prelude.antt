@@ -19,7 +19,7 @@ pub use Rattle.acq_loop.proofs.Running.{IsWithin, room_not_full, run_exists}
 pub use Rattle.acq_loop.proofs.Standings.{carried, few_answers, reached, room_unless, run_laws, stands_at}
 pub use Rattle.acq_loop.specs.Added.{IsAdded, MayEnd}
 pub use Rattle.acq_loop.specs.Closings.{closing_of, ending_of}
-pub use Rattle.acq_loop.specs.Driven.{Drives, HasEnded, IsDone, LeavesNothing, Loses, Point, TellsOpen, next_lines}
+pub use Rattle.acq_loop.specs.Driven.{Drives, HasEnded, IsDone, Loses, Point, TellsOpen, next_lines}
 pub use Rattle.acq_loop.specs.Points.{point_of, terms_with}
 pub use Rattle.acq_loop.specs.Program.{ended_as}
 pub use Rattle.acq_loop.specs.Run.{Closing, Collapsed, Converged, Ends, JournalFull, LineTooLong, Next, Puts, Ran, Runs, Suspended, Undecided, Unreadable, is_full, next_after, next_on}
@@ -72,7 +72,7 @@ pub use Rattle.voc_read.specs.Vocabulary.{IsVocabulary}
 pub use Rattle.acq_said.specs.Asks.{AsksTruly, asked_said}
 pub use Rattle.acq_said.specs.Breaks.{BreaksRun}
 pub use Rattle.acq_said.specs.Certifying.{MakesGood, TellsEnd, certificate_said, if_at_end}
-pub use Rattle.acq_said.specs.Confirming.{IsCheck, IsCheckOf, checked_said, verdict_said}
+pub use Rattle.acq_said.specs.Confirming.{IsCheck, checked_said, verdict_said}
 pub use Rattle.acq_said.specs.Endings.{HasAsked, Says, SaysEnd, SaysEndBy, SaysPart, Tries}
 pub use Rattle.acq_said.specs.Exactly.{IsBrokenOff}
 pub use Rattle.acq_said.specs.Inputs.{SaysOfInput, SaysOfRead}
@@ -80,12 +80,12 @@ pub use Rattle.acq_said.specs.Journals.{Refuses, refused_said, untold}
 pub use Rattle.acq_said.specs.Making.{made_said, voc_refused}
 pub use Rattle.acq_said.specs.Over.{EndsAsOpened, SaysOver}
 pub use Rattle.acq_said.specs.Printing.{clauses_said}
-pub use Rattle.acq_said.specs.Reducing.{IsReduced, ReducesTruly, first_spent, network_of, unreduced_said}
-pub use Rattle.acq_said.specs.Running.{GoesOn, RunsOn}
+pub use Rattle.acq_said.specs.Reducing.{IsReduced, first_spent, network_of, unreduced_said}
+pub use Rattle.acq_said.specs.Running.{GoesOn}
 pub use Rattle.acq_said.specs.Said.{HasWritten, IsSaid, SaysSo, or_silent, silent_end}
 pub use Rattle.acq_said.specs.Saying.{Saying, saying}
-pub use Rattle.acq_said.specs.Shows.{answer_line, answer_lines, back_line, is_back, plan_text, reading_text, show_text, take_backs}
+pub use Rattle.acq_said.specs.Shows.{answer_line, answer_lines, back_line, is_back, plan_text, reading_text, show_text}
 pub use Rattle.acq_said.specs.Solving.{Solves, solution_said, solved_said}
-pub use Rattle.acq_said.specs.TakingBack.{EndsBack, TakesBack, back_on, back_said}
+pub use Rattle.acq_said.specs.TakingBack.{EndsBack, back_on, back_said}
 pub use Rattle.acq_said.specs.declared.ask.Ask.{Ask}
 pub use Rattle.acq_said.specs.declared.said.Unsaid.{Unsaid}

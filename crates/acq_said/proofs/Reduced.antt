@@ -1,5 +1,5 @@
 -- What `reduce` says of a session's network.
-use Rattle.acq_said.proofs.Prelude.{◌≡◌, ◌⊎◌, ◌∙◌, ℕ, zero, suc, ◌<◌, ◌≤◌, List, [], length, Some, None, Result, refl, sym, ap, subst, inl, inr, arith, IfOk, IsErr, cases_lt, Event, Plan, Candidate, Language, standing_on, ReduceFault, Stands, knowledge_of, Session, state_after, Learned, Opened, opened_as, IsReduced, ReducesTruly, first_spent, network_of, unreduced_said, Saying, saying, learned_in, stands_at, Option, if◌then◌else◌}
+use Rattle.acq_said.proofs.Prelude.{◌≡◌, ◌⊎◌, ◌∙◌, ℕ, zero, suc, ◌<◌, ◌≤◌, List, [], length, Some, None, Result, refl, sym, ap, subst, inl, inr, arith, IfOk, IsErr, cases_lt, Event, Plan, Candidate, Language, standing_on, ReduceFault, Stands, knowledge_of, Session, state_after, Learned, Opened, opened_as, IsReduced, AsksTruly, first_spent, network_of, unreduced_said, Saying, saying, learned_in, stands_at, Option, if◌then◌else◌}
 use Rattle.std.proofs.lemmas.Result.{IfOk-from_err}
 use Rattle.std.specs.Option.{option_map_or, option_or}
 use Rattle.query_gen.specs.Questions.{is_spent}
@@ -11,6 +11,7 @@ use Rattle.net_reduce.specs.Texts.{reduced_text, spent_text}
 use Rattle.net_reduce.specs.declared.fault.ReduceFault.TheVariants as unreduced
 use Rattle.net_reduce.proofs.Sifting.{reduced_is_target}
 use Rattle.session_store.specs.declared.keep.Keep.{Ghosts as KeepOf}
+use Rattle.acq_said.specs.declared.ask.Ask.TheVariants as ask
 use Rattle.acq_said.proofs.Spoken.{ok_any}
 use Rattle.acq_loop.specs.declared.ending.Ending.TheVariants as ending
 
@@ -100,7 +101,7 @@ module _ (budget : ℕ) (o : Opened) (m : Language) (list : List Candidate) (lan
         said = sym (part_here o.lang (network_of o) budget part slice);
       }
 
-  spent_truly : (number : ℕ) → IsSpentAt m list budget number → ReducesTruly budget o
+  spent_truly : (number : ℕ) → IsSpentAt m list budget number → AsksTruly (ask.Reduce budget) o
   spent_truly number at =
       let here = moved (λ l n. IsSpentAt l n budget number) at in
       inr (number, here, sym (spent_here o.lang (network_of o) budget number here))
@@ -110,6 +111,6 @@ module _ (budget : ℕ) (o : Opened) (m : Language) (list : List Candidate) (lan
   unreduced_so r (unreduced.Spent number) cause says silent = subst (λ (what : Saying). IfOk r (λ said. said ≡ what)) (spent_said number cause) says
   unreduced_so r unreduced.Memory cause says silent = IfOk-from_err r (λ said. said ≡ network_said budget o.lang (network_of o)) (silent refl)
 
-  pub unreduced_truly : {E : Type 0} (r : Result Saying E) (f : ReduceFault) → HasCause m list budget f → (f ≡ unreduced.Memory → IsErr r) → IfOk r (λ _. ReducesTruly budget o)
+  pub unreduced_truly : {E : Type 0} (r : Result Saying E) (f : ReduceFault) → HasCause m list budget f → (f ≡ unreduced.Memory → IsErr r) → IfOk r (λ _. AsksTruly (ask.Reduce budget) o)
   unreduced_truly r (unreduced.Spent number) cause silent = ok_any r (spent_truly number cause)
-  unreduced_truly r unreduced.Memory cause silent = IfOk-from_err r (λ _. ReducesTruly budget o) (silent refl)
+  unreduced_truly r unreduced.Memory cause silent = IfOk-from_err r (λ _. AsksTruly (ask.Reduce budget) o) (silent refl)

@@ -1,5 +1,5 @@
 -- What a command that only says something has done, and by which endings.
-use Rattle.acq_said.proofs.Prelude.{◌≡◌, ◌∙◌, ◌⊎◌, ℕ, Bool, true, false, List, length, Option, Some, None, Result, Ok, Err, refl, sym, ap, inl, inr, ⊎_elim, DiskOf, all_of, Put, AllFault, Assignment, Certificate, verdict, made, CertFault, Candidate, Language, standing_on, model_of, cnf_of, CnfFault, Opened, OpensOnce, RefusesOpening, SFault, asked_said, certificate_said, if_at_end, IsCheckOf, checked_said, verdict_said, IsBrokenOff, SaysOfRead, Refuses, EndsAsOpened, SaysOver, terms_with, clauses_said, ended_as, first_spent, network_of, Next, Puts, Ends, Converged, Collapsed, Undecided, Suspended, LineTooLong, Unreadable, JournalFull, next_after, HasWritten, IsSaid, SaysSo, Saying, saying, ForSome, [], ◌∷◌, ◌++◌, codes, decimal, Solves, solution_said, solved_said, Ask, Ending, Unsaid, MatchResult, Holds, made_said}
+use Rattle.acq_said.proofs.Prelude.{◌≡◌, ◌∙◌, ◌⊎◌, ℕ, Bool, true, false, List, length, Option, Some, None, Result, Ok, Err, refl, sym, ap, inl, inr, ⊎_elim, DiskOf, all_of, Put, AllFault, Assignment, Certificate, verdict, made, CertFault, Candidate, Language, standing_on, model_of, cnf_of, CnfFault, Opened, OpensOnce, RefusesOpening, SFault, asked_said, certificate_said, if_at_end, checked_said, verdict_said, IsBrokenOff, SaysOfRead, Refuses, EndsAsOpened, SaysOver, terms_with, clauses_said, ended_as, first_spent, network_of, Next, Ends, Converged, Collapsed, Undecided, Suspended, LineTooLong, Unreadable, next_after, HasWritten, IsSaid, SaysSo, Saying, saying, ForSome, [], ◌∷◌, ◌++◌, codes, decimal, Solves, solution_said, solved_said, Ask, Ending, Unsaid, MatchResult, Holds, made_said}
 use Rattle.acq_said.proofs.Reduced.{sifted_said}
 use Rattle.acq_io.specs.declared.streams.Put.TheVariants as put
 use Rattle.acq_io.specs.declared.whole.AllFault.TheVariants as all
@@ -14,7 +14,7 @@ use Rattle.session_store.specs.Opening.{NotOpened}
 use Rattle.acq_said.specs.Making.{IsMaking}
 use Rattle.acq_said.specs.Over.{EndsAsSaid}
 use Rattle.acq_said.proofs.Closings.{okay}
-use Rattle.acq_said.proofs.Spoken.{SaysOpening, SaidSo, closed_end, ends_said, input_end, refuses_end, silently}
+use Rattle.acq_said.proofs.Spoken.{IsCheckOf, SaysOpening, SaidSo, closed_end, ends_said, input_end, refuses_end, silently}
 
 -- ---- exactly when
 

@@ -1,7 +1,8 @@
 -- How a command ends by what it says.
-use Rattle.acq_said.proofs.Prelude.{◌≡◌, ◌∙◌, ◌⊎◌, ◌+◌, ◌<◌, ℕ, Bool, true, false, cond, List, [], length, drop, Option, Some, None, Result, Ok, Err, refl, sym, ap, subst, inl, inr, IfOk, nat_le, option_map, leb-false, Gathered, gathered, Gives, all_of, Put, AllFault, SFault, is_of_bytes, made_said, IsBrokenOff, SaysOfInput, Refuses, refused_said, untold, HasWritten, IsSaid, SaysSo, or_silent, silent_end, Saying, Ending, Unsaid, MatchOption, saying, MatchResult, Certificate, CertFault, Opened}
+use Rattle.acq_said.proofs.Prelude.{◌≡◌, ◌∙◌, ◌⊎◌, ◌+◌, ◌<◌, ℕ, Bool, true, false, cond, List, [], length, drop, Option, Some, None, Result, Ok, Err, refl, sym, ap, subst, inl, inr, IfOk, nat_le, option_map, leb-false, Gathered, gathered, Gives, all_of, Put, AllFault, SFault, is_of_bytes, made_said, IsBrokenOff, SaysOfInput, Refuses, refused_said, untold, HasWritten, IsSaid, SaysSo, or_silent, silent_end, Saying, Ending, Unsaid, MatchOption, saying, MatchResult, Certificate, CertFault, Opened, IsCheck, checked_said}
 use Rattle.acq_io.specs.declared.streams.Put.TheVariants as put
 use Rattle.cert_check.specs.Reading.{IsRead, IsUnreadable}
+use Rattle.cert_check.specs.declared.fault.CertFault.TheVariants as form
 use Rattle.acq_io.specs.declared.whole.AllFault.TheVariants as all
 use Rattle.answer_journal.specs.declared.fault.JFault.TheVariants as journal
 use Rattle.session_store.specs.declared.fault.SFault.TheVariants as store
@@ -14,6 +15,10 @@ use Rattle.acq_said.proofs.Closings.{err_ok, okay, same_ok}
 -- this is true of what was said; or memory was wanting, and nothing was
 abbrev pub SaidSo : (Saying → Type 0) → Result Saying Unsaid → Type 0
 SaidSo IsTrue said = MatchResult said IsTrue (λ why. why ≡ unsaid.Memory)
+
+-- what a check says, by what the input gave: too many bytes are no certificate
+abbrev pub IsCheckOf : Result (List ℕ) AllFault → Saying → Type 0
+IsCheckOf read what = MatchResult read (λ bytes. IsCheck bytes what) (λ e. what ≡ checked_said (Err form.TooLong))
 
 abbrev pub silent : Unsaid → Result Saying Unsaid
 silent why = Err why

@@ -1,9 +1,10 @@
 -- What `back` says of a session, and leaves of it.
-use Rattle.acq_said.proofs.Prelude.{◌≡◌, ◌⊎◌, ◌∙◌, ℕ, zero, suc, ◌≤◌, ◌+◌, Bool, true, false, List, [], ◌∷◌, ◌++◌, Option, Some, Result, Ok, Err, refl, sym, ap, subst, inl, inr, ⊎_elim, arith, append-nil, append_cancel_left, IsSome, ForSome, ◌≢◌, codes, LeavesNow, OpensWith, JournalFull, ending_line, DiskOf, AreReadingCalls, Put, Assignment, Event, Plan, LeavesOnly, joined, weaker, AreEventCalls, IsGrown, Persists, FailsWith, both_as, calls_for, calls_of, within_more, OpensWithin, OpensWithOrWithout, bytes_told, Opened, OpensOnce, SFault, IsBrokenOff, EndsAsOpened, ended_as, HasWritten, SaysSo, Saying, saying, EndsBack, TakesBack, back_on, back_said, decimal, Ending, Unsaid, MatchResult, IsSaid, Refuses}
+use Rattle.acq_said.proofs.Prelude.{◌≡◌, ◌⊎◌, ◌∙◌, ℕ, zero, suc, ◌≤◌, ◌+◌, Bool, true, false, List, [], ◌∷◌, ◌++◌, Option, Some, Result, Ok, Err, refl, sym, ap, subst, inl, inr, ⊎_elim, arith, append-nil, append_cancel_left, IsSome, ForSome, ◌≢◌, codes, LeavesNow, OpensWith, JournalFull, ending_line, DiskOf, AreReadingCalls, Put, Assignment, Event, Plan, LeavesOnly, joined, weaker, AreEventCalls, IsGrown, Persists, FailsWith, both_as, calls_for, calls_of, within_more, OpensWithin, OpensWithOrWithout, bytes_told, Opened, OpensOnce, SFault, IsBrokenOff, EndsAsOpened, ended_as, HasWritten, SaysSo, Saying, saying, EndsBack, SaysOver, back_on, back_said, decimal, Ending, Unsaid, MatchResult, IsSaid, Refuses}
 use Rattle.acq_io.specs.declared.streams.Put.TheVariants as put
 use Rattle.assign.specs.declared.events.Event.TheVariants as event
 use Rattle.acq_loop.specs.declared.ending.Ending.TheVariants as ending
 use Rattle.acq_said.specs.declared.said.Unsaid.TheVariants as unsaid
+use Rattle.acq_said.specs.TakingBack.{HasTakenBack}
 use Rattle.acq_said.proofs.Closings.{okay}
 use Rattle.acq_said.proofs.SaidOver.{SaidEnds, broken_own, is_own, opening_own, own_said, said_end}
 use Rattle.acq_said.proofs.Spoken.{SaysOpening, said_silent, same_why, silent, silently, so_not}
@@ -138,7 +139,10 @@ untaken_said (Ok o) said none = none.0
 untaken_said (Err f) said none = none
 
 module _ {D : Type 0} (disk : DiskOf D) (written written' : Option (List ℕ)) (old new : D) where
-  pub back_ends : OpensOnce → (got : Result Ending Put) → SaysSo (TakesBack disk old new) written written' got → SaidEnds back_said (disk.content old) (ended_as got)
+  abbrev TakesBack : Result Saying Unsaid → Type 0
+  TakesBack said = SaysOver disk Untaken (λ o. Unit {0}) old new said ⊎ HasTakenBack disk old new said
+
+  pub back_ends : OpensOnce → (got : Result Ending Put) → SaysSo TakesBack written written' got → SaidEnds back_said (disk.content old) (ended_as got)
   back_ends once (Err put.Failed) backs = λ file told. inl (inr (inl refl))
   back_ends once (Err put.Memory) backs = λ file told. inl (inr (inr (inr refl)))
   back_ends once (Ok end) (said, inl none, has) = λ file told. said_end once back_said file said written written' end none.opening (none.opens file told) (untaken_said none.opening said none.says) has
@@ -149,7 +153,7 @@ module _ {D : Type 0} (disk : DiskOf D) (written written' : Option (List ℕ)) (
       go file told (inr (same, inl none)) = inl (silently unsaid.Memory said written written' end none has)
       go file told (inr (same, inr failed)) = inl (silently unsaid.DiskFault said written written' end failed has)
 
-  pub back_own : (end : Ending) (said : Result Saying Unsaid) → TakesBack disk old new said → HasWritten said written written' (okay end) → is_own end ≡ true
+  pub back_own : (end : Ending) (said : Result Saying Unsaid) → TakesBack said → HasWritten said written written' (okay end) → is_own end ≡ true
   back_own end said (inl none) has = opening_own back_said own none.opening said written written' end (untaken_said none.opening said none.says) has
     where
       own : (o : Opened) → is_own (back_said o).ending ≡ true

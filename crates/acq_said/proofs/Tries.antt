@@ -1,11 +1,11 @@
 -- What was done about a language, of its loop and what was said.
-use Rattle.acq_said.proofs.Prelude.{◌≡◌, ◌∙◌, ℕ, true, false, List, [], sym, subst, refl, ap, Option, Some, None, Result, Ok, Err, inl, inr, ◌≢◌, IfOk, OnErr, IfSome, Put, Answer, Event, Plan, Language, standing_on, line_turn, Turns, Told, Remembered, Terms, Assignment, MayEnd, closing_of, ending_of, Point, Drives, HasEnded, LeavesNothing, Loses, TellsOpen, point_of, terms_with, Stands, knowledge_of, Session, carried, Drove, Ending, BreaksRun, HasAsked, Says, SaysPart, Tries, Closing}
+use Rattle.acq_said.proofs.Prelude.{◌≡◌, ◌∙◌, ℕ, true, false, List, [], sym, subst, refl, ap, Option, Some, None, Result, Ok, Err, inl, inr, ◌≢◌, IfOk, OnErr, IfSome, Put, Answer, Event, Plan, Language, standing_on, line_turn, Turns, Told, Remembered, Terms, Assignment, MayEnd, closing_of, ending_of, Point, Drives, HasEnded, Loses, TellsOpen, point_of, terms_with, Stands, knowledge_of, Session, carried, Drove, Ending, BreaksRun, HasAsked, Says, SaysPart, Tries, Closing}
 use Rattle.session_store.specs.Keeps.{IsSameSession}
 use Rattle.session_store.specs.declared.keep.Keep.{Ghosts as KeepOf}
 use Rattle.acq_loop.specs.declared.driving.Drove.TheVariants as drove
 use Rattle.acq_loop.specs.declared.ending.Ending.TheVariants as ending
 use Rattle.acq_loop.specs.Loop.{EndsAs}
-use Rattle.acq_loop.proofs.Short.{CutOff, RanTo}
+use Rattle.acq_loop.proofs.Short.{CutOff, LeavesNothing, RanTo}
 use Rattle.acq_said.proofs.Closings.{AddsLast, AddsLastFront, okay, same_ok, err_ok, not_loops, read_by, read_said, disk_by, disk_said}
 
 not_err : false ≡ true → ⊥

@@ -1,5 +1,5 @@
 -- What `certify` says of a session.
-use Rattle.acq_said.specs.Prelude.{◌≡◌, ◌≢◌, ◌⊎◌, ◌++◌, ◌∷◌, [], ℕ, Bool, true, false, List, length, Option, Some, Result, Ok, Err, codes, decimal, Answer, Certificate, certificate_of, made, confirmed_text, make_fault_line, IsConfirmed, CertFault, MakeFault, Language, standing_on, Opened, IsDone, terms_with, Next, Converged, Ends, next_after, Terms, MatchResult, IsRead, IsUnreadable}
+use Rattle.acq_said.specs.Prelude.{◌≡◌, ◌≢◌, ◌⊎◌, ◌++◌, ◌∷◌, [], ℕ, Bool, true, false, List, Option, Some, Result, Ok, Err, Answer, Certificate, certificate_of, made, confirmed_text, make_fault_line, IsConfirmed, CertFault, MakeFault, Language, standing_on, Opened, IsDone, Next, Converged, Ends, next_after, Terms, MatchResult, IsRead, IsUnreadable}
 use Rattle.acq_said.specs.Confirming.{checked_said}
 use Rattle.acq_said.specs.Reducing.{network_of}
 use Rattle.acq_said.specs.Saying.{Saying, saying}
@@ -23,14 +23,6 @@ abbrev pub if_at_end : Option Next → Saying → Saying → Saying
 if_at_end (Some (Ends Converged)) certificate other = certificate
 if_at_end next certificate other = other
 
--- the certificate of the vocabulary's bytes, the answers that stand and the network, where these answers have converged; else how many
--- they are
-abbrev pub certified_said : ℕ → Opened → Saying
-certified_said budget o =
-    let t = standing_on o.lang o.events in
-    if_at_end (next_after o.lang (terms_with o.plan budget) t) (certificate_said (made o.voc o.lang (network_of o) t budget))
-    (saying (codes "refused not converged " ++ (decimal (length t) ++ 10 ∷ [])) (ending.NotConverged (length t)))
-
 -- ---- What is true of it
 
 -- Each text that is made is read as this certificate, which a check confirms; so what `check` reads it as is that, and it says so and
@@ -40,9 +32,3 @@ MakesGood budget o =
     let cert = certificate_of o.lang (network_of o) (standing_on o.lang o.events) in
     (text : List ℕ) → made o.voc o.lang (network_of o) (standing_on o.lang o.events) budget ≡ Ok text →
     IsConfirmed text cert × ((reading : Result Certificate CertFault) → MatchResult reading (IsRead text) (IsUnreadable text) → checked_said reading ≡ saying (confirmed_text cert) ending.Done)
-
--- a certificate is made only where the answers converge on the network, and then it checks out
-abbrev pub CertifiesTruly : ℕ → Opened → Type 0
-CertifiesTruly budget o =
-    let t = standing_on o.lang o.events in
-    (IsDone o.lang (terms_with o.plan budget) t × MakesGood budget o) ⊎ (next_after o.lang (terms_with o.plan budget) t ≢ Some (Ends Converged))

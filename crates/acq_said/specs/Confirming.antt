@@ -1,6 +1,5 @@
 -- What `check` says of its input.
-use Rattle.acq_said.specs.Prelude.{◌≡◌, ◌↔◌, ℕ, List, Result, Ok, Err, IfOk, AllFault, Certificate, verdict, IsGood, IsRead, IsUnreadable, cert_fault_line, confirmed_text, flaw_line, CertFault, Verdict, Yes, No, IsConverged, Ending, MatchResult}
-use Rattle.cert_check.specs.declared.fault.CertFault.TheVariants as form
+use Rattle.acq_said.specs.Prelude.{◌≡◌, ◌↔◌, ℕ, List, Result, Ok, Err, IfOk, Certificate, verdict, IsGood, IsRead, IsUnreadable, cert_fault_line, confirmed_text, flaw_line, CertFault, Verdict, Yes, No, IsConverged, Ending, MatchResult}
 use Rattle.acq_said.specs.Over.{EndsAsSaid}
 use Rattle.acq_said.specs.Saying.{Saying, saying}
 use Rattle.acq_loop.specs.declared.ending.Ending.TheVariants as ending
@@ -28,11 +27,6 @@ pub record IsCheck (bytes : List ℕ) (what : Saying) : Type 0 where
   pub reads : MatchResult reading (IsRead bytes) (IsUnreadable bytes)
   pub judged : IfOk reading IsJudged
   pub is : what ≡ checked_said reading
-
--- by what the input gave: too many bytes are no certificate
-abbrev pub IsCheckOf : Result (List ℕ) AllFault → Saying → Type 0
-IsCheckOf (Ok bytes) what = IsCheck bytes what
-IsCheckOf (Err e) what = what ≡ checked_said (Err form.TooLong)
 
 -- ---- Exactly when
 

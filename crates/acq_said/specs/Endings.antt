@@ -1,5 +1,5 @@
 -- What was said of a session at its end, and what was done about a language.
-use Rattle.acq_said.specs.Prelude.{◌≡◌, ℕ, List, Option, Some, None, Result, Ok, Err, IsErr, IfOk, OnErr, Adds, AddsFront, Put, Answer, Event, Language, standing_on, Turns, Closing, closing_of, ending_of, Drives, LeavesNothing, point_of, closing_text, Terms, Drove, Ending, MatchOption}
+use Rattle.acq_said.specs.Prelude.{◌≡◌, ℕ, List, Option, Some, None, Result, Ok, Err, IsErr, IfOk, OnErr, Adds, AddsFront, Put, Answer, Event, Language, standing_on, Turns, Closing, closing_of, ending_of, Drives, Assignment, Multi, State, At, Ended, IsWalked, state_after, walk_end, network_in, point_of, closing_text, Terms, Drove, Ending, MatchOption}
 use Rattle.acq_said.specs.Breaks.{BreaksRun}
 use Rattle.acq_said.specs.Said.{IsSaid, silent_end}
 use Rattle.acq_said.specs.Saying.{Saying, saying}
@@ -33,8 +33,9 @@ pub record Tries (turns : Turns) (l : Language) (terms : Terms) (start events : 
   pub middle : Option (List ℕ)
   pub ended : Drives turns l terms (point_of start left written) (point_of events left' middle) how
   pub adds : MatchOption (closing_of how) (written' ≡ middle) (λ closing. Adds middle written' (closing_text l terms (standing_on l events) closing))
-  -- an example whose walk has ended, and wasn't cut off, is used up
-  pub walked : LeavesNothing l terms.plan (standing_on l events)
+  -- where the last answer has ended the walk of an example, which wasn't cut off, nothing is left to learn from the example; other plans
+  -- walk none
+  pub walked : (e : Assignment) (state : State) → terms.plan ≡ Multi → state_after l terms.plan (standing_on l events) ≡ At state → walk_end l (standing_on l events) ≡ Some (Ended e) → IsWalked l (standing_on l events) (network_in state) e
 
 -- what was done about it, said whole, or in part where something failed
 pub record HasAsked (turns : Turns) (l : Language) (terms : Terms) (start events : List Event) (left written left' written' : Option (List ℕ)) (got : Result Ending Put) : Type 0 where

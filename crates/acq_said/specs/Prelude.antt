@@ -9,7 +9,7 @@ pub use Rattle.acq_io.specs.declared.whole.AllFault.{AllFault}
 pub use Rattle.acq_io.specs.declared.whole.AllFault.TheVariants.{TooLong}
 pub use Rattle.acq_loop.specs.Added.{IsAdded}
 pub use Rattle.acq_loop.specs.Closings.{closing_of, ending_of}
-pub use Rattle.acq_loop.specs.Driven.{Drives, IsCut, IsDone, IsRun, LeavesNothing, Loses}
+pub use Rattle.acq_loop.specs.Driven.{Drives, IsCut, IsDone, IsRun, Loses}
 pub use Rattle.acq_loop.specs.Points.{point_of, terms_with}
 pub use Rattle.acq_loop.specs.Run.{Closing, Converged, Ends, JournalFull, Next, Ran, Runs, is_full, next_after}
 pub use Rattle.acq_loop.specs.Texts.{closing_text, ending_line, learned_in, refusal_text}
@@ -57,7 +57,9 @@ pub use Rattle.net_reduce.specs.Searched.{IsSearched, IsSpentAt, left_at, outcom
 pub use Rattle.net_reduce.specs.Texts.{reduced_text, spent_text}
 pub use Rattle.net_reduce.specs.declared.fault.ReduceFault.{ReduceFault}
 pub use Rattle.network.specs.Texts.{network_text}
-pub use Rattle.session_laws.specs.Session.{At, Choosing, Halving, Idle, Over, Reading, Stray, Walking, state_after}
+pub use Rattle.session_laws.specs.Laws.{IsWalked, network_in}
+pub use Rattle.session_laws.specs.Session.{At, Choosing, Halving, Idle, Over, Reading, State, Stray, Walking, state_after, walk_end}
+pub use Rattle.session_laws.specs.Walk.{Ended}
 pub use Rattle.session_store.specs.Keeping.{calls_for, calls_of}
 pub use Rattle.session_store.specs.Left.{IsRaisedOn, LeavesNow, OpensWith, OpensWithOrWithout, OpensWithin}
 pub use Rattle.session_store.specs.Opened.{Holds, IsSession, Opened, Opens, RefusesOpening, is_of_bytes}

@@ -1,5 +1,5 @@
 -- What `reduce` says of a session.
-use Rattle.acq_said.specs.Prelude.{◌≡◌, ◌⊎◌, ℕ, zero, suc, IsTrue, List, [], length, Option, Some, None, Candidate, Language, HasSameSolutions, IsConverged, IsNetwork, agrees, standing_on, IsReduction, Sifts, IsSearched, IsSpentAt, left_at, outcome_at, reduced_text, spent_text, ReduceFault, state_after, Opened, learned_in, option_or, is_spent, if◌then◌else◌, option_map_or}
+use Rattle.acq_said.specs.Prelude.{◌≡◌, ◌⊎◌, ℕ, zero, suc, IsTrue, List, [], length, Option, Some, None, Candidate, Language, HasSameSolutions, IsConverged, IsNetwork, agrees, standing_on, IsReduction, Sifts, IsSearched, left_at, outcome_at, reduced_text, spent_text, ReduceFault, state_after, Opened, learned_in, option_or, is_spent, if◌then◌else◌, option_map_or}
 use Rattle.net_reduce.specs.declared.fault.ReduceFault.TheVariants as unreduced
 use Rattle.acq_said.specs.Saying.{Saying, saying}
 use Rattle.acq_loop.specs.declared.ending.Ending.TheVariants as ending
@@ -38,8 +38,3 @@ pub record IsReduced (budget : ℕ) (o : Opened) : Type 0 where
   pub targets : (target : List Candidate) → IsConverged o.lang (network_of o) (standing_on o.lang o.events) → IsNetwork o.lang target →
       IsTrue (agrees o.lang target (standing_on o.lang o.events)) → HasSameSolutions o.lang part target
   pub said : reduced_said budget o ≡ saying (reduced_text o.lang part (length (network_of o))) ending.Done
-
--- that, or the first item whose search is spent was said
-abbrev pub ReducesTruly : ℕ → Opened → Type 0
-ReducesTruly budget o =
-    IsReduced budget o ⊎ ((number : ℕ) × IsSpentAt o.lang (network_of o) budget number × (reduced_said budget o ≡ saying (spent_text number) (ending.ReduceSpent number)))

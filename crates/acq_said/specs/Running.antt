@@ -1,10 +1,7 @@
 -- What a run over a journal has done, and `run`.
-use Rattle.acq_said.specs.Prelude.{◌≡◌, ◌⊎◌, ◌+◌, ℕ, Bool, List, [], ◌∷◌, ◌++◌, Option, Result, Ok, Err, IfOk, OnErr, ForSome, AreReadingCalls, DiskOf, Put, Assignment, Event, LeavesOnly, Language, calls_of, IsRaisedOn, OpensWith, OpensWithin, LeavesNow, Opened, Holds, HavePlaces, SFault, line_turn, Turns, Told, IsAdded, Loses, point_of, terms_with, Ending}
+use Rattle.acq_said.specs.Prelude.{◌≡◌, ◌⊎◌, ◌+◌, ℕ, Bool, List, [], ◌∷◌, ◌++◌, Option, Result, Ok, IfOk, OnErr, ForSome, AreReadingCalls, DiskOf, Put, Assignment, Event, LeavesOnly, Language, calls_of, IsRaisedOn, OpensWith, OpensWithin, LeavesNow, Opened, Holds, HavePlaces, Turns, Told, IsAdded, Loses, point_of, terms_with, Ending}
 use Rattle.acq_said.specs.Breaks.{BreaksRun}
 use Rattle.acq_said.specs.Endings.{Tries}
-use Rattle.acq_said.specs.Journals.{Refuses}
-use Rattle.acq_said.specs.Over.{SaysOver}
-use Rattle.acq_said.specs.Said.{SaysSo}
 use Rattle.acq_loop.specs.declared.ending.Ending.TheVariants as ending
 
 -- the meanings of a disk
@@ -35,9 +32,3 @@ module _ {D : Type 0} (disk : DiskOf D) where
     pub was_raised : ForSome (disk.content old) (λ bytes. IsRaisedOn bytes raised)
     -- the disk is called to open the journal and to add an event, and not between two of them
     pub calls : ForSome (disk.content old) (AreReadingCalls (5 + calls_of raised (added.more ++ last)) (disk.calls old) (disk.calls new))
-
-  -- A person may give any answer. Where no session is opened, that is told, and the input isn't read.
-  abbrev pub RunsOn : ℕ → (left written left' written' : Option (List ℕ)) → D → D → Result Ending Put → Type 0
-  RunsOn budget left written left' written' old new got =
-      SaysSo (SaysOver disk (λ opening said. (fault : SFault) × (opening ≡ Err fault) × Refuses fault said × (left' ≡ left)) (λ o. Unit {0}) old new) written written' got
-      ⊎ GoesOn line_turn (λ l q told. Unit {0}) budget left written left' written' old new got

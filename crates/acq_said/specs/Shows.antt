@@ -1,5 +1,5 @@
 -- What is shown of a session.
-use Rattle.acq_said.specs.Prelude.{ℕ, zero, suc, Bool, true, false, List, [], ◌∷◌, ◌++◌, length, filter, codes, if◌then◌else◌, decimal, Answer, Event, Plan, Scopes, Quacq, Multi, Candidate, Language, question_text, network_text, Idle, Halving, Choosing, Walking, Over, Reading, At, Stray, state_after}
+use Rattle.acq_said.specs.Prelude.{ℕ, zero, suc, Bool, true, false, List, [], ◌∷◌, ◌++◌, length, codes, if◌then◌else◌, decimal, Answer, Event, Plan, Scopes, Quacq, Multi, Candidate, Language, question_text, network_text, Idle, Over, Reading, At, Stray, state_after}
 use Rattle.assign.specs.declared.events.Event.TheVariants as event
 
 abbrev pub plan_text : Plan → List ℕ
@@ -16,15 +16,11 @@ abbrev pub answer_lines : Language → ℕ → List Answer → List ℕ
 answer_lines l k [] = []
 answer_lines l k (a ∷ t) = answer_line l k a ++ answer_lines l (suc k) t
 
--- how many take-backs there are
 abbrev pub is_back : Event → Bool
 is_back (event.Answer q reply) = false
 is_back event.Back = true
 
-abbrev pub take_backs : List Event → ℕ
-take_backs events = length (filter is_back events)
-
--- they are told where there are some
+-- how many take-backs there are is told where there are some
 abbrev pub back_line : ℕ → List ℕ
 back_line zero = []
 back_line (suc n) = codes "taken back " ++ (decimal (suc n) ++ 10 ∷ [])

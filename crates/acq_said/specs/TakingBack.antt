@@ -1,8 +1,6 @@
 -- What `back` says of a session, and does to it.
-use Rattle.acq_said.specs.Prelude.{◌≡◌, ◌≢◌, ◌⊎◌, ◌<◌, ◌+◌, ℕ, zero, suc, Bool, true, false, List, [], ◌∷◌, ◌++◌, length, Result, Err, codes, decimal, ForSome, AreReadingCalls, DiskOf, Event, LeavesOnly, standing_on, calls_for, IsRaisedOn, LeavesNow, OpensWith, OpensWithin, OpensWithOrWithout, Opened, Holds, HavePlaces, JournalFull, is_full, ending_line, MatchResult}
+use Rattle.acq_said.specs.Prelude.{◌≡◌, ◌≢◌, ◌⊎◌, ◌<◌, ◌+◌, ℕ, zero, suc, Bool, true, false, List, [], ◌∷◌, ◌++◌, length, Result, Err, codes, decimal, ForSome, AreReadingCalls, DiskOf, Event, LeavesOnly, standing_on, calls_for, IsRaisedOn, LeavesNow, OpensWith, OpensWithin, OpensWithOrWithout, Opened, Holds, HavePlaces, JournalFull, is_full, ending_line}
 use Rattle.assign.specs.declared.events.Event.TheVariants as event
-use Rattle.acq_said.specs.Journals.{Refuses}
-use Rattle.acq_said.specs.Over.{SaysOver}
 use Rattle.acq_said.specs.Said.{IsSaid}
 use Rattle.acq_said.specs.Saying.{Saying, saying}
 use Rattle.acq_loop.specs.declared.ending.Ending.TheVariants as ending
@@ -53,9 +51,3 @@ module _ {D : Type 0} (disk : DiskOf D) where
     pub was_raised : ForSome (disk.content old) (λ bytes. IsRaisedOn bytes raised)
     -- those of the opening, and those that the take-back may take
     pub calls : ForSome (disk.content old) (AreReadingCalls (5 + calls_for raised event.Back) (disk.calls old) (disk.calls new))
-
-  -- that, or nothing was taken back, and why was said
-  abbrev pub TakesBack : D → D → Result Saying Unsaid → Type 0
-  TakesBack old new said =
-      SaysOver disk (λ opening told. MatchResult opening (λ o. IsSaid (back_said o) told × ((back_said o).ending ≢ ending.Done)) (λ fault. Refuses fault told)) (λ o. Unit {0}) old new said
-      ⊎ HasTakenBack old new said

@@ -1,14 +1,17 @@
 //! The command that takes the last answer back.
 
-ghost use Rattle.std.specs.Prelude.{◌≡◌, ◌≢◌, ◌↔◌, ◌<◌, ◌≤◌, ◌+◌, ◌++◌, ◌∷◌, [], codes, length, IfSome, IfNone, IfOk, IsTrue, Err};
+ghost use Rattle.std.specs.Prelude.{◌≡◌, ◌≢◌, ◌↔◌, ◌<◌, ◌≤◌, ◌+◌, ◌++◌, ◌∷◌, [], codes, length, IfSome, IfNone, IfOk, IsTrue, MatchResult, Err, ◌⊎◌};
 ghost use Rattle.std.specs.Fmt.{decimal};
 ghost use Rattle.assign.specs.Events.{standing};
 ghost use Rattle.assign.specs.declared.events.Event.{Event};
 ghost use Rattle.disk_model.specs.Disk.{Rose as DiskRose};
 ghost use Rattle.language.specs.Answers.{standing_on};
 ghost use Rattle.session_store.specs.Keeps.{Keeps, IsKeeping};
+ghost use Rattle.acq_said.specs.Journals.{Refuses};
+ghost use Rattle.acq_said.specs.Over.{SaysOver};
+ghost use Rattle.acq_said.specs.Said.{IsSaid};
 ghost use Rattle.acq_said.specs.Saying.{saying};
-ghost use Rattle.acq_said.specs.TakingBack.{EndsBack, TakesBack};
+ghost use Rattle.acq_said.specs.TakingBack.{EndsBack, HasTakenBack, back_said};
 
 use crate::refusing::refused;
 use crate::said::{Said, Unsaid, fixed, or_silent};
@@ -75,7 +78,8 @@ fn is_full<D: Disk, P: Keep<D>>(keep: &P) -> bool
 /// Opens a journal, and takes the last answer back, where one stands and a record is left. Where the disk fails or memory is wanting,
 /// not a word is said.
 pub fn back_journal<D: Disk>(alloc: Global, disk: &mut D) -> Result<Said, Unsaid>
-    ensures backs { TakesBack D.Disk disk.old disk.new result }
+    ensures backs { SaysOver D.Disk (λ opening told. MatchResult opening (λ o. IsSaid (back_said o) told × ((back_said o).ending ≢ Ending.Done)) (λ fault. Refuses fault told)) (λ o. Unit {0}) disk.old disk.new result
+        ⊎ HasTakenBack D.Disk disk.old disk.new result }
     ensures no_read { result ≢ Err Unsaid.ReadFault }
     ensures lost { result ≡ Err Unsaid.DiskFault → DiskRose (D.faults disk.old) (D.faults disk.new) }
 {

@@ -12,7 +12,9 @@ ghost use Rattle.session_store.specs.Held.{IsWide};
 ghost use Rattle.session_store.specs.Opened.{opened_as};
 ghost use Rattle.session_store.specs.Replay.{IsAnswer, answer_in, seen, standing_numbers};
 ghost use Rattle.voc_read.specs.Vocabulary.{IsVocabulary};
-ghost use Rattle.acq_said.specs.Certifying.{CertifiesTruly, MakesGood, TellsEnd, certificate_said, certified_said};
+ghost use Rattle.acq_said.specs.Asks.{AsksTruly, asked_said};
+ghost use Rattle.acq_said.specs.declared.ask.Ask.TheVariants.{Certify};
+ghost use Rattle.acq_said.specs.Certifying.{MakesGood, TellsEnd, certificate_said};
 ghost use Rattle.acq_loop.specs.Driven.{IsDone};
 ghost use Rattle.acq_loop.specs.Points.{terms_with};
 ghost use Rattle.acq_said.specs.Reducing.{network_of};
@@ -177,8 +179,8 @@ pub(crate) fn certified<R: Threads + Sync, D: Disk, P: Keep<D>, G: Gate>(
     requires read { IsVocabulary voc.now (P.lang keep.now) }
     requires voc { voc.now ≡ P.voc keep.now }
     requires budget { IsBudget budget }
-    ensures says { IfOk result (λ said. said ≡ certified_said budget (opened_as (P.plan keep.now) (P.voc keep.now) (P.record_of keep.now) (P.lang keep.now))) }
-    ensures so { IfOk result (λ _. CertifiesTruly budget (opened_as (P.plan keep.now) (P.voc keep.now) (P.record_of keep.now) (P.lang keep.now))) }
+    ensures says { IfOk result (λ said. said ≡ asked_said (Certify budget) (opened_as (P.plan keep.now) (P.voc keep.now) (P.record_of keep.now) (P.lang keep.now))) }
+    ensures so { IfOk result (λ _. AsksTruly (Certify budget) (opened_as (P.plan keep.now) (P.voc keep.now) (P.record_of keep.now) (P.lang keep.now))) }
 {
     match has_converged::<R, D, P, G>(rt, alloc, budget, keep, gate) {
         Ok(true) => certify_converged::<D, P>(alloc, budget, voc, keep),

@@ -3,7 +3,7 @@
 ghost use Rattle.std.specs.Prelude.{◌≡◌, ◌≢◌, IfOk, MatchResult, Err};
 ghost use Rattle.acq_io.specs.Streams.{HasCalled, TakesSome};
 ghost use Rattle.cert_check.specs.Texts.{cert_fault_line, confirmed_text, flaw_line};
-ghost use Rattle.acq_said.specs.Confirming.{IsCheck, IsCheckOf, verdict_said};
+ghost use Rattle.acq_said.specs.Confirming.{IsCheck, checked_said, verdict_said};
 ghost use Rattle.acq_said.specs.Inputs.{SaysOfInput};
 ghost use Rattle.acq_said.specs.Saying.{saying};
 
@@ -75,7 +75,7 @@ pub fn check_input<R: Threads + Sync, S: Source>(
     alloc: Global,
     input: &mut S,
 ) -> Result<Said, Unsaid>
-    ensures confirms { SaysOfInput 67108864 (λ read said. MatchResult said (IsCheckOf read) (λ why. why ≡ Unsaid.Memory)) (S.left input.old) (S.left input.new) result }
+    ensures confirms { SaysOfInput 67108864 (λ read said. MatchResult said (λ what. MatchResult read (λ bytes. IsCheck bytes what) (λ e. what ≡ checked_said (Err CertFault.TooLong))) (λ why. why ≡ Unsaid.Memory)) (S.left input.old) (S.left input.new) result }
     ensures takes { TakesSome (S.left input.old) (S.left input.new) }
     ensures read { HasCalled (S.faults input.old) (S.faults input.new) (S.late input.old) (S.late input.new) (result ≡ Err Unsaid.ReadFault) }
     ensures no_disk { result ≢ Err Unsaid.DiskFault }

@@ -5,7 +5,9 @@ ghost use Rattle.acq_words.specs.Request.{IsBudget};
 ghost use Rattle.language.specs.Answers.{IsNetwork};
 ghost use Rattle.net_reduce.specs.Texts.{reduced_text, spent_text};
 ghost use Rattle.session_store.specs.Opened.{opened_as};
-ghost use Rattle.acq_said.specs.Reducing.{ReducesTruly, reduced_said, unreduced_said};
+ghost use Rattle.acq_said.specs.Asks.{AsksTruly};
+ghost use Rattle.acq_said.specs.declared.ask.Ask.TheVariants.{Reduce};
+ghost use Rattle.acq_said.specs.Reducing.{reduced_said, unreduced_said};
 ghost use Rattle.acq_said.specs.Saying.{saying};
 
 use crate::said::Said;
@@ -54,7 +56,7 @@ pub(crate) fn reduced<D: Disk, P: Keep<D>>(
     requires sound { P.sound keep.now }
     requires budget { IsBudget budget }
     ensures says { IfOk result (λ said. said ≡ reduced_said budget (opened_as (P.plan keep.now) (P.voc keep.now) (P.record_of keep.now) (P.lang keep.now))) }
-    ensures so { IfOk result (λ _. ReducesTruly budget (opened_as (P.plan keep.now) (P.voc keep.now) (P.record_of keep.now) (P.lang keep.now))) }
+    ensures so { IfOk result (λ _. AsksTruly (Reduce budget) (opened_as (P.plan keep.now) (P.voc keep.now) (P.record_of keep.now) (P.lang keep.now))) }
 {
     let session = keep.session();
     let lang = session.lang();

@@ -1,6 +1,6 @@
 //! What is shown of a session.
 
-ghost use Rattle.std.specs.Prelude.{◌≡◌, ◌++◌, ◌<◌, List, All, codes, if◌then◌else◌, length, IfOk, OnOk};
+ghost use Rattle.std.specs.Prelude.{◌≡◌, ◌++◌, ◌<◌, List, All, codes, filter, if◌then◌else◌, length, IfOk, OnOk};
 ghost use Rattle.std.specs.String.{string_bytes};
 ghost use Rattle.assign.specs.Events.{Answer};
 ghost use Rattle.language.specs.Language.{variable_count};
@@ -12,7 +12,7 @@ ghost use Rattle.session_store.specs.Held.{IsWide};
 ghost use Rattle.session_store.specs.Opened.{opened_as};
 ghost use Rattle.session_store.specs.Replay.{IsAnswer, seen, answer_in, answer_to, standing_numbers};
 ghost use Rattle.acq_said.specs.Asks.{asked_said};
-ghost use Rattle.acq_said.specs.Shows.{plan_text, answer_line, answer_lines, back_line, is_back, take_backs, reading_text, show_text};
+ghost use Rattle.acq_said.specs.Shows.{plan_text, answer_line, answer_lines, back_line, is_back, reading_text, show_text};
 
 use crate::ask::Ask;
 use crate::said::Said;
@@ -122,7 +122,7 @@ fn is_back(event: &Event) -> bool
 
 /// How many take-backs there are.
 fn take_backs(events: &[Event]) -> usize
-    ensures { result ≡ take_backs events.now }
+    ensures { result ≡ length (filter is_back events.now) }
 {
     events.iter().filter(|event| is_back(*event)).count()
 }
@@ -143,7 +143,7 @@ fn show_text(alloc: Global, session: &Session, events: &[Event]) -> Result<Strin
     requires settled { IsSettled (knowledge_of session.now).lang (knowledge_of session.now).plan (standing_on (knowledge_of session.now).lang events.now) (open_in session.now) }
     requires wide { All IsWide events.now }
     requires few { length events.now < 1000000 }
-    ensures { let k = knowledge_of session.now in IfOk result (λ text. string_bytes text ≡ show_text k.lang k.plan (standing_on k.lang events.now) (take_backs events.now) k.network.list) }
+    ensures { let k = knowledge_of session.now in IfOk result (λ text. string_bytes text ≡ show_text k.lang k.plan (standing_on k.lang events.now) (length (filter is_back events.now)) k.network.list) }
 {
     let lang = session.lang();
     let plan = plan_word(session.plan());

@@ -1,4 +1,5 @@
-use Rattle.acq_cli.proofs.Prelude.{Bool, Candidate, Err, Event, GoesOn, Holds, IfOk, IsAnsweredBy, IsDisk, IsSaid, Language, List, Loses, Ok, OnErr, Option, Plan, ReadsTarget, Result, Saying, SaysNoNetwork, SaysUnplayed, Tries, Unsaid, [], ap, arith, called_as, false, goes_on_with, inl, inr, net_may_say, net_turn, ok_any, opened_raised, over_opened, over_refused, point_of, question_of, refl, said_as, silent_not, stale_said, standing_on, subst, sym, takes_then, terms_with, voc_of, ℕ, ◌∙◌, ◌≡◌, ◌≤◌}
+use Rattle.acq_cli.proofs.Prelude.{Bool, Candidate, Err, Event, GoesOn, Holds, IfOk, IsAnsweredBy, IsDisk, IsSaid, Language, List, Loses, Ok, OnErr, Option, Plan, ReadsTarget, Result, Saying, SaysNoNetwork, SaysUnplayed, Tries, Unsaid, [], ap, arith, called_as, false, goes_on_with, inl, inr, net_may_say, net_turn, ok_any, opened_raised, over_opened, over_refused, point_of, question_of, refl, said_as, silent_not, standing_on, subst, sym, takes_then, terms_with, voc_of, ℕ, ◌∙◌, ◌≡◌, ◌≤◌}
+use Rattle.acq_cli.proofs.Short.{stale_said}
 use Rattle.acq_io.proofs.CallLemmas.{called_on}
 use Rattle.session_store.specs.Keeping.{FailsWith}
 use Rattle.session_store.specs.Store.{lang_of, plan_of, events_of}

@@ -1,7 +1,7 @@
-use Rattle.acq_said.proofs.Prelude.{refl, ◌≡◌, ◌∙◌, ap, sym, subst, List, ℕ, Result, Err, Vec, Global, AllFault, IsCheck, IsCheckOf, checked_said}
+use Rattle.acq_said.proofs.Prelude.{refl, ◌≡◌, ◌∙◌, ap, sym, subst, List, ℕ, Result, Err, Vec, Global, AllFault, IsCheck, checked_said}
 use Rattle.acq_io.specs.declared.whole.AllFault.TheVariants as all
 use Rattle.cert_check.specs.declared.fault.CertFault.TheVariants as form
-use Rattle.acq_said.proofs.Spoken.{SaidSo, fine, long_one, said_so}
+use Rattle.acq_said.proofs.Spoken.{IsCheckOf, SaidSo, fine, long_one, said_so}
 use Rattle.acq_said.proofs.confirming.check_input.Goals as goal
 
 abbrev fault_of : AllFault → Result (Vec ℕ Global) AllFault
