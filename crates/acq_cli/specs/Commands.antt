@@ -1,5 +1,6 @@
 -- Exactly when the commands are done and refused.
-use Rattle.acq_cli.specs.Prelude.{Command, ConfirmsExactly, Ending, EndsAsOpened, EndsAsSaid, ForSome, IsMaking, List, Option, RefusesOpening, SFault, all_of, asked_said, back_said, made_said, solved_said, ℕ, ◌↔◌, ◌≡◌}
+use Rattle.std.specs.Prelude.{◌↔◌, ◌≡◌}
+use Rattle.acq_cli.specs.Prelude.{Command, ConfirmsExactly, Ending, EndsAsOpened, EndsAsSaid, ForSome, IsMaking, List, Option, RefusesOpening, SFault, all_of, asked_said, back_said, made_said, solved_said, ℕ}
 use Rattle.acq_words.specs.declared.request.Command.TheVariants as command
 use Rattle.acq_said.specs.declared.ask.Ask.TheVariants as ask
 use Rattle.acq_loop.specs.declared.ending.Ending.TheVariants as ending

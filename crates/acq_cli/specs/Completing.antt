@@ -1,5 +1,6 @@
 -- When a command comes to its own end, and to no other.
-use Rattle.acq_cli.specs.Prelude.{All, Answer, At, Bool, Candidate, Command, Ending, Event, ForSome, Holds, Idle, IsVocabulary, LacksNewline, Language, List, Ok, Opened, Option, Ran, Runs, Said, Scopes, Some, Terms, Turns, WalkEnd, [], false, first_line_of, flat_map, kept, length, line_turn, most_answers, net_turn, network_of, newline, plain_size, reply_of, standing_on, state_after, terms_with, trimmed, ℕ, ◌++◌, ◌+◌, ◌<◌, ◌∷◌, ◌≡◌, ◌≤◌, ◌⊎◌}
+use Rattle.std.specs.Prelude.{◌++◌, ◌+◌, ◌<◌, ◌∷◌, ◌≡◌, ◌≤◌, ◌⊎◌}
+use Rattle.acq_cli.specs.Prelude.{All, Answer, At, Bool, Candidate, Command, Ending, Event, ForSome, Holds, Idle, IsVocabulary, LacksNewline, Language, List, Ok, Opened, Option, Ran, Runs, Said, Scopes, Some, Terms, Turns, WalkEnd, [], false, first_line_of, flat_map, kept, length, line_turn, most_answers, net_turn, network_of, newline, plain_size, reply_of, standing_on, state_after, terms_with, trimmed, ℕ}
 use Rattle.acq_words.specs.declared.request.Command.TheVariants as command
 use Rattle.acq_loop.specs.declared.ending.Ending.TheVariants as ending
 use Rattle.acq_cli.specs.Commands.{EndsExactly}

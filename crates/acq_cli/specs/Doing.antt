@@ -1,5 +1,6 @@
 -- What the program has done, by what the words ask for.
-use Rattle.acq_cli.specs.Prelude.{Acquires, Ask, AsksTruly, Command, DiskOf, Ending, Err, HasWritten, GoesOn, HasTakenBack, IsCheck, IsSaid, List, MatchResult, News, Ok, Option, Put, Refuses, Result, SFault, Saying, SaysOfInput, SaysOver, SaysSo, Solves, Unsaid, UsageFault, asked_said, back_said, checked_said, ended_as, line_turn, saying, terms_with, usage_text, ℕ, ◌≡◌, ◌≢◌, ◌⊎◌}
+use Rattle.std.specs.Prelude.{◌≡◌, ◌≢◌, ◌⊎◌}
+use Rattle.acq_cli.specs.Prelude.{Acquires, Ask, AsksTruly, Command, DiskOf, Ending, Err, HasWritten, GoesOn, HasTakenBack, IsCheck, IsSaid, List, MatchResult, News, Ok, Option, Put, Refuses, Result, SFault, Saying, SaysOfInput, SaysOver, SaysSo, Solves, Unsaid, UsageFault, asked_said, back_said, checked_said, ended_as, line_turn, saying, terms_with, usage_text, ℕ}
 use Rattle.acq_words.specs.declared.request.Command.TheVariants as command
 use Rattle.cert_check.specs.declared.fault.CertFault.TheVariants as form
 use Rattle.acq_cli.specs.Demoing.{Demos}

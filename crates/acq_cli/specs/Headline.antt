@@ -1,5 +1,6 @@
 -- What `converged` and `collapsed` say, whichever command says them.
-use Rattle.acq_cli.specs.Prelude.{Candidate, Command, Converged, Event, ForSome, Gives, Holds, IsConverged, IsGenerated, IsVocabulary, Language, List, NoneAgrees, Ok, Opened, Option, Plan, Quacq, Result, UsageFault, ending_line, first_line_of, learned_in, length, network_text, standing_on, state_after, ℕ, ◌++◌, ◌+◌, ◌≡◌, ◌≢◌}
+use Rattle.std.specs.Prelude.{◌++◌, ◌+◌, ◌≡◌, ◌≢◌}
+use Rattle.acq_cli.specs.Prelude.{Candidate, Command, Converged, Event, ForSome, Gives, Holds, IsConverged, IsGenerated, IsVocabulary, Language, List, NoneAgrees, Ok, Opened, Option, Plan, Quacq, Result, UsageFault, ending_line, first_line_of, learned_in, length, network_text, standing_on, state_after, ℕ}
 use Rattle.acq_words.specs.declared.request.Command.TheVariants as command
 
 -- It goes on from the session of the journal, where the disk tells its bytes, and else from that of some bytes.

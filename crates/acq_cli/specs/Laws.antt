@@ -1,5 +1,6 @@
 -- Laws of what is enough, over the definitions alone.
-use Rattle.acq_cli.specs.Prelude.{All, Candidate, Event, IsAnswer, IsGenerated, IsLanguage, Language, List, Plan, Terms, Turns, [], candidates, length, most_answers, plain_size, terms_with, ℕ, ◌+◌, ◌≤◌, ◌⊎◌}
+use Rattle.std.specs.Prelude.{◌+◌, ◌≤◌, ◌⊎◌}
+use Rattle.acq_cli.specs.Prelude.{All, Candidate, Event, IsAnswer, IsGenerated, IsLanguage, Language, List, Plan, Terms, Turns, [], candidates, length, most_answers, plain_size, terms_with, ℕ}
 use Rattle.acq_cli.specs.Completing.{HasRoom, IsAffordable}
 
 -- A budget that is enough for each candidate where nothing is learned is enough for every session.

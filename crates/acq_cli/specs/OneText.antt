@@ -1,5 +1,6 @@
 -- Laws of runs and their texts, over the definitions alone.
-use Rattle.acq_cli.specs.Prelude.{Event, IsWholeText, Language, List, Ran, Runs, Terms, Turns, ℕ, ◌≡◌}
+use Rattle.std.specs.Prelude.{◌≡◌}
+use Rattle.acq_cli.specs.Prelude.{Event, IsWholeText, Language, List, Ran, Runs, Terms, Turns, ℕ}
 
 -- from the same events and bytes there is one run
 abbrev pub RunIsOne : Type 0

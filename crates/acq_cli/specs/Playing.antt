@@ -1,5 +1,6 @@
 -- What `play` has done.
-use Rattle.acq_cli.specs.Prelude.{AllFault, Answer, Candidate, DiskOf, Ending, Err, Gives, GoesOn, HasSameSolutions, Holds, IfOk, IsNetwork, IsSaid, IsTrue, Language, List, NetFault, Ok, Opened, Option, Put, Refuses, RefusesOpening, Result, SFault, Saying, SaysOfInput, SaysOver, SaysSo, Terms, Unsaid, [], agrees, all_of, codes, decimal, false, learned_after, length, net_fault_text, net_may_say, net_turn, network_of, saying, standing_on, terms_with, ℕ, ◌++◌, ◌+◌, ◌↔◌, ◌∷◌, ◌≡◌, ◌≢◌, ◌≤◌, ◌⊎◌}
+use Rattle.std.specs.Prelude.{◌++◌, ◌+◌, ◌↔◌, ◌∷◌, ◌≡◌, ◌≢◌, ◌≤◌, ◌⊎◌}
+use Rattle.acq_cli.specs.Prelude.{AllFault, Answer, Candidate, DiskOf, Ending, Err, Gives, GoesOn, HasSameSolutions, Holds, IfOk, IsNetwork, IsSaid, IsTrue, Language, List, NetFault, Ok, Opened, Option, Put, Refuses, RefusesOpening, Result, SFault, Saying, SaysOfInput, SaysOver, SaysSo, Terms, Unsaid, [], agrees, all_of, codes, decimal, false, learned_after, length, net_fault_text, net_may_say, net_turn, network_of, saying, standing_on, terms_with, ℕ}
 use Rattle.network.specs.declared.fault.NetFault.TheVariants as net
 use Rattle.acq_loop.specs.declared.ending.Ending.TheVariants as ending
 

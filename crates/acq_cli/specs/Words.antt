@@ -1,5 +1,6 @@
 -- What the words ask of the program.
-use Rattle.acq_cli.specs.Prelude.{Bool, Command, Contents, Err, List, Memory, Ok, Option, Result, TakesSome, Usage, UsageFault, WordsFault, answer_to, false, true, ℕ, ◌≡◌}
+use Rattle.std.specs.Prelude.{◌≡◌}
+use Rattle.acq_cli.specs.Prelude.{Bool, Command, Contents, Err, List, Memory, Ok, Option, Result, TakesSome, Usage, UsageFault, WordsFault, answer_to, false, true, ℕ}
 use Rattle.acq_words.specs.declared.request.Command.TheVariants as command
 
 abbrev pub command_in : Result Contents UsageFault → Result Command UsageFault

@@ -1,5 +1,6 @@
 -- What a teacher has said: the events that were added, and how it ended.
-use Rattle.acq_loop.specs.Prelude.{◌≡◌, ◌⊎◌, List, ◌++◌, All, Result, Ok, Put, Assignment, Answer, Event, Plan, Language, IsQuestion, event_for, HavePlaces, told_of_answer, Told}
+use Rattle.std.specs.Prelude.{◌≡◌, ◌⊎◌, ◌++◌}
+use Rattle.acq_loop.specs.Prelude.{List, All, Result, Ok, Put, Assignment, Answer, Event, Plan, Language, IsQuestion, event_for, HavePlaces, told_of_answer, Told}
 use Rattle.assign.specs.declared.events.Event.TheVariants as event
 use Rattle.acq_loop.specs.declared.ending.Ending.{Ending}
 use Rattle.target_oracle.specs.declared.teacher.Told.TheVariants as told

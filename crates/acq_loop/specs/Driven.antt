@@ -1,5 +1,6 @@
 -- What the loop has done, by how it ended.
-use Rattle.acq_loop.specs.Prelude.{◌≡◌, ◌≢◌, ◌⊎◌, ◌↔◌, ◌<◌, ◌≤◌, ◌+◌, ◌*◌, ℕ, Bool, IsTrue, List, [], ◌++◌, length, filter, All, ◌&&◌, Option, Some, None, IfSome, ForSome, Adds, AddsFront, Assignment, Answer, standing, Event, Scopes, Candidate, Language, variable_count, candidates, agrees, has_scope, numbers, log_up, bound, greatest_arity, HasSameSolutions, IsCandidate, IsImplied, IsQuestion, IsNetwork, IsCovered, IsConverged, NoneAgrees, kept, standing_on, plain_size, Spent, outcome_of_candidate, is_among, is_spent, Remembered, MarksHold, is_open, IsUndecided, State, Idle, Over, At, state_after, WalkEnd, network_in, answer_event, Turns, AsksFirst}
+use Rattle.std.specs.Prelude.{◌≡◌, ◌≢◌, ◌⊎◌, ◌↔◌, ◌<◌, ◌≤◌, ◌+◌, ◌*◌, ◌++◌, ◌&&◌}
+use Rattle.acq_loop.specs.Prelude.{ℕ, Bool, IsTrue, List, [], length, filter, All, Option, Some, None, IfSome, ForSome, Adds, AddsFront, Assignment, Answer, standing, Event, Scopes, Candidate, Language, variable_count, candidates, agrees, has_scope, numbers, log_up, bound, greatest_arity, HasSameSolutions, IsCandidate, IsImplied, IsQuestion, IsNetwork, IsCovered, IsConverged, NoneAgrees, kept, standing_on, plain_size, Spent, outcome_of_candidate, is_among, is_spent, Remembered, MarksHold, is_open, IsUndecided, State, Idle, Over, At, state_after, WalkEnd, network_in, answer_event, Turns, AsksFirst}
 use Rattle.assign.specs.declared.events.Event.TheVariants as event
 use Rattle.acq_loop.specs.Closings.{closing_of, number_of}
 use Rattle.acq_loop.specs.Run.{Closing, Converged, Collapsed, Undecided, Next, Puts, Ends, next_after, next_on, number_on, Ran, Runs, after_text, event_heard}

@@ -1,5 +1,6 @@
 -- What comes next in a session, and what the loop does with it.
-use Rattle.acq_loop.specs.Prelude.{◌≡◌, ◌⊎◌, List, [], ◌∷◌, ◌++◌, Option, Some, None, Assignment, Answer, Event, Language, IsLawfulAfter, SFault}
+use Rattle.std.specs.Prelude.{◌≡◌, ◌⊎◌, ◌∷◌, ◌++◌}
+use Rattle.acq_loop.specs.Prelude.{List, [], Option, Some, None, Assignment, Answer, Event, Language, IsLawfulAfter, SFault}
 use Rattle.session_store.specs.declared.fault.SFault.TheVariants as store
 use Rattle.acq_loop.specs.Run.{Puts, next_after}
 use Rattle.acq_loop.specs.Driven.{IsDone, IsCollapsed, IsLeftOpen}

@@ -1,5 +1,6 @@
 -- What is heard of a teacher's word to a question: what is to be kept of it, or how the loop ends.
-use Rattle.acq_loop.specs.Prelude.{◌≡◌, ◌≢◌, ◌<◌, ◌+◌, ℕ, List, [], true, false, Option, Some, None, IsSome, Result, Ok, Err, ForSome, Assignment, standing, Event, Language, Remembered, HasNoMarks, answer_event, SFault, AsksFirst, Tells, Turns, Told}
+use Rattle.std.specs.Prelude.{◌≡◌, ◌≢◌, ◌<◌, ◌+◌}
+use Rattle.acq_loop.specs.Prelude.{ℕ, List, [], true, false, Option, Some, None, IsSome, Result, Ok, Err, ForSome, Assignment, standing, Event, Language, Remembered, HasNoMarks, answer_event, SFault, AsksFirst, Tells, Turns, Told}
 use Rattle.assign.specs.declared.events.Event.TheVariants as event
 use Rattle.target_oracle.specs.declared.teacher.Told.TheVariants as told
 use Rattle.acq_loop.specs.Due.{ended_by}

@@ -1,5 +1,6 @@
 -- Laws of how the loop ends, over the definitions alone.
-use Rattle.acq_loop.specs.Prelude.{◌≡◌, IsTrue, Language, standing_on, Turns}
+use Rattle.std.specs.Prelude.{◌≡◌}
+use Rattle.acq_loop.specs.Prelude.{IsTrue, Language, standing_on, Turns}
 use Rattle.acq_loop.specs.Driven.{Point, Drives}
 use Rattle.acq_loop.specs.Loop.{is_unasked}
 use Rattle.acq_loop.specs.declared.terms.Terms.{Terms}

@@ -1,5 +1,6 @@
 -- What a turn and the loop begin with, and how they go on and end.
-use Rattle.acq_loop.specs.Prelude.{◌≡◌, ◌≤◌, ℕ, Bool, true, false, IsTrue, List, Option, HasCalled, Rose, TakesSome, IsBudget, Assignment, Answer, Event, Language, standing_on, Place, Remembered, IsMadeFor, HasNoMarks, AreMadeFor, IsSettled, Turns}
+use Rattle.std.specs.Prelude.{◌≡◌, ◌≤◌}
+use Rattle.acq_loop.specs.Prelude.{ℕ, Bool, true, false, IsTrue, List, Option, HasCalled, Rose, TakesSome, IsBudget, Assignment, Answer, Event, Language, standing_on, Place, Remembered, IsMadeFor, HasNoMarks, AreMadeFor, IsSettled, Turns}
 use Rattle.acq_loop.specs.Driven.{Point, StepsTo, Drives, Remembers, TellsOpen}
 use Rattle.acq_loop.specs.Due.{IsOneMore}
 use Rattle.acq_loop.specs.Points.{point_of}

@@ -2,7 +2,7 @@
 pub use Rattle.std.specs.Fmt.{decimal}
 pub use Rattle.std.specs.List.{flat_map}
 pub use Rattle.std.specs.Option.{ForSome, option_map, option_map_or}
-pub use Rattle.std.specs.Prelude.{All, Bool, Err, IfSome, IsFalse, IsSome, IsTrue, List, None, Ok, Option, Result, Some, [], codes, false, filter, length, suc, true, zero, ℕ, ◌&&◌, ◌*◌, ◌++◌, ◌+◌, ◌<◌, ◌==◌, ◌↔◌, ◌∷◌, ◌≡◌, ◌≢◌, ◌≤◌, ◌⊎◌}
+pub use Rattle.std.specs.Prelude.{All, Bool, Err, IfSome, IsFalse, IsSome, IsTrue, List, None, Ok, Option, Result, Some, [], codes, false, filter, length, suc, true, zero, ℕ}
 pub use Rattle.acq_io.specs.Streams.{Adds, AddsFront, HasCalled, Rose, TakesSome}
 pub use Rattle.acq_io.specs.declared.streams.Put.{Put}
 pub use Rattle.acq_words.specs.Request.{IsBudget}

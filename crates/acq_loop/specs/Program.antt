@@ -1,5 +1,6 @@
 -- How the program ends.
-use Rattle.acq_loop.specs.Prelude.{◌≡◌, ℕ, Result, Ok, Err, Rose, DiskRose, Put}
+use Rattle.std.specs.Prelude.{◌≡◌}
+use Rattle.acq_loop.specs.Prelude.{ℕ, Result, Ok, Err, Rose, DiskRose, Put}
 use Rattle.acq_loop.specs.declared.ending.Ending.{Ending}
 use Rattle.acq_loop.specs.declared.ending.Ending.TheVariants as ending
 use Rattle.acq_io.specs.declared.streams.Put.TheVariants as put

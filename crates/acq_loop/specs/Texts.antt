@@ -1,5 +1,6 @@
 -- What the program writes beside the lines of its turns.
-use Rattle.acq_loop.specs.Prelude.{ℕ, List, [], ◌∷◌, ◌++◌, length, filter, codes, flat_map, decimal, Answer, Candidate, Language, kept, candidate_text, network_text, outcome_of_candidate, is_spent, Reading, Stray, At, state_after, network_in, fault_text, VocFault}
+use Rattle.std.specs.Prelude.{◌∷◌, ◌++◌}
+use Rattle.acq_loop.specs.Prelude.{ℕ, List, [], length, filter, codes, flat_map, decimal, Answer, Candidate, Language, kept, candidate_text, network_text, outcome_of_candidate, is_spent, Reading, Stray, At, state_after, network_in, fault_text, VocFault}
 use Rattle.acq_loop.specs.Run.{Closing, Converged, Collapsed, Undecided, Suspended, LineTooLong, Unreadable, JournalFull}
 use Rattle.acq_loop.specs.declared.terms.Terms.{Terms}
 

@@ -1,5 +1,6 @@
 -- One turn of the loop, and turns one after another.
-use Rattle.acq_loop.specs.Prelude.{◌≡◌, List, [], ◌∷◌, ℕ, Bool, IsFalse, Option, ForSome, AddsFront, Assignment, Event, DiskOf, Language, AreMadeFor, Place, LosesNone, KeepOf, TeachesOn, Turns, Told}
+use Rattle.std.specs.Prelude.{◌≡◌, ◌∷◌}
+use Rattle.acq_loop.specs.Prelude.{List, [], ℕ, Bool, IsFalse, Option, ForSome, AddsFront, Assignment, Event, DiskOf, Language, AreMadeFor, Place, LosesNone, KeepOf, TeachesOn, Turns, Told}
 use Rattle.acq_loop.specs.Driven.{next_lines}
 use Rattle.acq_loop.specs.Run.{next_on}
 use Rattle.acq_loop.specs.declared.terms.Terms.{Terms}

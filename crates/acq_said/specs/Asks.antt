@@ -1,5 +1,6 @@
 -- What is asked of a session.
-use Rattle.acq_said.specs.Prelude.{◌≡◌, ◌≢◌, ◌⊎◌, ℕ, ◌++◌, ◌∷◌, [], length, filter, Some, codes, decimal, IsBudget, made, standing_on, IsEncoded, cnf_of, IsSpentAt, spent_text, Opened, IsDone, terms_with, Converged, Ends, next_after}
+use Rattle.std.specs.Prelude.{◌≡◌, ◌≢◌, ◌⊎◌, ◌++◌, ◌∷◌}
+use Rattle.acq_said.specs.Prelude.{ℕ, [], length, filter, Some, codes, decimal, IsBudget, made, standing_on, IsEncoded, cnf_of, IsSpentAt, spent_text, Opened, IsDone, terms_with, Converged, Ends, next_after}
 use Rattle.acq_said.specs.Certifying.{MakesGood, certificate_said, if_at_end}
 use Rattle.acq_said.specs.Printing.{clauses_said}
 use Rattle.acq_said.specs.Reducing.{IsReduced, network_of, reduced_said}

@@ -1,5 +1,6 @@
 -- How a run breaks off.
-use Rattle.acq_said.specs.Prelude.{◌⊎◌, ℕ, List, Option, ForSome, AddsFront, Event, Language, standing_on, Turns, IsCut, IsRun, point_of, Closing, closing_text, Terms}
+use Rattle.std.specs.Prelude.{◌⊎◌}
+use Rattle.acq_said.specs.Prelude.{ℕ, List, Option, ForSome, AddsFront, Event, Language, standing_on, Turns, IsCut, IsRun, point_of, Closing, closing_text, Terms}
 
 -- before it was closed, and then none of its last lines was written; or it was closed, and of these a front was written
 abbrev pub BreaksRun : Turns → Language → Terms → (start events : List Event) → (left written left' written' : Option (List ℕ)) → Type 0

@@ -1,5 +1,6 @@
 -- What `certify` says of a session.
-use Rattle.acq_said.specs.Prelude.{◌≡◌, ◌≢◌, ◌⊎◌, ◌++◌, ◌∷◌, [], ℕ, Bool, true, false, List, Option, Some, Result, Ok, Err, Answer, Certificate, certificate_of, made, confirmed_text, make_fault_line, IsConfirmed, CertFault, MakeFault, Language, standing_on, Opened, IsDone, Next, Converged, Ends, next_after, Terms, MatchResult, IsRead, IsUnreadable}
+use Rattle.std.specs.Prelude.{◌≡◌, ◌≢◌, ◌⊎◌, ◌++◌, ◌∷◌}
+use Rattle.acq_said.specs.Prelude.{[], ℕ, Bool, true, false, List, Option, Some, Result, Ok, Err, Answer, Certificate, certificate_of, made, confirmed_text, make_fault_line, IsConfirmed, CertFault, MakeFault, Language, standing_on, Opened, IsDone, Next, Converged, Ends, next_after, Terms, MatchResult, IsRead, IsUnreadable}
 use Rattle.acq_said.specs.Confirming.{checked_said}
 use Rattle.acq_said.specs.Reducing.{network_of}
 use Rattle.acq_said.specs.Saying.{Saying, saying}

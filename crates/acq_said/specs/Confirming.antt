@@ -1,5 +1,6 @@
 -- What `check` says of its input.
-use Rattle.acq_said.specs.Prelude.{◌≡◌, ◌↔◌, ℕ, List, Result, Ok, Err, IfOk, Certificate, verdict, IsGood, IsRead, IsUnreadable, cert_fault_line, confirmed_text, flaw_line, CertFault, Verdict, Yes, No, IsConverged, Ending, MatchResult}
+use Rattle.std.specs.Prelude.{◌≡◌, ◌↔◌}
+use Rattle.acq_said.specs.Prelude.{ℕ, List, Result, Ok, Err, IfOk, Certificate, verdict, IsGood, IsRead, IsUnreadable, cert_fault_line, confirmed_text, flaw_line, CertFault, Verdict, Yes, No, IsConverged, Ending, MatchResult}
 use Rattle.acq_said.specs.Over.{EndsAsSaid}
 use Rattle.acq_said.specs.Saying.{Saying, saying}
 use Rattle.acq_loop.specs.declared.ending.Ending.TheVariants as ending

@@ -1,5 +1,6 @@
 -- What was said of a session at its end, and what was done about a language.
-use Rattle.acq_said.specs.Prelude.{◌≡◌, ℕ, List, Option, Some, None, Result, Ok, Err, IsErr, IfOk, OnErr, Adds, AddsFront, Put, Answer, Event, Language, standing_on, Turns, Closing, closing_of, ending_of, Drives, Assignment, Multi, State, At, Ended, IsWalked, state_after, walk_end, network_in, point_of, closing_text, Terms, Drove, Ending, MatchOption}
+use Rattle.std.specs.Prelude.{◌≡◌}
+use Rattle.acq_said.specs.Prelude.{ℕ, List, Option, Some, None, Result, Ok, Err, IsErr, IfOk, OnErr, Adds, AddsFront, Put, Answer, Event, Language, standing_on, Turns, Closing, closing_of, ending_of, Drives, Assignment, Multi, State, At, Ended, IsWalked, state_after, walk_end, network_in, point_of, closing_text, Terms, Drove, Ending, MatchOption}
 use Rattle.acq_said.specs.Breaks.{BreaksRun}
 use Rattle.acq_said.specs.Said.{IsSaid, silent_end}
 use Rattle.acq_said.specs.Saying.{Saying, saying}

@@ -1,5 +1,6 @@
 -- What a command says of its input, which it reads to the end.
-use Rattle.acq_said.specs.Prelude.{◌≡◌, ℕ, List, Option, Result, Ok, Err, Gives, all_of, AllFault}
+use Rattle.std.specs.Prelude.{◌≡◌}
+use Rattle.acq_said.specs.Prelude.{ℕ, List, Option, Result, Ok, Err, Gives, all_of, AllFault}
 use Rattle.acq_io.specs.declared.whole.AllFault.TheVariants as all
 use Rattle.acq_said.specs.Saying.{Saying}
 use Rattle.acq_said.specs.declared.said.Unsaid.{Unsaid}

@@ -1,5 +1,6 @@
 -- What a command over a journal says of one that isn't made or opened.
-use Rattle.acq_said.specs.Prelude.{◌≡◌, ℕ, List, [], ◌∷◌, ◌++◌, Option, Some, None, Result, Err, codes, decimal, SFault, fault_text, MatchOption}
+use Rattle.std.specs.Prelude.{◌≡◌, ◌∷◌, ◌++◌}
+use Rattle.acq_said.specs.Prelude.{ℕ, List, [], Option, Some, None, Result, Err, codes, decimal, SFault, fault_text, MatchOption}
 use Rattle.acq_said.specs.Said.{IsSaid}
 use Rattle.acq_said.specs.Saying.{Saying, saying}
 use Rattle.acq_said.specs.declared.said.Unsaid.{Unsaid}

@@ -1,5 +1,6 @@
 -- What `new` says and does.
-use Rattle.acq_said.specs.Prelude.{◌≡◌, ◌⊎◌, ◌≤◌, ◌+◌, ℕ, List, [], ◌∷◌, ◌++◌, length, Option, Some, Result, Ok, Err, IsErr, IsSome, codes, decimal, ForSome, DiskOf, all_of, AllFault, VocFault, HasNoSession, IsCreating, IsOnlyRead, LeavesOnly, Plan, Language, variable_count, candidates, OpensWith, LeavesNow, NotMade, SFault, IsVocabulary, refusal_of_vocabulary, refusal_text, MatchOption, is_of_bytes, true, MatchResult}
+use Rattle.std.specs.Prelude.{◌≡◌, ◌⊎◌, ◌≤◌, ◌+◌, ◌∷◌, ◌++◌}
+use Rattle.acq_said.specs.Prelude.{ℕ, List, [], length, Option, Some, Result, Ok, Err, IsErr, IsSome, codes, decimal, ForSome, DiskOf, all_of, AllFault, VocFault, HasNoSession, IsCreating, IsOnlyRead, LeavesOnly, Plan, Language, variable_count, candidates, OpensWith, LeavesNow, NotMade, SFault, IsVocabulary, refusal_of_vocabulary, refusal_text, MatchOption, is_of_bytes, true, MatchResult}
 use Rattle.acq_said.specs.Inputs.{SaysOfRead}
 use Rattle.acq_said.specs.Journals.{refused_said, untold}
 use Rattle.acq_said.specs.Said.{IsSaid}

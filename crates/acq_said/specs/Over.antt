@@ -1,5 +1,6 @@
 -- What a command that only says something of a journal's session has done.
-use Rattle.acq_said.specs.Prelude.{◌≡◌, ◌⊎◌, ℕ, List, Result, Ok, Err, IfOk, ForSome, AreReadingCalls, IsSynced, DiskOf, LeavesOnly, LeavesNow, OpensWith, Opened, Holds, IsSession, Opens, NotOpened, SFault, Ending, MatchResult}
+use Rattle.std.specs.Prelude.{◌≡◌, ◌⊎◌}
+use Rattle.acq_said.specs.Prelude.{ℕ, List, Result, Ok, Err, IfOk, ForSome, AreReadingCalls, IsSynced, DiskOf, LeavesOnly, LeavesNow, OpensWith, Opened, Holds, IsSession, Opens, NotOpened, SFault, Ending, MatchResult}
 use Rattle.answer_journal.specs.declared.fault.JFault.TheVariants as journal
 use Rattle.session_store.specs.declared.fault.SFault.TheVariants as store
 use Rattle.acq_said.specs.Journals.{refused_said}

@@ -1,7 +1,7 @@
 -- The names from outside that these definitions use, passed on from one place. Declares nothing.
 pub use Rattle.std.specs.Fmt.{decimal}
 pub use Rattle.std.specs.Option.{ForSome, option_map_or, option_or}
-pub use Rattle.std.specs.Prelude.{Bool, Err, IfErr, IfOk, IsErr, IsSome, IsTrue, List, MatchOption, MatchResult, None, Ok, OnErr, Option, Result, Some, [], codes, false, filter, if◌then◌else◌, length, suc, true, zero, ℕ, ◌++◌, ◌+◌, ◌<◌, ◌↔◌, ◌∷◌, ◌≡◌, ◌≢◌, ◌≤◌, ◌⊎◌}
+pub use Rattle.std.specs.Prelude.{Bool, Err, IfErr, IfOk, IsErr, IsSome, IsTrue, List, MatchOption, MatchResult, None, Ok, OnErr, Option, Result, Some, [], codes, false, filter, length, suc, true, zero, ℕ}
 pub use Rattle.acq_io.specs.Streams.{Adds, AddsFront}
 pub use Rattle.acq_io.specs.Whole.{Gathered, Gives, TakesOfLine, all_of, first_line_of}
 pub use Rattle.acq_io.specs.declared.streams.Put.{Put}

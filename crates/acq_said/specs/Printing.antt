@@ -1,5 +1,6 @@
 -- What `cnf` says of a session.
-use Rattle.acq_said.specs.Prelude.{ℕ, List, [], ◌∷◌, ◌++◌, Result, Ok, Err, codes, CnfFault}
+use Rattle.std.specs.Prelude.{◌∷◌, ◌++◌}
+use Rattle.acq_said.specs.Prelude.{ℕ, List, [], Result, Ok, Err, codes, CnfFault}
 use Rattle.acq_said.specs.Saying.{Saying, saying}
 use Rattle.acq_loop.specs.declared.ending.Ending.TheVariants as ending
 

@@ -1,5 +1,6 @@
 -- What `reduce` says of a session.
-use Rattle.acq_said.specs.Prelude.{◌≡◌, ◌⊎◌, ℕ, zero, suc, IsTrue, List, [], length, Option, Some, None, Candidate, Language, HasSameSolutions, IsConverged, IsNetwork, agrees, standing_on, IsReduction, Sifts, IsSearched, left_at, outcome_at, reduced_text, spent_text, ReduceFault, state_after, Opened, learned_in, option_or, is_spent, if◌then◌else◌, option_map_or}
+use Rattle.std.specs.Prelude.{◌≡◌, ◌⊎◌, if◌then◌else◌}
+use Rattle.acq_said.specs.Prelude.{ℕ, zero, suc, IsTrue, List, [], length, Option, Some, None, Candidate, Language, HasSameSolutions, IsConverged, IsNetwork, agrees, standing_on, IsReduction, Sifts, IsSearched, left_at, outcome_at, reduced_text, spent_text, ReduceFault, state_after, Opened, learned_in, option_or, is_spent, option_map_or}
 use Rattle.net_reduce.specs.declared.fault.ReduceFault.TheVariants as unreduced
 use Rattle.acq_said.specs.Saying.{Saying, saying}
 use Rattle.acq_loop.specs.declared.ending.Ending.TheVariants as ending

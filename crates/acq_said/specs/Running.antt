@@ -1,5 +1,6 @@
 -- What a run over a journal has done, and `run`.
-use Rattle.acq_said.specs.Prelude.{◌≡◌, ◌⊎◌, ◌+◌, ℕ, Bool, List, [], ◌∷◌, ◌++◌, Option, Result, Ok, IfOk, OnErr, ForSome, AreReadingCalls, DiskOf, Put, Assignment, Event, LeavesOnly, Language, calls_of, IsRaisedOn, OpensWith, OpensWithin, LeavesNow, Opened, Holds, HavePlaces, Turns, Told, IsAdded, Loses, point_of, terms_with, Ending}
+use Rattle.std.specs.Prelude.{◌≡◌, ◌⊎◌, ◌+◌, ◌∷◌, ◌++◌}
+use Rattle.acq_said.specs.Prelude.{ℕ, Bool, List, [], Option, Result, Ok, IfOk, OnErr, ForSome, AreReadingCalls, DiskOf, Put, Assignment, Event, LeavesOnly, Language, calls_of, IsRaisedOn, OpensWith, OpensWithin, LeavesNow, Opened, Holds, HavePlaces, Turns, Told, IsAdded, Loses, point_of, terms_with, Ending}
 use Rattle.acq_said.specs.Breaks.{BreaksRun}
 use Rattle.acq_said.specs.Endings.{Tries}
 use Rattle.acq_loop.specs.declared.ending.Ending.TheVariants as ending

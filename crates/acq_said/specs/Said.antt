@@ -1,5 +1,6 @@
 -- What was said, or why nothing was, and what was written of it.
-use Rattle.acq_said.specs.Prelude.{◌≡◌, ℕ, List, Option, Result, Ok, Err, Adds, AddsFront, Put, Ending, MatchResult}
+use Rattle.std.specs.Prelude.{◌≡◌}
+use Rattle.acq_said.specs.Prelude.{ℕ, List, Option, Result, Ok, Err, Adds, AddsFront, Put, Ending, MatchResult}
 use Rattle.acq_io.specs.declared.streams.Put.TheVariants as put
 use Rattle.acq_said.specs.Saying.{Saying}
 use Rattle.acq_loop.specs.declared.ending.Ending.TheVariants as ending

@@ -1,5 +1,6 @@
 -- What is shown of a session.
-use Rattle.acq_said.specs.Prelude.{ℕ, zero, suc, Bool, true, false, List, [], ◌∷◌, ◌++◌, length, codes, if◌then◌else◌, decimal, Answer, Event, Plan, Scopes, Quacq, Multi, Candidate, Language, question_text, network_text, Idle, Over, Reading, At, Stray, state_after}
+use Rattle.std.specs.Prelude.{◌∷◌, ◌++◌, if◌then◌else◌}
+use Rattle.acq_said.specs.Prelude.{ℕ, zero, suc, Bool, true, false, List, [], length, codes, decimal, Answer, Event, Plan, Scopes, Quacq, Multi, Candidate, Language, question_text, network_text, Idle, Over, Reading, At, Stray, state_after}
 use Rattle.assign.specs.declared.events.Event.TheVariants as event
 
 abbrev pub plan_text : Plan → List ℕ

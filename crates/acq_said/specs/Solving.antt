@@ -1,5 +1,6 @@
 -- What `model` says of a session and its input.
-use Rattle.acq_said.specs.Prelude.{◌≡◌, ℕ, List, Option, Result, Ok, Err, AllFault, Assignment, Language, model_of, model_fault_line, solution_line, ModelFault, Opened, SFault}
+use Rattle.std.specs.Prelude.{◌≡◌}
+use Rattle.acq_said.specs.Prelude.{ℕ, List, Option, Result, Ok, Err, AllFault, Assignment, Language, model_of, model_fault_line, solution_line, ModelFault, Opened, SFault}
 use Rattle.net_cnf.specs.declared.model_fault.ModelFault.TheVariants as model
 use Rattle.acq_said.specs.Inputs.{SaysOfInput}
 use Rattle.acq_said.specs.Journals.{Refuses}

@@ -1,5 +1,6 @@
 -- What `back` says of a session, and does to it.
-use Rattle.acq_said.specs.Prelude.{◌≡◌, ◌≢◌, ◌⊎◌, ◌<◌, ◌+◌, ℕ, zero, suc, Bool, true, false, List, [], ◌∷◌, ◌++◌, length, Result, Err, codes, decimal, ForSome, AreReadingCalls, DiskOf, Event, LeavesOnly, standing_on, calls_for, IsRaisedOn, LeavesNow, OpensWith, OpensWithin, OpensWithOrWithout, Opened, Holds, HavePlaces, JournalFull, is_full, ending_line}
+use Rattle.std.specs.Prelude.{◌≡◌, ◌≢◌, ◌⊎◌, ◌<◌, ◌+◌, ◌∷◌, ◌++◌}
+use Rattle.acq_said.specs.Prelude.{ℕ, zero, suc, Bool, true, false, List, [], length, Result, Err, codes, decimal, ForSome, AreReadingCalls, DiskOf, Event, LeavesOnly, standing_on, calls_for, IsRaisedOn, LeavesNow, OpensWith, OpensWithin, OpensWithOrWithout, Opened, Holds, HavePlaces, JournalFull, is_full, ending_line}
 use Rattle.assign.specs.declared.events.Event.TheVariants as event
 use Rattle.acq_said.specs.Said.{IsSaid}
 use Rattle.acq_said.specs.Saying.{Saying, saying}

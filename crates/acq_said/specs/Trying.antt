@@ -1,5 +1,6 @@
 -- What `try` has done, by how it ended.
-use Rattle.acq_said.specs.Prelude.{◌≡◌, ◌⊎◌, ◌++◌, ℕ, List, [], Option, Some, Result, Ok, Err, ForSome, Adds, AddsFront, Gives, first_line_of, Gathered, TakesOfLine, AllFault, Event, Language, standing_on, line_turn, IsVocabulary, refusal_of_vocabulary, VocFault, Ran, Runs, closing_text, refusal_text, Terms, Ending, TooLong}
+use Rattle.std.specs.Prelude.{◌≡◌, ◌⊎◌, ◌++◌}
+use Rattle.acq_said.specs.Prelude.{ℕ, List, [], Option, Some, Result, Ok, Err, ForSome, Adds, AddsFront, Gives, first_line_of, Gathered, TakesOfLine, AllFault, Event, Language, standing_on, line_turn, IsVocabulary, refusal_of_vocabulary, VocFault, Ran, Runs, closing_text, refusal_text, Terms, Ending, TooLong}
 use Rattle.acq_said.specs.Breaks.{BreaksRun}
 use Rattle.acq_said.specs.Endings.{Tries}
 use Rattle.acq_loop.specs.declared.ending.Ending.TheVariants as ending
