@@ -3,7 +3,7 @@ pub use Rattle.std.proofs.Common.{Bool, Err, Global, IsTrue, List, None, Ok, Opt
 pub use Rattle.std.proofs.lemmas.List.{append-nil, length-map}
 pub use Rattle.std.proofs.lemmas.List.Elements.{All-cons, All-filter, All-head, All-nil, All-tail}
 pub use Rattle.std.specs.Option.{ok_or, option_map}
-pub use Rattle.std.specs.Prelude.{IfSome, filter, nat_le}
+pub use Rattle.std.specs.Prelude.{IfSome, filter, nat_le, ◌↔◌, ◌≢◌}
 pub use Rattle.std.specs.String.{string_bytes}
 pub use Rattle.acq_io.proofs.CallLemmas.{called_as, called_not}
 pub use Rattle.acq_io.proofs.TakenLemmas.{adds_then, takes_none}
@@ -68,7 +68,7 @@ pub use Rattle.voc_read.proofs.OneReading.{one_language}
 pub use Rattle.voc_read.proofs.Refused.{not_refused}
 pub use Rattle.voc_read.specs.Vocabulary.{refusal_of_vocabulary}
 pub use Rattle.voc_read.specs.declared.fault.VocFault.{VocFault}
-pub use Rattle.acq_cli.specs.Prelude.{Acquires, Adds, AddsFront, All, AllFault, Answer, AsksTruly, Candidate, Closing, Collapsed, Command, ConfirmsExactly, Converged, DiskOf, Drove, Ending, EndsAsOpened, Event, ForSome, Gives, GoesOn, HasFound, HasSameSolutions, Holds, Idle, IfOk, IsAnswer, IsConverged, IsGenerated, IsLanguage, IsNetwork, IsSaid, IsVocabulary, Language, LineTooLong, NetFault, News, NoneAgrees, OnErr, Opened, Plan, Put, Quacq, Ran, Refuses, Runs, SFault, Said, Saying, SaysOfInput, SaysOver, SaysSo, Scopes, Solves, Suspended, Terms, Turns, Undecided, Unreadable, Unsaid, UsageFault, agrees, asked_said, back_said, candidates, codes, ended_as, ending_line, first_line_of, flat_map, kept, learned_after, learned_in, line_turn, most_answers, net_may_say, net_turn, saying, solved_said, standing_on, state_after, target_of, terms_with, usage_text, variable_count, ◌↔◌, ◌≢◌}
+pub use Rattle.acq_cli.specs.Prelude.{Acquires, Adds, AddsFront, All, AllFault, Answer, AsksTruly, Candidate, Closing, Collapsed, Command, ConfirmsExactly, Converged, DiskOf, Drove, Ending, EndsAsOpened, Event, ForSome, Gives, GoesOn, HasFound, HasSameSolutions, Holds, Idle, IfOk, IsAnswer, IsConverged, IsGenerated, IsLanguage, IsNetwork, IsSaid, IsVocabulary, Language, LineTooLong, NetFault, News, NoneAgrees, OnErr, Opened, Plan, Put, Quacq, Ran, Refuses, Runs, SFault, Said, Saying, SaysOfInput, SaysOver, SaysSo, Scopes, Solves, Suspended, Terms, Turns, Undecided, Unreadable, Unsaid, UsageFault, agrees, asked_said, back_said, candidates, codes, ended_as, ending_line, first_line_of, flat_map, kept, learned_after, learned_in, line_turn, most_answers, net_may_say, net_turn, saying, solved_said, standing_on, state_after, target_of, terms_with, usage_text, variable_count}
 pub use Rattle.acq_cli.specs.Commands.{EndsExactly}
 pub use Rattle.acq_cli.specs.Completing.{Completes, HasRoom, IsAffordable, IsAnswerLine, IsEnough}
 pub use Rattle.acq_cli.specs.Demoing.{ClosesQuietly, Demos, HasDriven, IsDemo, SaysSum, demo_text, summary_text, whole_demo}

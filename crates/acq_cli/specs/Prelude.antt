@@ -1,5 +1,5 @@
 -- The names from outside that these definitions use, passed on from one place. Declares nothing.
-pub use Rattle.acq_said.specs.Prelude.{Adds, AddsFront, AllFault, Answer, At, Bool, Candidate, Closing, Converged, DiskOf, Drove, Ending, Err, Event, ForSome, Gives, HasSameSolutions, Holds, Idle, IfOk, IsConverged, IsNetwork, IsTrue, IsVocabulary, Language, List, MatchResult, Ok, OnErr, Opened, Option, Plan, Put, Quacq, Ran, RefusesOpening, Result, Runs, SFault, Scopes, Some, Terms, Turns, [], agrees, all_of, candidates, codes, decimal, ending_line, false, first_line_of, learned_in, length, line_turn, network_text, standing_on, state_after, terms_with, true, variable_count, ℕ, ◌++◌, ◌+◌, ◌<◌, ◌↔◌, ◌∷◌, ◌≡◌, ◌≢◌, ◌≤◌, ◌⊎◌}
+pub use Rattle.acq_said.specs.Prelude.{Adds, AddsFront, AllFault, Answer, At, Bool, Candidate, Closing, Converged, DiskOf, Drove, Ending, Err, Event, ForSome, Gives, HasSameSolutions, Holds, Idle, IfOk, IsConverged, IsNetwork, IsTrue, IsVocabulary, Language, List, MatchResult, Ok, OnErr, Opened, Option, Plan, Put, Quacq, Ran, RefusesOpening, Result, Runs, SFault, Scopes, Some, Terms, Turns, [], agrees, all_of, candidates, codes, decimal, ending_line, false, first_line_of, learned_in, length, line_turn, network_text, standing_on, state_after, terms_with, true, variable_count, ℕ}
 pub use Rattle.std.specs.List.{flat_map}
 pub use Rattle.std.specs.Prelude.{All}
 pub use Rattle.acq_io.specs.Lines.{LacksNewline, newline}
