@@ -1,5 +1,5 @@
 -- When a command comes to its own end.
-use Rattle.acq_cli.proofs.Prelude.{Acquires, AllFault, Answer, Bool, Candidate, Closing, Command, Completes, Demos, DiskOf, Does, Drove, Ending, EndsExactly, Err, Event, Gathered, Gives, HasEnded, HasFound, HasRoom, HasWritten, HavePlaces, Holds, Idle, IfOk, IfSome, IsAffordable, IsBrokenOff, IsEnough, IsLanguage, IsLeftOpen, IsReached, IsRefusal, IsVocabulary, JournalFull, Language, LineTooLong, List, None, Ok, Opened, OpensAs, Option, Plan, PlaysOn, Quacq, RanTo, ReadOnce, ReadsTarget, ReadsVocabulary, Refuses, Result, SFault, Saying, SaysNoNetwork, SaysUnplayed, Some, Suspended, Terms, Tries, Turns, Undecided, Unreadable, Unsaid, UsageFault, [], all_of, answers_fit, ap, append-nil, arith, closing_of, cond, drop, ending_of, err_ok, false, fine, fine_long, first_line_of, gathered, gives_got, holds_none, inl, input_end, inr, length, line_turn, long_one, most_answers, nat_le, net_turn, network_of, not_refused, okay, one_language, option_map, point_of, ran, refl, refusal_of_vocabulary, refuses_end, replay_on, same_fine, same_ok, same_session, standing_on, subst, sym, terms_with, true, whole_of, ℕ, ⊎_elim, ◌+◌, ◌∙◌, ◌≡◌, ◌≤◌, ◌⊎◌}
+use Rattle.acq_cli.proofs.Prelude.{none_placed, Acquires, AllFault, Answer, Bool, Candidate, Closing, Command, Completes, Demos, DiskOf, Does, Drove, Ending, EndsExactly, Err, Event, Gathered, Gives, HasEnded, HasFound, HasRecordsLeft, HasWritten, HavePlaces, SaysOpened, Idle, IfOk, IfSome, IsAffordable, IsBrokenOff, IsEnough, IsLanguage, IsLeftOpen, IsReached, IsRefusal, IsVocabulary, Language, List, NetFault, None, Ok, Opened, OpensAs, Option, Plan, PlaysOn, Quacq, RanTo, ReadOnce, ReadsTarget, ReadsVocabulary, SaysRefusal, Result, SFault, Saying, SaysNoNetwork, SaysUnplayed, Some, Terms, Tries, Turns, Undecided, Unsaid, UsageFault, [], all_of, answers_fit, ap, append-nil, arith, closing_of, cond, drop, ending_of, err_ok, false, fine, fine_long, first_line_of, gathered, gives_got, holds_none, inl, input_end, inr, length, line_turn, long_one, most_answers, nat_le, net_turn, network_of, not_refused, okay, one_language, option_map, point_of, ran, refl, refusal_of_vocabulary, refuses_end, replay_on, same_fine, same_ok, same_session, standing_on, subst, sym, terms_with, transport, true, whole_of, ℕ, ⊎_elim, ⊎_map, ◌+◌, ◌∙◌, ◌≡◌, ◌≤◌, ◌⊎◌}
 use Rattle.acq_said.proofs.Exactly.{RunsOn}
 use Rattle.acq_io.specs.declared.streams.Put.TheVariants as put
 use Rattle.acq_words.specs.declared.request.Command.TheVariants as command
@@ -9,7 +9,7 @@ use Rattle.acq_loop.specs.declared.driving.Drove.TheVariants as drove
 use Rattle.acq_loop.specs.declared.ending.Ending.TheVariants as ending
 use Rattle.acq_cli.proofs.Answering.{AnswersEach, EndsItself, HasLines, AsMany, ends_itself, lines_answer, network_answers}
 use Rattle.acq_cli.proofs.Enough.{generated_is_settled}
-use Rattle.acq_cli.proofs.Targets.{networked, no_network, none_of}
+use Rattle.acq_cli.proofs.Exactly.{none_of}
 use Rattle.session_store.specs.Opening.{NotOpened}
 
 -- ---- a run that ends by itself
@@ -18,9 +18,9 @@ use Rattle.session_store.specs.Opening.{NotOpened}
 abbrev OwnEnd : Ending → Type 0
 OwnEnd end = ((m : ℕ) × (end ≡ ending.Converged m)) ⊎ ((m : ℕ) × (end ≡ ending.Collapsed m))
 
-module _ (turns : Turns) (Left : ℕ → List ℕ → Type 0) (each : AnswersEach turns Left) (l : Language) (lawful : IsLanguage l) (terms : Terms) (n : ℕ) (start later : List Event) (left written left' written' : Option (List ℕ)) (end : Ending)
+module _ (turns : Turns) (Left : ℕ → List ℕ → Type 0) (each : AnswersEach turns Left) (l : Language) (lawful : IsLanguage l) (terms : Terms) (n : ℕ) (start later : List Event) (left written left' written' : Option (List ℕ)) (end : Ending) (calm : IsBrokenOff end → ⊥)
     (bytes : List ℕ) (from : left ≡ Some bytes)
-    (reached : IsReached l terms.plan (standing_on l start)) (enough : most_answers l ≤ length (standing_on l start) + n) (has : Left n bytes) (room : HasRoom l start) (affordable : IsAffordable turns l terms start bytes) where
+    (reached : IsReached l terms.plan (standing_on l start)) (enough : most_answers l ≤ length (standing_on l start) + n) (has : Left n bytes) (room : HasRecordsLeft l start) (affordable : IsAffordable turns l terms start bytes) where
   abbrev RanSo : Option (List ℕ) → Closing → Type 0
   RanSo middle closing = RanTo turns l terms closing (point_of start left written) (point_of later left' middle)
 
@@ -41,94 +41,64 @@ module _ (turns : Turns) (Left : ℕ → List ℕ → Type 0) (each : AnswersEac
       omega (arith, fits, long))
       affordable
 
-  by_how : (middle : Option (List ℕ)) (how : Drove) → ending_of how ≡ okay end → HasEnded l terms (standing_on l later) how → IfSome (closing_of how) (RanSo middle) → (end ≡ ending.ReadFault → ⊥) → (end ≡ ending.DiskFault → ⊥) → OwnEnd end
-  by_how middle (drove.Converged m) is says closed read kept = inl (m, sym (same_ok (ending.Converged m) end is))
-  by_how middle (drove.Collapsed m) is says closed read kept = inr (m, sym (same_ok (ending.Collapsed m) end is))
-  by_how middle (drove.Undecided m) is says closed read kept = absurd (not_open middle closed says.found)
-  by_how middle (drove.Suspended m) is says closed read kept = absurd (closed_itself middle Suspended closed)
-  by_how middle drove.LineTooLong is says closed read kept = absurd (closed_itself middle LineTooLong closed)
-  by_how middle drove.Unreadable is says closed read kept = absurd (closed_itself middle Unreadable closed)
-  by_how middle drove.ReadFault is says closed read kept = absurd (read (sym (same_ok ending.ReadFault end is)))
-  by_how middle drove.WriteFault is says closed read kept = absurd (err_ok put.Failed end is)
-  by_how middle drove.DiskFault is says closed read kept = absurd (kept (sym (same_ok ending.DiskFault end is)))
-  by_how middle drove.JournalFull is says closed read kept = absurd (closed_itself middle JournalFull closed)
-  by_how middle drove.Memory is says closed read kept = absurd (err_ok put.Memory end is)
+  by_how : (middle : Option (List ℕ)) (how : Drove) → ending_of how ≡ okay end → HasEnded l terms (standing_on l later) how → IfSome (closing_of how) (RanSo middle) → OwnEnd end
+  by_how middle (drove.Converged m) is says closed = inl (m, sym (same_ok (ending.Converged m) end is))
+  by_how middle (drove.Collapsed m) is says closed = inr (m, sym (same_ok (ending.Collapsed m) end is))
+  by_how middle (drove.Undecided m) is says closed = absurd (not_open middle closed says.found)
+  by_how middle drove.ReadFault is says closed = absurd (calm (inl (sym (same_ok ending.ReadFault end is))))
+  by_how middle drove.DiskFault is says closed = absurd (calm (inr (inr (inl (sym (same_ok ending.DiskFault end is))))))
+  by_how middle drove.WriteFault is says closed = absurd (err_ok put.Failed end is)
+  by_how middle drove.Memory is says closed = absurd (err_ok put.Memory end is)
+  by_how middle how is says closed = absurd (closed_itself middle _ closed)
 
-  pub own_end : Tries turns l terms start later left written left' written' end → (end ≡ ending.ReadFault → ⊥) → (end ≡ ending.DiskFault → ⊥) → OwnEnd end
-  own_end tries read kept = by_how tries.middle tries.how tries.is tries.ended.says tries.ended.closed read kept
-
--- it is no fault, and memory wasn't wanting
-pub record NoFault (end : Ending) : Type 0 where
-  pub read : end ≡ ending.ReadFault → ⊥
-  pub write : end ≡ ending.WriteFault → ⊥
-  pub kept : end ≡ ending.DiskFault → ⊥
-  pub memory : end ≡ ending.Memory → ⊥
-
-not_broken : (end : Ending) → NoFault end → IsBrokenOff end → ⊥
-not_broken end calm broken = ⊎_elim calm.read (λ b. ⊎_elim calm.write (λ c. ⊎_elim calm.kept calm.memory c) b) broken
-
--- with the answers and the budget that are enough
-lines_end : (l : Language) (terms : Terms) (start later : List Event) (left written left' written' : Option (List ℕ)) (end : Ending) (bytes : List ℕ) → IsLanguage l → IsReached l terms.plan (standing_on l start) → left ≡ Some bytes →
-    HasRoom l start → IsEnough l terms start bytes → NoFault end → Tries line_turn l terms start later left written left' written' end → OwnEnd end
-lines_end l terms start later left written left' written' end bytes lawful reached from room a calm tries =
-    let has : HasLines (length a.lines) bytes = record { lines = a.lines; rest = a.rest; is = a.is; each = a.each; many = omega arith } in
-    own_end line_turn HasLines lines_answer l lawful terms (length a.lines) start later left written left' written' end bytes from reached a.enough has room a.affordable tries calm.read calm.kept
-
--- without events there is room
-no_events_room : (l : Language) → IsLanguage l → HasRoom l []
-no_events_room l lawful = let fit = answers_fit l lawful in omega (arith, fit)
+  pub own_end : Tries turns l terms start later left written left' written' end → OwnEnd end
+  own_end tries = by_how tries.middle tries.how tries.is tries.ended.says tries.ended.closed
 
 places_reached : (l : Language) (plan : Plan) (events : List Event) → HavePlaces l plan events → IsReached l plan (standing_on l events)
 places_reached l plan events places = (places.0, replay_is_state l plan events places.0 places.1)
 
-none_placed : (l : Language) (plan : Plan) → HavePlaces l plan []
-unfolding replay_on
-none_placed l plan = (Idle [] None, refl)
+-- with the answers and the budget that are enough
+lines_end : (l : Language) (terms : Terms) (start later : List Event) (left written left' written' : Option (List ℕ)) (end : Ending) (bytes : List ℕ) → IsLanguage l → HavePlaces l terms.plan start → left ≡ Some bytes →
+    HasRecordsLeft l start → IsEnough l terms start bytes → (IsBrokenOff end → ⊥) → Tries line_turn l terms start later left written left' written' end → OwnEnd end
+lines_end l terms start later left written left' written' end bytes lawful places from room a calm tries =
+    let has : HasLines (length a.lines) bytes = record { lines = a.lines; rest = a.rest; is = a.is; each = a.each; many = omega arith } in
+    own_end line_turn HasLines lines_answer l lawful terms (length a.lines) start later left written left' written' end calm bytes from (places_reached l terms.plan start places) a.enough has room a.affordable tries
+
+-- without events there is room
+no_events_room : (l : Language) → IsLanguage l → HasRecordsLeft l []
+no_events_room l lawful = let fit = answers_fit l lawful in omega (arith, fit)
 
 -- what is left after a reading
 gives_rest : (f : List ℕ → Gathered) (left now : Option (List ℕ)) (got : Result (List ℕ) AllFault) (bytes : List ℕ) → Gives f left now got → left ≡ Some bytes → now ≡ Some (f bytes).rest
 gives_rest f left now got bytes gives told = go now (sym (ap (option_map f) told) ∙ gives)
   where
-    same : (a b : Gathered) → (let x : Option Gathered = Some a in x) ≡ Some b → a ≡ b
-    same a b e = cc
-
-    none : (a : Gathered) → (let x : Option Gathered = Some a in x) ≡ None → ⊥
-    none a e = cc
-
     go : (o : Option (List ℕ)) → Some (f bytes) ≡ option_map (gathered got) o → o ≡ Some (f bytes).rest
-    go None e = absurd (none (f bytes) e)
-    go (Some rest) e = ap (λ (x : Gathered). let o : Option (List ℕ) = Some x.rest in o) (sym (same (f bytes) (gathered got rest) e))
+    go None e = absurd (let no : ⊥ = cc in no)
+    go (Some rest) e = let same : f bytes ≡ gathered got rest = cc in ap (λ (x : Gathered). let o : Option (List ℕ) = Some x.rest in o) (sym same)
 
 -- ---- `try`
 
 module _ (terms : Terms) (left written left' written' : Option (List ℕ)) (bytes : List ℕ) (from : left ≡ Some bytes) (line : List ℕ) (l : Language) (first : (first_line_of 4194304 bytes).got ≡ Ok line) (read : IsVocabulary line l)
     (enough : IsEnough l terms [] (first_line_of 4194304 bytes).rest) where
-  reads_end : (end : Ending) → NoFault end → ReadsVocabulary left (λ lang events rest. Tries line_turn lang terms [] events rest written left' written' end) → OwnEnd end
+  reads_end : (end : Ending) → (IsBrokenOff end → ⊥) → ReadsVocabulary left (λ lang events rest. Tries line_turn lang terms [] events rest written left' written' end) → OwnEnd end
   reads_end end calm reads =
       let rest : reads.rest ≡ Some (first_line_of 4194304 bytes).rest = gives_rest (first_line_of 4194304) left reads.rest (fine reads.line) bytes reads.gives from in
       let same : reads.line ≡ line = same_fine reads.line line (sym (gives_got (first_line_of 4194304) left reads.rest (fine reads.line) bytes reads.gives from) ∙ first) in
-      let Reads : List ℕ → Type 0 = λ x. IsVocabulary x reads.lang in
-      let Enough : Language → Type 0 = λ m. IsEnough m terms [] (first_line_of 4194304 bytes).rest in
-      lines_end reads.lang terms [] reads.events reads.rest written left' written' end (first_line_of 4194304 bytes).rest reads.vocabulary.built.lawful (places_reached reads.lang terms.plan [] (none_placed reads.lang terms.plan)) rest (no_events_room reads.lang reads.vocabulary.built.lawful)
-      (subst Enough (one_language line l reads.lang read (subst Reads same reads.vocabulary)) enough) calm reads.did
+      let lawful = reads.vocabulary.built.lawful in
+      lines_end reads.lang terms [] reads.events reads.rest written left' written' end (first_line_of 4194304 bytes).rest lawful (none_placed reads.lang terms.plan) rest (no_events_room reads.lang lawful)
+      (transport (λ i. IsEnough (one_language line l reads.lang read (transport (λ j. IsVocabulary (same j) reads.lang) reads.vocabulary) i) terms [] (first_line_of 4194304 bytes).rest) enough) calm reads.did
 
-  try_completes : (end : Ending) → NoFault end → Acquires terms left written left' written' end → OwnEnd end
-  try_completes (ending.VocRefused fault) calm done =
-      let refused = done.0 in
-      let Refused : Result (List ℕ) AllFault → Type 0 = IsRefusal fault in
-      let told : refusal_of_vocabulary line ≡ Some fault = subst Refused (sym (gives_got (first_line_of 4194304) left left' refused.0 bytes refused.1 from) ∙ first) refused.2 in
-      absurd (let bad : None ≡ Some fault = sym (not_refused line l read) ∙ told in let no : ⊥ = cc in no)
-  try_completes ending.ReadFault calm done = absurd (calm.read refl)
-  try_completes ending.WriteFault calm done = absurd (calm.write refl)
-  try_completes ending.Memory calm done = absurd (calm.memory refl)
+  try_completes : (end : Ending) → (IsBrokenOff end → ⊥) → Acquires terms left written left' written' end → OwnEnd end
+  try_completes (ending.VocRefused fault) calm ((got, gives, refused), adds) =
+      let told : refusal_of_vocabulary line ≡ Some fault = subst (IsRefusal fault) (sym (gives_got (first_line_of 4194304) left left' got bytes gives from) ∙ first) refused in
+      absurd (let none = not_refused line l read in let no : ⊥ = cc in no)
+  try_completes ending.ReadFault calm done = absurd (calm (inl refl))
+  try_completes ending.WriteFault calm done = absurd (calm (inr (inl refl)))
+  try_completes ending.Memory calm done = absurd (calm (inr (inr (inr refl))))
   try_completes (ending.Converged m) calm done = inl (m, refl)
   try_completes (ending.Collapsed m) calm done = inr (m, refl)
-  try_completes (ending.Undecided m) calm done = reads_end (ending.Undecided m) calm done
-  try_completes (ending.Suspended m) calm done = reads_end (ending.Suspended m) calm done
-  try_completes ending.LineTooLong calm done = reads_end ending.LineTooLong calm done
-  try_completes ending.Unreadable calm done = reads_end ending.Unreadable calm done
-  try_completes ending.JournalFull calm done = reads_end ending.JournalFull calm done
-  try_completes end calm done = absurd done
+  try_completes ending.DiskFault calm done = absurd done
+  try_completes end calm done = reads_end end calm done
 
 -- ---- the commands over a journal
 
@@ -144,60 +114,57 @@ none_left bytes got is = go (nat_le (length bytes) 4194304) is
 none_stale : (t : List Answer) → t ≡ [] → 1 ≤ length t → ⊥
 none_stale t none some = let few : length t ≡ 0 = ap length none in omega (arith, few, some)
 
-same_target : (a b : List Candidate) → networked a ≡ networked b → a ≡ b
-same_target a b e = cc
+abbrev networked : List Candidate → Result (List Candidate) NetFault
+networked target = Ok target
 
 -- with a target and a budget that is enough
-target_end : (l : Language) (terms : Terms) (start later : List Event) (left rest written left' written' : Option (List ℕ)) (end : Ending) (bytes : List ℕ) (target own : List Candidate) → IsLanguage l → IsReached l terms.plan (standing_on l start) → left ≡ Some bytes →
-    HasRoom l start → network_of l bytes ≡ Ok own → IsAffordable (net_turn own false) l terms start [] → ReadsTarget l left rest target → ((m : ℕ) → end ≡ ending.Collapsed m → ⊥) → NoFault end → Tries (net_turn target false) l terms start later rest written left' written' end →
-    (m : ℕ) × (end ≡ ending.Converged m)
-target_end l terms start later left rest written left' written' end bytes target own lawful reached from room is affordable reads agreed calm tries =
+target_end : (l : Language) (terms : Terms) (start later : List Event) (left rest written left' written' : Option (List ℕ)) (end : Ending) (bytes : List ℕ) (target own : List Candidate) → IsLanguage l → HavePlaces l terms.plan start → left ≡ Some bytes →
+    HasRecordsLeft l start → network_of l bytes ≡ Ok own → IsAffordable (net_turn own false) l terms start [] → ReadsTarget l left rest target → ((m : ℕ) → end ≡ ending.Collapsed m → ⊥) → (IsBrokenOff end → ⊥) →
+    Tries (net_turn target false) l terms start later rest written left' written' end → (m : ℕ) × (end ≡ ending.Converged m)
+target_end l terms start later left rest written left' written' end bytes target own lawful places from room is affordable reads agreed calm tries =
     let got = gives_got (all_of 4194304) left rest (fine reads.bytes) bytes reads.gives from in
-    let whole : bytes ≡ reads.bytes = whole_of 4194304 bytes reads.bytes got in
     let nothing : rest ≡ Some [] = gives_rest (all_of 4194304) left rest (fine reads.bytes) bytes reads.gives from ∙ ap (λ (x : List ℕ). let o : Option (List ℕ) = Some x in o) (none_left bytes reads.bytes got) in
-    let same : own ≡ target = same_target own target (sym is ∙ ap (network_of l) whole ∙ reads.is) in
-    let Afforded : List Candidate → Type 0 = λ x. IsAffordable (net_turn x false) l terms start [] in
+    let both : networked own ≡ networked target = sym is ∙ ap (network_of l) (whole_of 4194304 bytes reads.bytes got) ∙ reads.is in
+    let same : own ≡ target = cc in
     ⊎_elim (λ converged. converged) (λ collapsed. absurd (agreed collapsed.0 collapsed.1))
-    (own_end (net_turn target false) AsMany (network_answers target false) l lawful terms (most_answers l) start later rest written left' written' end [] nothing reached (omega arith) tt room (subst Afforded same affordable) tries calm.read calm.kept)
+    (own_end (net_turn target false) AsMany (network_answers target false) l lawful terms (most_answers l) start later rest written left' written' end calm [] nothing (places_reached l terms.plan start places) (omega arith) tt room (transport (λ i. IsAffordable (net_turn (same i) false) l terms start []) affordable) tries)
 
 -- ---- the commands
 
-module _ {D : Type 0} (disk : DiskOf D) (once : ReadOnce) (left written left' written' : Option (List ℕ)) (old new : D) (end : Ending) (calm : NoFault end) where
+module _ {D : Type 0} (disk : DiskOf D) (once : ReadOnce) (left written left' written' : Option (List ℕ)) (old new : D) (end : Ending) (calm : IsBrokenOff end → ⊥) where
   -- a journal that isn't opened holds no session
-  closed_none : (file : List ℕ) (o : Opened) (fault : SFault) (said : Result Saying Unsaid) → NotOpened file fault → Holds file o → Refuses fault said → HasWritten said written written' (okay end) → ⊥
-  closed_none file o fault said why held refuses has = ⊎_elim (not_broken end calm) (λ is. holds_none once file fault o (is.0, why) held) (refuses_end fault said written written' end refuses has)
+  closed_none : (file : List ℕ) (o : Opened) (fault : SFault) (said : Result Saying Unsaid) → NotOpened file fault → SaysOpened file o → SaysRefusal fault said → HasWritten said written written' (okay end) → ⊥
+  closed_none file o fault said why held refuses has = ⊎_elim calm (λ is. holds_none once file fault o (is.0, why) held) (refuses_end fault said written written' end refuses has)
 
   run_completes : (budget : ℕ) → RunsOn disk budget left written left' written' old new (okay end) → Completes (command.Run budget) left (disk.content old) end
   run_completes budget (inl (said, over, has)) = λ bytes from file told o held room enough.
-      let As : Result Opened SFault → Type 0 = OpensAs file in
-      absurd (closed_none file o over.says.0 said (subst As over.says.1 (over.opens file told)) held over.says.2 has)
+      absurd (closed_none file o over.says.0 said (subst (OpensAs file) over.says.1 (over.opens file told)) held over.says.2 has)
   run_completes budget (inr on) = λ bytes from file told o held room enough.
-      let l = on.of.lang in
       let session = on.some.1.session in
-      let Enough : Opened → Type 0 = λ x. HasRoom x.lang x.events × IsEnough x.lang (terms_with x.plan budget) x.events bytes in
+      let Enough : Opened → Type 0 = λ x. HasRecordsLeft x.lang x.events × IsEnough x.lang (terms_with x.plan budget) x.events bytes in
       let has = subst Enough (same_session file o on.of held (on.opens file told)) (room, enough) in
-      lines_end l (terms_with on.of.plan budget) on.of.events on.later left written left' written' end bytes session.read.built.lawful (places_reached l on.of.plan on.of.events session.places) from has.0 has.1 calm on.tries
+      lines_end on.of.lang (terms_with on.of.plan budget) on.of.events on.later left written left' written' end bytes session.read.built.lawful session.places from has.0 has.1 calm on.tries
 
   -- a session without answers, and with a network, comes to a run
-  played_none : (bytes file : List ℕ) → left ≡ Some bytes → (said : Result Saying Unsaid) → HasWritten said written written' (okay end) → (o : Opened) (target : List Candidate) → Holds file o → standing_on o.lang o.events ≡ [] → network_of o.lang bytes ≡ Ok target →
+  played_none : (bytes file : List ℕ) → left ≡ Some bytes → (said : Result Saying Unsaid) → HasWritten said written written' (okay end) → (o : Opened) (target : List Candidate) → SaysOpened file o → standing_on o.lang o.events ≡ [] → network_of o.lang bytes ≡ Ok target →
       (opening : Result Opened SFault) → OpensAs file opening → SaysUnplayed left left' opening said → ⊥
   played_none bytes file from said has o target held fresh is (Err fault) opens says = closed_none file o fault said opens held says.0 has
   played_none bytes file from said has o target held fresh is (Ok x) opens says =
       let So : Opened → Type 0 = λ y. (standing_on y.lang y.events ≡ []) × (network_of y.lang bytes ≡ Ok target) in
       let so = subst So (same_session file o x held opens) (fresh, is) in
       ⊎_elim (λ stale. none_stale (standing_on x.lang x.events) so.0 stale.0)
-      (λ lacks. ⊎_elim (not_broken end calm) (λ untaken. let none = none_of x.lang bytes said untaken in no_network target none.0 (sym so.1 ∙ none.1)) (input_end 4194304 (SaysNoNetwork x.lang) left left' written written' said end bytes from lacks.1 has)) says
+      (⊎_elim calm (λ untaken. let none = none_of x.lang bytes said untaken in let bad : networked target ≡ Err none.0 = sym so.1 ∙ none.1 in cc))
+      (⊎_map (λ stale. stale) (λ lacks. input_end 4194304 (SaysNoNetwork x.lang) left left' written written' said end bytes from lacks.1 has) says)
 
   play_completes : (budget : ℕ) → PlaysOn disk budget left written left' written' old new (okay end) → Completes (command.Play budget) left (disk.content old) end
   play_completes budget (inl (said, over, has)) = λ bytes from file told o target held room fresh is affordable.
       absurd (played_none bytes file from said has o target held fresh is over.opening (over.opens file told) over.says)
   play_completes budget (inr played) = λ bytes from file told o target held room fresh is affordable.
       let on = played.on in
-      let l = on.of.lang in
       let session = on.some.1.session in
-      let Enough : Opened → Type 0 = λ x. HasRoom x.lang x.events × (network_of x.lang bytes ≡ Ok target) × IsAffordable (net_turn target false) x.lang (terms_with x.plan budget) x.events [] in
+      let Enough : Opened → Type 0 = λ x. HasRecordsLeft x.lang x.events × (network_of x.lang bytes ≡ Ok target) × IsAffordable (net_turn target false) x.lang (terms_with x.plan budget) x.events [] in
       let has = subst Enough (same_session file o on.of held (on.opens file told)) (room, is, affordable) in
-      target_end l (terms_with on.of.plan budget) on.of.events on.later left left' written left' written' end bytes played.target target session.read.built.lawful (places_reached l on.of.plan on.of.events session.places) from
+      target_end on.of.lang (terms_with on.of.plan budget) on.of.events on.later left left' written left' written' end bytes played.target target session.read.built.lawful session.places from
       has.0 has.1 has.2 played.reads (λ m e. played.answered.no_collapse m (ap okay e)) calm on.tries
 
   -- a budget that is enough for a number's language leaves nothing open
@@ -205,17 +172,13 @@ module _ {D : Type 0} (disk : DiskOf D) (once : ReadOnce) (left written left' wr
   demo_completes number budget (inl none) = absurd (err_ok put.Memory end (sym none.0))
   demo_completes number budget (inr demo) = λ enough.
       let t = standing_on demo.lang demo.run.events in
-      let Found : Closing → Type 0 = HasFound demo.lang (terms_with Quacq budget) t in
-      ⊎_elim (λ converged. (length t, converged.1)) (λ undecided. absurd (generated_is_settled demo.lang (terms_with Quacq budget) t demo.generated enough (subst Found undecided.0 demo.found))) demo.ends
-
-  exactly : {P : Type 0} → IsBrokenOff end ⊎ P → P
-  exactly ends = ⊎_elim (λ broken. absurd (not_broken end calm broken)) (λ holds. holds) ends
+      ⊎_elim (λ converged. (length t, converged.1)) (λ undecided. absurd (generated_is_settled demo.lang (terms_with Quacq budget) t demo.generated enough (subst (HasFound demo.lang (terms_with Quacq budget) t) undecided.0 demo.found))) demo.ends
 
   -- the others do so exactly
-  pub completes : (asked : Result Command UsageFault) → Does disk asked left written left' written' old new (okay end) → IsBrokenOff end ⊎ IfOk asked (λ c. EndsExactly c left (disk.content old) end) → IfOk asked (λ c. Completes c left (disk.content old) end)
-  completes (Ok (command.Run budget)) does ends = run_completes budget does
-  completes (Ok (command.Play budget)) does ends = play_completes budget does
-  completes (Ok (command.Try plan budget)) does ends = λ bytes from line l first read enough. try_completes (terms_with plan budget) left written left' written' bytes from line l first read enough end calm does
-  completes (Ok (command.Demo number budget)) does ends = demo_completes number budget does
-  completes (Err fault) does ends = tt
-  completes (Ok c) does ends = exactly ends
+  pub completes : (asked : Result Command UsageFault) → Does disk asked left written left' written' old new (okay end) → IfOk asked (λ c. EndsExactly c left (disk.content old) end) → IfOk asked (λ c. Completes c left (disk.content old) end)
+  completes (Ok (command.Run budget)) does exactly = run_completes budget does
+  completes (Ok (command.Play budget)) does exactly = play_completes budget does
+  completes (Ok (command.Try plan budget)) does exactly = λ bytes from line l first read enough. try_completes (terms_with plan budget) left written left' written' bytes from line l first read enough end calm does
+  completes (Ok (command.Demo number budget)) does exactly = demo_completes number budget does
+  completes (Err fault) does exactly = tt
+  completes (Ok c) does exactly = exactly

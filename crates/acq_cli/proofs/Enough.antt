@@ -1,5 +1,5 @@
 -- Budgets that are enough.
-use Rattle.acq_cli.proofs.Prelude.{All, All-filter, Answer, Bool, BudgetIsEnough, Candidate, GeneratedIsShort, IsGenerated, IsLeftOpen, IsTrue, Language, List, Terms, [], ap, arith, candidates, filter, flat_map, get_or, inr, is_among, kept, length, length-append, length-map, map, name_of, open_candidates, refl, suc, variable_count, zero, ℕ, ◌*◌, ◌+◌, ◌<◌, ◌∙◌, ◌∷◌, ◌≡◌, ◌≢◌, ◌≤◌}
+use Rattle.acq_cli.proofs.Prelude.{All, All-filter, Answer, BudgetIsEnough, Candidate, GeneratedIsShort, IsGenerated, IsLeftOpen, IsTrue, Language, List, Terms, [], ap, arith, candidates, flat_map, get_or, inr, is_among, kept, length, length-append, length-map, map, name_of, open_candidates, refl, suc, variable_count, zero, ℕ, ◌*◌, ◌+◌, ◌<◌, ◌∙◌, ◌∷◌, ◌≡◌, ◌≢◌, ◌≤◌}
 use Rattle.std.proofs.lemmas.List.FromFn.{length-range_with_len}
 use Rattle.std.proofs.lemmas.List.Sums.{length-filter, count_by-le-length}
 use Rattle.assign.specs.Sets.{numbers}
@@ -37,17 +37,13 @@ ten_of_three : prefix_count 3 10 ≡ 88573
 unfolding prefix_count
 ten_of_three = refl
 
-few_prefixes : (d k : ℕ) → d ≡ 3 → k ≡ 10 → length (prefixes d k) ≡ 88573
-few_prefixes d k three ten = count_is d k ∙ ap (λ x. prefix_count x k) three ∙ ap (prefix_count 3) ten ∙ ten_of_three
-
-picked_few : (test : List ℕ → Bool) (xs : List (List ℕ)) (most : ℕ) → length xs ≡ most → length (filter test xs) ≤ most
-picked_few test xs most is = let few = count_by-le-length test xs in omega (arith, few, is, length-filter test xs)
-
-ten_names : (l : Language) → IsGenerated l → variable_count l ≡ 10
-ten_names l made = ap (λ (ns : List (List ℕ)). length ns) made.names ∙ length-map (numbers 10) name_of ∙ length-range_with_len 0 10
-
 short : (l : Language) (network : List Candidate) (c : Candidate) → IsGenerated l → plain_size l network c ≤ 88573
-short l network c made = picked_few (is_plain l network c) (prefixes l.value_count (variable_count l)) 88573 (few_prefixes l.value_count (variable_count l) made.value_count (ten_names l made))
+short l network c made =
+    let all = prefixes l.value_count (variable_count l) in
+    let ten : variable_count l ≡ 10 = ap (λ (ns : List (List ℕ)). length ns) made.names ∙ length-map (numbers 10) name_of ∙ length-range_with_len 0 10 in
+    let count : length all ≡ 88573 = count_is l.value_count (variable_count l) ∙ (λ i. prefix_count (made.value_count i) (ten i)) ∙ ten_of_three in
+    let few = count_by-le-length (is_plain l network c) all in
+    omega (arith, few, count, length-filter (is_plain l network c) all)
 
 pub generated_is_short : GeneratedIsShort
 generated_is_short = record {

@@ -1,7 +1,7 @@
 mod Prelude
-pub mod Short
 pub mod Causes
 pub mod Asked
+pub mod Exactly
 pub mod Targets
 pub mod Demoing
 pub mod Answering
@@ -10,6 +10,4 @@ pub mod Enough
 pub mod Room
 pub mod OneRun
 pub mod Headline
-pub mod Confirmed
-pub mod Made
 pub mod Speaking

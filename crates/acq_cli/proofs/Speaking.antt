@@ -1,11 +1,10 @@
 -- How the commands end that say something, where they ask nothing.
 use Rattle.acq_cli.proofs.Prelude.{AllFault, Command, DiskOf, Ending, Err, HasWritten, Language, List, Ok, Opened, Option, Result, SFault, SaidSo, Saying, SaysNoNetwork, SaysSo, SaysUnplayed, Spoke, Unsaid, asked_own, asked_said, back_own, check_own, inl, inr, is_own, length, okay, opening_own, own_said, read_own, refl, refuses_own, so_own, solves_own, standing_on, target_refused, true, ℕ, ◌≡◌}
-use Rattle.acq_cli.proofs.Short.{stale_said}
 use Rattle.acq_said.proofs.Spoken.{IsCheckOf}
 use Rattle.acq_words.specs.declared.request.Command.TheVariants as command
 use Rattle.acq_said.specs.declared.ask.Ask.TheVariants as ask
 use Rattle.network.specs.declared.fault.NetFault.TheVariants as net
-use Rattle.acq_cli.proofs.Made.{new_own}
+use Rattle.acq_cli.proofs.Exactly.{new_own, stale_said}
 
 module _ {D : Type 0} (disk : DiskOf D) (left written left' written' : Option (List ℕ)) (old new : D) (end : Ending) where
   spoke_own : (c : Command) (said : Result Saying Unsaid) → Spoke disk c left left' old new said → HasWritten said written written' (okay end) → is_own end ≡ true
@@ -16,7 +15,7 @@ module _ {D : Type 0} (disk : DiskOf D) (left written left' written' : Option (L
   spoke_own (command.Certify budget) said over has = opening_own (asked_said (ask.Certify budget)) (asked_own (ask.Certify budget)) over.opening said written written' end over.says has
   spoke_own command.Check said (read, says) has =
       read_own left left' said written written' end has 67108864 (λ r. SaidSo (IsCheckOf r)) (λ r so. so_own (IsCheckOf r) (check_own r) said written written' end so has) read says
-  spoke_own (command.New plan) said news has = new_own disk plan left written left' written' old new end said news has
+  spoke_own (command.New plan) said news has = new_own disk plan left written left' written' old new end said has news
   spoke_own command.Back said backs has = back_own disk written written' old new end said backs has
   spoke_own c said never has = absurd never
 

@@ -1,6 +1,6 @@
 -- When a command comes to its own end, and to no other.
 use Rattle.std.specs.Prelude.{◌++◌, ◌+◌, ◌<◌, ◌∷◌, ◌≡◌, ◌≤◌, ◌⊎◌}
-use Rattle.acq_cli.specs.Prelude.{All, Answer, At, Bool, Candidate, Command, Ending, Event, ForSome, Holds, Idle, IsVocabulary, LacksNewline, Language, List, Ok, Opened, Option, Ran, Runs, Said, Scopes, Some, Terms, Turns, WalkEnd, [], false, first_line_of, flat_map, kept, length, line_turn, most_answers, net_turn, network_of, newline, plain_size, reply_of, standing_on, state_after, terms_with, trimmed, ℕ}
+use Rattle.acq_cli.specs.Prelude.{All, Answer, At, Bool, Candidate, Command, Ending, Event, ForSome, SaysOpened, Idle, IsVocabulary, LacksNewline, Language, List, Ok, Opened, Option, Ran, Runs, Said, Scopes, Some, Terms, Turns, WalkEnd, [], false, first_line_of, flat_map, kept, length, line_turn, most_answers, net_turn, network_of, newline, plain_size, reply_of, standing_on, state_after, terms_with, trimmed, ℕ}
 use Rattle.acq_words.specs.declared.request.Command.TheVariants as command
 use Rattle.acq_loop.specs.declared.ending.Ending.TheVariants as ending
 use Rattle.acq_cli.specs.Commands.{EndsExactly}
@@ -15,8 +15,8 @@ pub record IsAnswerLine (line : List ℕ) : Type 0 where
   pub says : (k : ℕ) → reply_of k (trimmed line) ≡ Some (Said said)
 
 -- For each answer that a session may still take there is a record. So it is where nothing was taken back.
-abbrev pub HasRoom : Language → List Event → Type 0
-HasRoom l events = length events + most_answers l < length (standing_on l events) + 1000000
+abbrev pub HasRecordsLeft : Language → List Event → Type 0
+HasRecordsLeft l events = length events + most_answers l < length (standing_on l events) + 1000000
 
 -- The plan doesn't search; or wherever the session passes through, the budget is at least as great as the search of each candidate
 -- that its answers keep.
@@ -45,10 +45,10 @@ Completes (command.Try plan budget) left content end =
     ForSome left (λ bytes. (line : List ℕ) (l : Language) → (first_line_of 4194304 bytes).got ≡ Ok line → IsVocabulary line l → IsEnough l (terms_with plan budget) [] (first_line_of 4194304 bytes).rest →
     ((m : ℕ) × (end ≡ ending.Converged m)) ⊎ ((m : ℕ) × (end ≡ ending.Collapsed m)))
 Completes (command.Run budget) left content end =
-    ForSome left (λ bytes. ForSome content (λ file. (o : Opened) → Holds file o → HasRoom o.lang o.events → IsEnough o.lang (terms_with o.plan budget) o.events bytes →
+    ForSome left (λ bytes. ForSome content (λ file. (o : Opened) → SaysOpened file o → HasRecordsLeft o.lang o.events → IsEnough o.lang (terms_with o.plan budget) o.events bytes →
     ((m : ℕ) × (end ≡ ending.Converged m)) ⊎ ((m : ℕ) × (end ≡ ending.Collapsed m))))
 Completes (command.Play budget) left content end =
-    ForSome left (λ bytes. ForSome content (λ file. (o : Opened) (target : List Candidate) → Holds file o → HasRoom o.lang o.events → standing_on o.lang o.events ≡ [] → network_of o.lang bytes ≡ Ok target →
+    ForSome left (λ bytes. ForSome content (λ file. (o : Opened) (target : List Candidate) → SaysOpened file o → HasRecordsLeft o.lang o.events → standing_on o.lang o.events ≡ [] → network_of o.lang bytes ≡ Ok target →
     IsAffordable (net_turn target false) o.lang (terms_with o.plan budget) o.events [] → (m : ℕ) × (end ≡ ending.Converged m)))
 Completes (command.Demo number budget) left content end = 88573 ≤ budget → (m : ℕ) × (end ≡ ending.Converged m)
 Completes c left content end = EndsExactly c left content end

@@ -1,6 +1,6 @@
 -- What `demo` has done.
 use Rattle.std.specs.Prelude.{◌++◌, ◌+◌, ◌∷◌, ◌≡◌, ◌⊎◌}
-use Rattle.acq_cli.specs.Prelude.{Adds, AddsFront, Answer, Candidate, Closing, Converged, Drove, Ending, Err, Event, HasFound, IfOk, IsGenerated, IsSaid, Language, List, OnErr, Option, Put, Quacq, Ran, Result, Runs, Saying, Terms, Undecided, Unsaid, [], candidates, codes, decimal, ending_line, learned_after, length, net_turn, saying, standing_on, target_of, terms_with, true, variable_count, ℕ}
+use Rattle.acq_cli.specs.Prelude.{Adds, AddsFront, Candidate, Closing, Converged, Drove, Ending, Err, Event, HasFound, IfOk, IsGenerated, IsSaid, Language, List, MatchResult, Option, Put, Quacq, Ran, Result, Runs, Saying, Terms, Undecided, Unsaid, [], candidates, codes, decimal, ending_line, learned_after, length, net_turn, saying, standing_on, target_of, terms_with, true, variable_count, ℕ}
 use Rattle.acq_said.specs.declared.said.Unsaid.TheVariants as unsaid
 use Rattle.acq_cli.specs.Playing.{IsAnsweredBy}
 use Rattle.acq_io.specs.declared.streams.Put.TheVariants as put
@@ -17,10 +17,6 @@ demo_text number l =
 -- the first one of its last lines, and how many candidates were learned
 abbrev pub summary_text : Closing → (m learned : ℕ) → List ℕ
 summary_text closing m learned = ending_line closing m ++ (codes "learned " ++ (decimal learned ++ 10 ∷ []))
-
--- the whole text: no question, and of the network how many candidates it has
-abbrev pub whole_demo : ℕ → Language → Terms → List Answer → Closing → List ℕ
-whole_demo number l terms t closing = demo_text number l ++ summary_text closing (length t) (length (learned_after l terms t))
 
 -- ---- The run
 
@@ -66,8 +62,11 @@ pub record IsDemo (number budget : ℕ) (written written' : Option (List ℕ)) (
   pub runs : Runs (net_turn (target_of number lang) true) lang (terms_with Quacq budget) [] [] run
   pub ends : IfOk got (λ end. ((run.closing ≡ Converged) × (end ≡ ending.Converged (length (standing_on lang run.events)))) ⊎ ((run.closing ≡ Undecided) × (end ≡ ending.Undecided (length (standing_on lang run.events)))))
   pub found : IfOk got (λ _. HasFound lang (terms_with Quacq budget) (standing_on lang run.events) run.closing)
-  pub whole : IfOk got (λ _. Adds written written' (whole_demo number lang (terms_with Quacq budget) (standing_on lang run.events) run.closing))
-  pub part : OnErr got (AddsFront written written' (whole_demo number lang (terms_with Quacq budget) (standing_on lang run.events) run.closing))
+  -- the whole text has no question, and of the network how many candidates it has
+  pub writes : (
+      let t = standing_on lang run.events in
+      let text = demo_text number lang ++ summary_text run.closing (length t) (length (learned_after lang (terms_with Quacq budget) t)) in
+      MatchResult got (λ _. Adds written written' text) (λ _. AddsFront written written' text))
   pub answered : IfOk got (λ _. IsAnsweredBy (target_of number lang) lang (terms_with Quacq budget) (standing_on lang run.events) got)
 
 -- or there was no memory for them

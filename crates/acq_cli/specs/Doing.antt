@@ -1,6 +1,6 @@
 -- What the program has done, by what the words ask for.
 use Rattle.std.specs.Prelude.{◌≡◌, ◌≢◌, ◌⊎◌}
-use Rattle.acq_cli.specs.Prelude.{Acquires, Ask, AsksTruly, Command, DiskOf, Ending, Err, HasWritten, GoesOn, HasTakenBack, IsCheck, IsSaid, List, MatchResult, News, Ok, Option, Put, Refuses, Result, SFault, Saying, SaysOfInput, SaysOver, SaysSo, Solves, Unsaid, UsageFault, asked_said, back_said, checked_said, ended_as, line_turn, saying, terms_with, usage_text, ℕ}
+use Rattle.acq_cli.specs.Prelude.{Acquires, Ask, AsksTruly, Command, DiskOf, Ending, Err, HasWritten, RunGoesOn, HasTakenBack, IsCheck, IsSaid, List, MatchResult, News, Ok, Option, Put, SaysRefusal, Result, SFault, Saying, SaysOfInput, SaysOver, SaysSo, Solves, Unsaid, UsageFault, asked_said, back_said, checked_said, ended_as, line_turn, saying, terms_with, usage_text, ℕ}
 use Rattle.acq_words.specs.declared.request.Command.TheVariants as command
 use Rattle.cert_check.specs.declared.fault.CertFault.TheVariants as form
 use Rattle.acq_cli.specs.Demoing.{Demos}
@@ -13,7 +13,7 @@ use Rattle.acq_said.specs.declared.said.Unsaid.TheVariants as unsaid
 module _ {D : Type 0} (disk : DiskOf D) where
   -- a command that only says something of a session
   abbrev pub Asks : Ask → (old new : D) → Result Saying Unsaid → Type 0
-  Asks a old new said = SaysOver disk (λ opening told. MatchResult opening (λ o. IsSaid (asked_said a o) told) (λ fault. Refuses fault told)) (AsksTruly a) old new said
+  Asks a old new said = SaysOver disk (λ opening told. MatchResult opening (λ o. IsSaid (asked_said a o) told) (λ fault. SaysRefusal fault told)) (AsksTruly a) old new said
 
   -- What a command has done that asks nothing, and what it says. The others don't say so.
   abbrev pub Spoke : Command → (left left' : Option (List ℕ)) → (old new : D) → Result Saying Unsaid → Type 0
@@ -21,7 +21,7 @@ module _ {D : Type 0} (disk : DiskOf D) where
   Spoke command.Show left left' old new said = Asks ask.Show old new said
   -- the last answer was taken back, or nothing was, and why was said
   Spoke command.Back left left' old new said =
-      SaysOver disk (λ opening told. MatchResult opening (λ o. IsSaid (back_said o) told × ((back_said o).ending ≢ ending.Done)) (λ fault. Refuses fault told)) (λ o. Unit {0}) old new said
+      SaysOver disk (λ opening told. MatchResult opening (λ o. IsSaid (back_said o) told × ((back_said o).ending ≢ ending.Done)) (λ fault. SaysRefusal fault told)) (λ o. Unit {0}) old new said
       ⊎ HasTakenBack disk old new said
   Spoke (command.Reduce budget) left left' old new said = Asks (ask.Reduce budget) old new said
   Spoke command.Cnf left left' old new said = Asks ask.Cnf old new said
@@ -37,8 +37,8 @@ module _ {D : Type 0} (disk : DiskOf D) where
   abbrev pub Does : Result Command UsageFault → (left written left' written' : Option (List ℕ)) → (old new : D) → Result Ending Put → Type 0
   -- A person may give any answer. Where no session is opened, that is told, and the input isn't read.
   Does (Ok (command.Run budget)) left written left' written' old new got =
-      SaysSo (SaysOver disk (λ opening said. (fault : SFault) × (opening ≡ Err fault) × Refuses fault said × (left' ≡ left)) (λ o. Unit {0}) old new) written written' got
-      ⊎ GoesOn disk line_turn (λ l q told. Unit {0}) budget left written left' written' old new got
+      SaysSo (SaysOver disk (λ opening said. (fault : SFault) × (opening ≡ Err fault) × SaysRefusal fault said × (left' ≡ left)) (λ o. Unit {0}) old new) written written' got
+      ⊎ RunGoesOn disk line_turn (λ l q told. Unit {0}) budget left written left' written' old new got
   Does (Ok (command.Try plan budget)) left written left' written' old new got = Acquires (terms_with plan budget) left written left' written' (ended_as got)
   Does (Ok (command.Play budget)) left written left' written' old new got = PlaysOn disk budget left written left' written' old new got
   Does (Ok (command.Demo number budget)) left written left' written' old new got = Demos number budget written written' got

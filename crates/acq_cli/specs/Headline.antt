@@ -1,13 +1,13 @@
 -- What `converged` and `collapsed` say, whichever command says them.
 use Rattle.std.specs.Prelude.{◌++◌, ◌+◌, ◌≡◌, ◌≢◌}
-use Rattle.acq_cli.specs.Prelude.{Candidate, Command, Converged, Event, ForSome, Gives, Holds, IsConverged, IsGenerated, IsVocabulary, Language, List, NoneAgrees, Ok, Opened, Option, Plan, Quacq, Result, UsageFault, ending_line, first_line_of, learned_in, length, network_text, standing_on, state_after, ℕ}
+use Rattle.acq_cli.specs.Prelude.{Candidate, Command, Converged, Event, ForSome, Gives, SaysOpened, IsConverged, IsGenerated, IsVocabulary, Language, List, NoneAgrees, Ok, Opened, Option, Plan, Quacq, Result, UsageFault, ending_line, first_line_of, learned_in, length, network_text, standing_on, state_after, ℕ}
 use Rattle.acq_words.specs.declared.request.Command.TheVariants as command
 
 -- It goes on from the session of the journal, where the disk tells its bytes, and else from that of some bytes.
 pub record IsOfJournal (content : Option (List ℕ)) (l : Language) (plan : Plan) (events : List Event) : Type 0 where
   pub session : Opened
-  pub holds : ForSome content (λ bytes. Holds bytes session)
-  pub some : (bytes : List ℕ) × Holds bytes session
+  pub holds : ForSome content (λ bytes. SaysOpened bytes session)
+  pub some : (bytes : List ℕ) × SaysOpened bytes session
   pub lang : l ≡ session.lang
   pub plan_is : plan ≡ session.plan
   pub more : List Event

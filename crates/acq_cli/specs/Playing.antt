@@ -1,6 +1,6 @@
 -- What `play` has done.
-use Rattle.std.specs.Prelude.{◌++◌, ◌+◌, ◌↔◌, ◌∷◌, ◌≡◌, ◌≢◌, ◌≤◌, ◌⊎◌}
-use Rattle.acq_cli.specs.Prelude.{AllFault, Answer, Candidate, DiskOf, Ending, Err, Gives, GoesOn, HasSameSolutions, Holds, IfOk, IsNetwork, IsSaid, IsTrue, Language, List, NetFault, Ok, Opened, Option, Put, Refuses, RefusesOpening, Result, SFault, Saying, SaysOfInput, SaysOver, SaysSo, Terms, Unsaid, [], agrees, all_of, codes, decimal, false, learned_after, length, net_fault_text, net_may_say, net_turn, network_of, saying, standing_on, terms_with, ℕ}
+use Rattle.std.specs.Prelude.{◌++◌, ◌+◌, ◌∷◌, ◌≡◌, ◌≢◌, ◌≤◌, ◌⊎◌}
+use Rattle.acq_cli.specs.Prelude.{AllFault, Answer, Candidate, DiskOf, Drove, Ending, Err, Gives, RunGoesOn, HasSameSolutions, IfOk, IsNetwork, IsSaid, IsTrue, Language, List, MatchResult, NetFault, Ok, Opened, Opens, Option, Put, SaysRefusal, Result, SFault, Saying, SaysOfInput, SaysOver, SaysSo, Terms, Unsaid, [], agrees, all_of, codes, decimal, ending_of, false, learned_after, length, net_fault_text, net_may_say, net_turn, network_of, saying, standing_on, terms_with, ℕ}
 use Rattle.network.specs.declared.fault.NetFault.TheVariants as net
 use Rattle.acq_loop.specs.declared.ending.Ending.TheVariants as ending
 
@@ -29,7 +29,7 @@ SaysUnplayed left left' (Ok o) said =
     let m = length (standing_on o.lang o.events) in
     ((1 ≤ m) × IsSaid (saying (codes "refused not fresh " ++ (decimal m ++ 10 ∷ [])) (ending.NotFresh m)) said × (left' ≡ left))
     ⊎ ((standing_on o.lang o.events ≡ []) × SaysOfInput 4194304 (SaysNoNetwork o.lang) left left' said)
-SaysUnplayed left left' (Err fault) said = Refuses fault said × (left' ≡ left)
+SaysUnplayed left left' (Err fault) said = SaysRefusal fault said × (left' ≡ left)
 
 -- ---- Its answers
 
@@ -48,7 +48,7 @@ module _ {D : Type 0} (disk : DiskOf D) where
   -- no answer stood, and the run goes on by the answers of the target, behind which the input is left alone
   pub record IsPlayed (budget : ℕ) (left written left' written' : Option (List ℕ)) (old new : D) (got : Result Ending Put) : Type 0 where
     pub target : List Candidate
-    pub on : GoesOn disk (net_turn target false) (net_may_say target) budget left' written left' written' old new got
+    pub on : RunGoesOn disk (net_turn target false) (net_may_say target) budget left' written left' written' old new got
     pub fresh : standing_on on.of.lang on.of.events ≡ []
     pub reads : ReadsTarget on.of.lang left left' target
     pub answered : IsAnsweredBy target on.of.lang (terms_with on.of.plan budget) (standing_on on.of.lang on.later) got
@@ -59,9 +59,18 @@ module _ {D : Type 0} (disk : DiskOf D) where
 
 -- ---- Exactly when it refuses
 
--- A journal is refused exactly for what its bytes say, answers are told exactly where some stand, and a target is refused
--- exactly where none stand, for what the input's bytes say.
+-- A journal is refused for what its bytes say, answers are told where some stand, and a target is refused where none do, for what the
+-- input's bytes say. Else it ends as a run does.
+abbrev pub EndsPlaying : (bytes : List ℕ) → Result Opened SFault → Ending → Type 0
+EndsPlaying bytes (Err f) end = end ≡ ending.JournalRefused f
+EndsPlaying bytes (Ok o) end =
+    let t = standing_on o.lang o.events in
+    ((1 ≤ length t) × (end ≡ ending.NotFresh (length t)))
+    ⊎ ((t ≡ []) × MatchResult (network_of o.lang bytes) (λ target. (how : Drove) × (ending_of how ≡ Ok end)) (λ f. end ≡ ending.TargetRefused f))
+
+-- of what the file opens with, which is nothing else
 pub record PlaysExactly (bytes file : List ℕ) (end : Ending) : Type 0 where
-  pub opens : (f : SFault) → (end ≡ ending.JournalRefused f) ↔ RefusesOpening file f
-  pub stale : (m : ℕ) → (end ≡ ending.NotFresh m) ↔ ((o : Opened) × Holds file o × (1 ≤ m) × (m ≡ length (standing_on o.lang o.events)))
-  pub refused : (f : NetFault) → (end ≡ ending.TargetRefused f) ↔ ((o : Opened) × Holds file o × (standing_on o.lang o.events ≡ []) × (network_of o.lang bytes ≡ Err f))
+  pub opening : Result Opened SFault
+  pub there : Opens file opening
+  pub only : (other : Result Opened SFault) → Opens file other → other ≡ opening
+  pub is : EndsPlaying bytes opening end

@@ -1,6 +1,6 @@
 -- What the words ask of the program.
 use Rattle.std.specs.Prelude.{◌≡◌}
-use Rattle.acq_cli.specs.Prelude.{Bool, Command, Contents, Err, List, Memory, Ok, Option, Result, TakesSome, Usage, UsageFault, WordsFault, answer_to, false, true, ℕ}
+use Rattle.acq_cli.specs.Prelude.{Bool, Command, Contents, Err, List, Memory, Ok, Option, Result, TakesSome, Usage, UsageFault, WordsFault, request_of_words, false, true, ℕ}
 use Rattle.acq_words.specs.declared.request.Command.TheVariants as command
 
 abbrev pub command_in : Result Contents UsageFault → Result Command UsageFault
@@ -9,7 +9,7 @@ command_in (Err fault) = Err fault
 
 -- the command that the words ask for, or why they are refused
 unfoldable pub command_asked : List (List ℕ) → Result Command UsageFault
-command_asked words = command_in (answer_to words)
+command_asked words = command_in (request_of_words words)
 
 -- whether it is one over a journal, so that it touches the disk
 abbrev pub is_over_journal : Result Command UsageFault → Bool
@@ -38,10 +38,10 @@ is_reading (Ok command.Check) = true
 is_reading asked = false
 
 -- this is what a call answers about the words, or memory ran out
-abbrev pub IsAsked : Result Command UsageFault → Result Command WordsFault → Type 0
-IsAsked asked (Ok c) = asked ≡ Ok c
-IsAsked asked (Err (Usage fault)) = asked ≡ Err fault
-IsAsked asked (Err Memory) = Unit {0}
+abbrev pub IsCommandOf : Result Command UsageFault → Result Command WordsFault → Type 0
+IsCommandOf asked (Ok c) = asked ≡ Ok c
+IsCommandOf asked (Err (Usage fault)) = asked ≡ Err fault
+IsCommandOf asked (Err Memory) = Unit {0}
 
 -- The input has an end of what it had. What the words don't ask for is spared: the input isn't read, and the disk isn't touched.
 pub record Spares {D : Type 0} (asked : Result Command UsageFault) (left left' : Option (List ℕ)) (old new : D) : Type 0 where

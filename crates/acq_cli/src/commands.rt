@@ -4,7 +4,7 @@ ghost use Rattle.std.specs.Prelude.{◌≡◌, ◌≢◌, IfOk, Ok, Err};
 ghost use Rattle.acq_io.specs.Streams.{HasCalled, Rose, TakesSome};
 ghost use Rattle.acq_words.specs.Request.{IsBudget};
 ghost use Rattle.disk_model.specs.Disk.{Rose as DiskRose};
-ghost use Rattle.acq_said.specs.Journals.{Refuses};
+ghost use Rattle.acq_said.specs.Journals.{SaysRefusal};
 ghost use Rattle.acq_said.specs.Said.{SaysSo};
 ghost use Rattle.acq_words.specs.declared.request.Command.TheVariants.{Run};
 ghost use Rattle.acq_cli.specs.Doing.{Does};
@@ -27,7 +27,7 @@ pub(crate) fn refuse_journal<K: Sink>(
     fault: SFault,
     out: &mut K,
 ) -> Result<Ending, Put>
-    ensures refuses { SaysSo (Refuses fault) (K.written out.old) (K.written out.new) result }
+    ensures refuses { SaysSo (SaysRefusal fault) (K.written out.old) (K.written out.new) result }
     ensures no_fault { IfOk result (λ ending. ending ≢ Ending.WriteFault) }
     ensures no_read { IfOk result (λ ending. ending ≢ Ending.ReadFault) }
     ensures failed { result ≡ Err Put.Failed → Rose (K.faults out.old) (K.faults out.new) }

@@ -2,7 +2,7 @@
 
 ghost use Rattle.std.specs.Prelude.{◌≡◌, true, Ok, Err};
 ghost use Rattle.acq_io.specs.Streams.{HasCalled};
-ghost use Rattle.acq_words.specs.Request.{IsWithin};
+ghost use Rattle.acq_words.specs.Request.{CommandIsWithin};
 ghost use Rattle.disk_model.specs.Disk.{Rose as DiskRose};
 ghost use Rattle.acq_cli.specs.Doing.{Spoke};
 ghost use Rattle.acq_cli.specs.Words.{Spares, is_speaking};
@@ -18,7 +18,7 @@ use std::alloc::Global;
 use std::thread::Threads;
 
 /// Does what a command asks for that asks nothing itself, and says what is to be written.
-#[tactic(auto, using(acq_loop::proofs::Taking::takes_same, crate::proofs::Causes::called_unless))]
+#[tactic(auto, using(acq_loop::proofs::Taking::takes_same, acq_io::proofs::CallLemmas::called_not))]
 pub(crate) fn speak<R: Threads + Sync, S: Source, D: Disk, G: Gate>(
     rt: &R,
     alloc: Global,
@@ -28,7 +28,7 @@ pub(crate) fn speak<R: Threads + Sync, S: Source, D: Disk, G: Gate>(
     gate: &G,
 ) -> Result<Said, Unsaid>
     requires speaking { is_speaking command ≡ true }
-    requires within { IsWithin command }
+    requires within { CommandIsWithin command }
     ensures spoke { Spoke D.Disk command (S.left input.old) (S.left input.new) disk.old disk.new result }
     ensures spares { Spares (Ok command) (S.left input.old) (S.left input.new) disk.old disk.new }
     ensures read { HasCalled (S.faults input.old) (S.faults input.new) (S.late input.old) (S.late input.new) (result ≡ Err Unsaid.ReadFault) }

@@ -6,7 +6,7 @@ ghost use Rattle.assign.specs.Events.{Answer};
 ghost use Rattle.disk_model.specs.Disk.{Rose as DiskRose};
 ghost use Rattle.language.specs.Language.{IsLanguage};
 ghost use Rattle.language.specs.Answers.{standing_on};
-ghost use Rattle.query_gen.specs.Marks.{IsMadeFor};
+ghost use Rattle.query_gen.specs.Marks.{AreMarksFor};
 ghost use Rattle.session_core.specs.Settled.{IsSettled};
 ghost use Rattle.session_core.specs.Standing.{Stands, knowledge_of};
 ghost use Rattle.session_store.specs.Keeps.{Keeps, IsKeeping, IsSameSession};
@@ -16,18 +16,18 @@ ghost use Rattle.acq_loop.specs.Added.{IsTaught, MayEnd};
 ghost use Rattle.acq_loop.specs.Points.{point_of, terms_with};
 ghost use Rattle.acq_loop.specs.Loop.{HasReadAndWritten};
 ghost use Rattle.acq_said.specs.Breaks.{BreaksRun};
-ghost use Rattle.acq_said.specs.Trying.{Acquires, BreaksOff};
+ghost use Rattle.acq_said.specs.Trying.{Acquires, HasBrokenOff};
 ghost use Rattle.acq_said.specs.Exactly.{IsBrokenOff};
 ghost use Rattle.acq_said.specs.Endings.{HasAsked, Says, SaysPart, Tries};
 ghost use Rattle.acq_loop.specs.Program.{TellsCauses, ended_as};
-ghost use Rattle.acq_words.specs.Request.{IsBudget, IsWithin};
+ghost use Rattle.acq_words.specs.Request.{IsBudget, CommandIsWithin};
 ghost use Rattle.acq_said.specs.Said.{HasWritten};
 ghost use Rattle.acq_said.specs.Saying.{saying};
 ghost use Rattle.acq_cli.specs.Commands.{EndsExactly};
 ghost use Rattle.acq_cli.specs.Doing.{Does};
 ghost use Rattle.acq_cli.specs.Headline.{FindsNetwork, FindsNone};
 ghost use Rattle.acq_cli.specs.Completing.{Completes};
-ghost use Rattle.acq_cli.specs.Words.{IsAsked, Spares, command_asked};
+ghost use Rattle.acq_cli.specs.Words.{IsCommandOf, Spares, command_asked};
 ghost use Rattle.acq_loop.specs.Texts.{refusal_text, usage_text};
 
 use crate::commands::run_journal;
@@ -58,7 +58,7 @@ pub(crate) fn say<K: Sink>(
     drove: Drove,
     out: &mut K,
 ) -> Result<Ending, Put>
-    requires made { IsMadeFor (knowledge_of session.now).lang screen.now }
+    requires made { AreMarksFor (knowledge_of session.now).lang screen.now }
     ensures says { (budget : _) (t : List Answer) → Stands session.now t → let k = knowledge_of session.now in let terms = terms_with k.plan budget in
         HasEnded k.lang terms t drove → ((m : _) → drove ≡ Drove.Undecided m → TellsOpen k.lang terms t screen.now)
         → IfOk result (Says k.lang terms t (K.written out.old) (K.written out.new) drove) }
@@ -204,7 +204,7 @@ fn try_input<R: Threads + Sync, S: Source, K: Sink, G: Gate>(
 ) -> Result<Ending, Put>
     requires { IsBudget terms.budget }
     ensures acquires { IfOk result (Acquires terms (S.left input.old) (K.written out.old) (S.left input.new) (K.written out.new)) }
-    ensures part { OnErr result (BreaksOff terms (S.left input.old) (K.written out.old) (S.left input.new) (K.written out.new)) }
+    ensures part { OnErr result (HasBrokenOff terms (S.left input.old) (K.written out.old) (S.left input.new) (K.written out.new)) }
     ensures takes { TakesSome (S.left input.old) (S.left input.new) }
     ensures read { HasCalled (S.faults input.old) (S.faults input.new) (S.late input.old) (S.late input.new) (result ≡ Ok Ending.ReadFault) }
     ensures no_fault { IfOk result (λ ending. ending ≢ Ending.WriteFault) }
@@ -234,8 +234,8 @@ fn refuse_words<K: Sink>(alloc: Global, fault: UsageFault, out: &mut K) -> Resul
 
 /// The command that the words ask for.
 fn command_asked(alloc: Global, words: &[String]) -> Result<Command, WordsFault>
-    ensures is { IsAsked (command_asked (map string_bytes words.now)) result }
-    ensures within { IfOk result IsWithin }
+    ensures is { IsCommandOf (command_asked (map string_bytes words.now)) result }
+    ensures within { IfOk result CommandIsWithin }
 {
     match read_words(alloc, words) {
         Ok(request) => Ok(request.command),
@@ -245,7 +245,7 @@ fn command_asked(alloc: Global, words: &[String]) -> Result<Command, WordsFault>
 
 /// What the program does, and how it ends where the output takes all: a command over the journal on the disk, or one that
 /// touches no disk.
-#[tactic(auto, using(acq_loop::proofs::Taking::takes_same, crate::proofs::Causes::ok_causes, crate::proofs::Causes::called_idle))]
+#[tactic(auto, using(acq_loop::proofs::Taking::takes_same, crate::proofs::Causes::told_causes, crate::proofs::Causes::called_idle))]
 fn perform<R: Threads + Sync, S: Source, K: Sink, D: Disk, G: Gate>(
     rt: &R,
     alloc: Global,
@@ -257,10 +257,7 @@ fn perform<R: Threads + Sync, S: Source, K: Sink, D: Disk, G: Gate>(
 ) -> Result<Ending, Put>
     ensures does { Does D.Disk (command_asked (map string_bytes words.now)) (S.left input.old) (K.written out.old) (S.left input.new) (K.written out.new) disk.old disk.new result }
     ensures spares { Spares (command_asked (map string_bytes words.now)) (S.left input.old) (S.left input.new) disk.old disk.new }
-    ensures read { HasCalled (S.faults input.old) (S.faults input.new) (S.late input.old) (S.late input.new) (result ≡ Ok Ending.ReadFault) }
-    ensures causes { IfOk result (TellsCauses (S.faults input.old) (S.faults input.new) (S.late input.old) (S.late input.new) (K.faults out.old) (K.faults out.new) (D.faults disk.old) (D.faults disk.new)) }
-    ensures no_fault { IfOk result (λ ending. ending ≢ Ending.WriteFault) }
-    ensures failed { result ≡ Err Put.Failed → Rose (K.faults out.old) (K.faults out.new) }
+    ensures causes { TellsCauses (S.faults input.old) (S.faults input.new) (S.late input.old) (S.late input.new) (K.faults out.old) (K.faults out.new) (D.faults disk.old) (D.faults disk.new) (ended_as result) }
 {
     let command = match command_asked(alloc, words) {
         Ok(command) => command,
@@ -287,6 +284,17 @@ fn perform<R: Threads + Sync, S: Source, K: Sink, D: Disk, G: Gate>(
         | Command::Model
         | Command::Certify(_)
         | Command::Check => put(speak(rt, alloc, command, input, disk, gate), out),
+    }
+}
+
+/// How the program ends, where the output may have failed or memory was wanting.
+fn ended(got: Result<Ending, Put>) -> Ending
+    ensures { result ≡ ended_as got }
+{
+    match got {
+        Ok(ending) => ending,
+        Err(Put::Failed) => Ending::WriteFault,
+        Err(Put::Memory) => Ending::Memory,
     }
 }
 
@@ -319,9 +327,5 @@ pub fn acquire<R: Threads + Sync, S: Source, K: Sink, D: Disk, G: Gate>(
 {
     // a law: what refuses a file is the only reason
     no_two_readings();
-    match perform(rt, alloc, words, input, out, disk, gate) {
-        Ok(ending) => ending,
-        Err(Put::Failed) => Ending::WriteFault,
-        Err(Put::Memory) => Ending::Memory,
-    }
+    ended(perform(rt, alloc, words, input, out, disk, gate))
 }

@@ -28,21 +28,6 @@ called_as f g l m told said to fro called = record {
 pub called_not : (f l : ℕ) (told : Type 0) → (told → ⊥) → HasCalled f f l l told
 called_not f l told never = record { later = omega arith; rose = λ is. absurd (never is); well = λ none _. none; stopped = λ _. refl }
 
-pub stopped_not : (f l : ℕ) (told : Type 0) → (told → ⊥) → HasStopped f f l l told
-stopped_not f l told never = record { later = omega arith; rose = λ is. absurd (never is); stopped = λ _. refl }
-
--- calls after which no more come
-pub stopped_by : (f g l m : ℕ) (told said : Type 0) → (said → told) → HasCalled f g l m told → HasStopped f g l m said
-stopped_by f g l m told said fro called = record { later = called.later; rose = λ is. called.rose (fro is); stopped = called.stopped }
-
--- the same, after calls of which none failed
-pub stopped_on : (f g h l m n : ℕ) (told : Type 0) → HasCalled f g l m ⊥ → HasStopped g h m n told → HasStopped f h l n told
-stopped_on f g h l m n told first then = record {
-  later = omega (arith, first.later, then.later);
-  rose = λ is. omega (arith, first.later, then.rose is);
-  stopped = λ none. then.stopped (first.well none (λ is. is)) ∙ first.stopped none;
-}
-
 -- and then one call more, by what is known of it
 pub called_once : (f g h l m n : ℕ) (told : Type 0) → HasCalled f g l m ⊥ → g ≤ h → IsLate g m n → (told → h ≡ raised g) → ((told → ⊥) → h ≡ g) → HasCalled f h l n told
 called_once f g h l m n told first later late up same = record {

@@ -1,16 +1,16 @@
 -- A turn by what was heard of the teacher's word.
-use Rattle.acq_loop.proofs.Prelude.{◌≡◌, ◌⊎◌, ◌∙◌, ◌+◌, ◌<◌, ℕ, List, [], ◌∷◌, ◌++◌, length, true, false, is_some, ap, sym, subst, refl, inl, inr, Option, Some, None, ◌≢◌, IfSome, ForSome, AddsFront, Assignment, Event, Language, IsQuestion, variable_count, standing_on, Remembered, IsMadeFor, no_marks_hold, network_in, Turns, Reply, Said, TakenBack, Stopped, Ended, Overlong, Unread, Tells, Told, MayAdd, MayEnd, closing_of, ending_of, Closing, Next, Puts, Suspended, LineTooLong, Unreadable, answer, next_on, number_on, event_heard, Point, next_lines, HasEnded, IsPending, Remembers, EventKept, heard_of, event_on, MayKeep, Forgets, EndsAs, point_of, SaysNext, Terms, Drove, Entry}
-use Rattle.acq_loop.proofs.Short.{RanTo, MayFollow}
-use Rattle.assign.specs.declared.events.Event.TheVariants as event
+use Rattle.acq_loop.proofs.Prelude.{◌≡◌, ◌⊎◌, ◌∙◌, ◌+◌, ◌<◌, arith, ℕ, List, [], ◌∷◌, ◌++◌, length, true, false, is_some, ap, subst, refl, inl, inr, Option, Some, None, ◌≢◌, ForSome, Assignment, Event, Language, IsQuestion, variable_count, standing_on, Remembered, AreMarksFor, no_marks_hold, network_in, Turns, Reply, Said, TakenBack, Stopped, Ended, Overlong, Unread, Tells, Told, MayAdd, MayEnd, closing_of, ending_of, Closing, Puts, Suspended, LineTooLong, Unreadable, answer, next_on, number_on, event_heard, Point, HasEnded, IsPending, Remembers, EventKept, heard_of, event_on, MayKeep, Forgets, EndsAs, point_of, SaysNext, Terms, Drove, Entry}
+use Rattle.acq_loop.proofs.Short.{MayFollow}
 use Rattle.target_oracle.specs.declared.teacher.Told.TheVariants as told
 use Rattle.acq_loop.specs.declared.driving.Drove.TheVariants as drove
 use Rattle.acq_loop.specs.declared.driving.Entry.TheVariants as entry
 use Rattle.acq_loop.specs.declared.driving.Heard.TheVariants as heard
 use Rattle.acq_loop.proofs.Answered.{ends_closed, ends_failed, not_full_with}
-use Rattle.acq_loop.proofs.Reached.{IsReached, some_stand}
+use Rattle.acq_loop.proofs.Reached.{IsReached, some_there}
 use Rattle.acq_loop.proofs.Running.{EndsSo, next_put, room_not_full}
 use Rattle.acq_loop.proofs.Standings.{AtQuestion, marks_after, run_laws, within}
-use Rattle.acq_loop.proofs.Turning.{AskedSo, ToldSo, FrontSo, asked_as, told_as, front_as, front_of_turn, ran_closed, cut_turn}
+use Rattle.acq_loop.proofs.Turning.{AskedSo, ToldSo, FrontSo, ran_closed, cut_turn}
+use Rattle.target_oracle.proofs.Fronts.{front_whole}
 
 -- the reply of which an entry is kept
 abbrev pub reply_of : Entry → Reply
@@ -40,18 +40,6 @@ word_ended told.WriteFault count d P is stop end long unread read write memory =
 word_ended told.Memory count d P is stop end long unread read write memory = let same : drove.Memory ≡ d = cc in subst (P told.Memory) same memory
 word_ended t count d P is stop end long unread read write memory = absurd (let bad : ⊥ = cc in bad)
 
--- the loop ends by a fault where the word says so
-pub word_read : (t : Told) (count : ℕ) (d : Drove) → heard_of t count ≡ heard.End d → Some d ≡ Some drove.ReadFault → t ≡ told.ReadFault
-word_read t count d is =
-    word_ended t count d (λ w e. Some e ≡ Some drove.ReadFault → w ≡ told.ReadFault) is
-    (λ e. absurd cc) (λ e. absurd cc) (λ e. absurd cc) (λ e. absurd cc) (λ e. refl) (λ e. absurd cc) (λ e. absurd cc)
-
-pub word_write : (t : Told) (count : ℕ) (d : Drove) → heard_of t count ≡ heard.End d → Some d ≡ Some drove.WriteFault → t ≡ told.WriteFault
-word_write t count d is =
-    word_ended t count d (λ w e. Some e ≡ Some drove.WriteFault → w ≡ told.WriteFault) is
-    (λ e. absurd cc) (λ e. absurd cc) (λ e. absurd cc) (λ e. absurd cc) (λ e. absurd cc) (λ e. refl) (λ e. absurd cc)
-
--- the end of an entry is no other fault
 -- whether the disk failed
 pub disk_failed : (e : Event) (before after : List Event) (end : Option Drove) → EventKept e before after end → (end ≡ Some drove.DiskFault) ⊎ (end ≡ Some drove.DiskFault → ⊥)
 disk_failed e before after None kept = inr (λ is. cc)
@@ -81,7 +69,7 @@ word_may_add l t count e may q is fits =
 pub word_follows : (l : Language) (events : List Event) (t : Told) (count : ℕ) (e : Entry) (q : Assignment) → heard_of t count ≡ heard.Keep e → count ≡ length (standing_on l events) → (t ≡ told.Back → 1 < count + 1) → MayFollow events q (event_on e (Some q))
 word_follows l events t count e q is number =
     word_kept t count e (λ w n. (w ≡ told.Back → 1 < count + 1) → MayFollow events q (event_on n (Some q))) is
-    (λ back. inl (true, refl)) (λ back. inl (false, refl)) (λ back. inr (refl, some_stand l events (count + 1) (ap (λ n. n + 1) number) (back refl)))
+    (λ back. inl (true, refl)) (λ back. inl (false, refl)) (λ back. inr (refl, some_there l events count number (let some = back refl in omega (arith, some))))
 
 pub may_keep : (events : List Event) (q : Assignment) (put : Option Assignment) (e : Entry) → put ≡ Some q → MayFollow events q (event_on e (Some q)) → MayKeep events put e
 may_keep events q put (entry.Answer reply) is follows = ap is_some is
@@ -91,13 +79,11 @@ may_keep events q put entry.Back is (inr stands) = stands.1
 -- the marks stay true, or there are none
 pub hold_after : (l : Language) (terms : Terms) (events later : List Event) (q : Assignment) (e : Entry) (old new : Remembered) → IsReached l terms.plan (standing_on l events) → length q ≡ variable_count l →
     later ≡ events ++ event_on e (Some q) ∷ [] → Forgets e old new → Remembers l terms (standing_on l events) old → Remembers l terms (standing_on l later) new
-hold_after l terms events later q (entry.Answer reply) old new reached size is same remembers =
-    let Marked : Remembered → Type 0 = λ marks. Remembers l terms (standing_on l later) marks in
-    subst Marked (sym same) (marks_after l terms events later q reply old reached size is remembers)
+hold_after l terms events later q (entry.Answer reply) old new reached size is same remembers = rw same (marks_after l terms events later q reply old reached size is remembers)
 hold_after l terms events later q entry.Back old new reached size is none remembers = λ state at. no_marks_hold l (network_in state) terms.budget new none
 
 -- ---- a turn at which this question is put, by what the teacher told of it
-module _ (l m : Language) (terms : Terms) (events : List Event) (count : ℕ) (q : Assignment) (asked : AtQuestion l terms events count m q) (turns : Turns) (left written left' written' : Option (List ℕ)) where
+module _ (l : Language) (terms : Terms) (events : List Event) (q : Assignment) (asked : AtQuestion l terms events q) (turns : Turns) (left written left' written' : Option (List ℕ)) where
   abbrev here : Point
   here = point_of events left written
 
@@ -106,66 +92,45 @@ module _ (l m : Language) (terms : Terms) (events : List Event) (count : ℕ) (q
 
   -- what the teacher's call says of the word
   abbrev pub Spoken : Told → Type 0
-  Spoken t = ForSome left (λ bytes. Tells (turns m (count + 1) q bytes) written left' written' t)
+  Spoken t = ForSome left (λ bytes. Tells (turns l (number_on l events) q bytes) written left' written' t)
 
-  told_here : (reply : Reply) → ToldSo turns m (count + 1) q here there reply → ToldSo turns l (number_on l events) q here there reply
-  told_here reply = told_as turns m l (count + 1) (number_on l events) q here there reply asked.at.language (ap (λ n. n + 1) asked.at.number)
+  comes : next_on l terms events ≡ Some (Puts q)
+  comes = next_put l terms events q asked.puts (room_not_full events asked.room)
 
-  pub word_told : (t : Told) (e : Entry) → heard_of t count ≡ heard.Keep e → Spoken t → ToldSo turns l (number_on l events) q here there (reply_of e)
-  word_told t e is = word_kept t count e (λ w n. Spoken w → ToldSo turns l (number_on l events) q here there (reply_of n)) is (told_here (Said true)) (told_here (Said false)) (told_here TakenBack)
-
-  front_here : FrontSo turns m (count + 1) q here there → FrontSo turns l (number_on l events) q here there
-  front_here = front_as turns m l (count + 1) (number_on l events) q here there asked.at.language (ap (λ n. n + 1) asked.at.number)
-
-  pub word_asked : AskedSo turns m (count + 1) q here there → AskedSo turns l (number_on l events) q here there
-  word_asked = asked_as turns m l (count + 1) (number_on l events) q here there asked.at.language (ap (λ n. n + 1) asked.at.number)
+  pub word_told : (t : Told) (count : ℕ) (e : Entry) → heard_of t count ≡ heard.Keep e → Spoken t → ToldSo turns l q here there (reply_of e)
+  word_told t count e is = word_kept t count e (λ w n. Spoken w → ToldSo turns l q here there (reply_of n)) is (λ said. said) (λ said. said) (λ said. said)
 
   -- what was written goes no further than the question's lines, whatever was said
-  word_front : (t : Told) → Spoken t → FrontSo turns l (number_on l events) q here there
-  word_front told.Yes said = front_of_turn turns l (number_on l events) q here there (Said true) (told_here (Said true) said)
-  word_front told.No said = front_of_turn turns l (number_on l events) q here there (Said false) (told_here (Said false) said)
-  word_front told.Back said = front_of_turn turns l (number_on l events) q here there TakenBack (told_here TakenBack said)
-  word_front told.Stop said = front_of_turn turns l (number_on l events) q here there Stopped (told_here Stopped said)
-  word_front told.End said = front_of_turn turns l (number_on l events) q here there Ended (told_here Ended said)
-  word_front told.TooLong said = front_of_turn turns l (number_on l events) q here there Overlong (told_here Overlong said)
-  word_front told.Unreadable said = front_of_turn turns l (number_on l events) q here there Unread (told_here Unread said)
-  word_front t said = front_here said
+  word_front : (t : Told) → Spoken t → FrontSo turns l q here there
+  word_front told.ReadFault said = said
+  word_front told.WriteFault said = said
+  word_front told.Memory said = said
+  word_front t said = λ bytes is. front_whole written written' (turns l (number_on l events) q bytes).text (said bytes is).text
 
   pub word_says_next : (t : Told) → Spoken t → SaysNext turns l terms events left written written'
-  word_says_next t said bytes is =
-      let comes : next_on l terms events ≡ Some (Puts q) = next_put l terms events q asked.puts (room_not_full events asked.room) in
-      let Fronts : Option Next → Type 0 = λ next. AddsFront written written' (next_lines turns l events bytes next) in
-      subst Fronts (sym comes) (word_front t said bytes is)
+  word_says_next t said bytes is = rw comes (word_front t said bytes is)
 
   -- how the loop ends
-  pub word_ends : (t : Told) (d : Drove) (marks : Remembered) → IsMadeFor l marks → heard_of t count ≡ heard.End d → AskedSo turns m (count + 1) q here there → Spoken t → EndsAs turns l terms here there marks d
+  pub word_ends : (t : Told) (d : Drove) (marks : Remembered) → AreMarksFor l marks → heard_of t (length (standing_on l events)) ≡ heard.End d → AskedSo turns l q here there → Spoken t → EndsAs turns l terms here there marks d
   word_ends t d marks made is first =
-      word_ended t count d (λ w e. Spoken w → EndsAs turns l terms here there marks e) is (suspends Stopped (λ again rest. refl)) (suspends Ended (λ again rest. refl))
-      (λ told. closes drove.LineTooLong (λ m e. cc) (λ e. cc) (λ e. cc) (λ e. cc) (record { number = tt; found = due }) (ran LineTooLong Overlong (λ again rest. refl) told))
-      (λ told. closes drove.Unreadable (λ m e. cc) (λ e. cc) (λ e. cc) (λ e. cc) (record { number = tt; found = due }) (ran Unreadable Unread (λ again rest. refl) told))
-      (λ told. fails drove.ReadFault (λ m e. cc) (λ e. cc) (record { number = tt; found = tt }) tt (λ e. cc) told)
-      (λ told. fails drove.WriteFault (λ m e. cc) (λ e. cc) (record { number = tt; found = tt }) tt (λ e. cc) told)
-      (λ told. fails drove.Memory (λ m e. cc) (λ e. cc) (record { number = tt; found = tt }) tt (λ e. cc) told)
+      word_ended t _ d (λ w e. Spoken w → EndsAs turns l terms here there marks e) is (suspends Stopped (λ again rest. refl)) (suspends Ended (λ again rest. refl))
+      (λ said. closes drove.LineTooLong LineTooLong Overlong refl (λ e. cc) (λ m e. cc) (record { number = tt; found = due }) (λ again rest. refl) said)
+      (λ said. closes drove.Unreadable Unreadable Unread refl (λ e. cc) (λ m e. cc) (record { number = tt; found = due }) (λ again rest. refl) said)
+      (fails drove.ReadFault refl (λ e. cc) (record { number = tt; found = tt }))
+      (fails drove.WriteFault refl (λ e. cc) (record { number = tt; found = tt }))
+      (fails drove.Memory refl (λ e. cc) (record { number = tt; found = tt }))
     where
       due : IsPending l terms (standing_on l events)
       due = (q, asked.puts)
 
-      comes : next_on l terms events ≡ Some (Puts q)
-      comes = next_put l terms events q asked.puts (room_not_full events asked.room)
+      closes : (how : Drove) (closing : Closing) (reply : Reply) → closing_of how ≡ Some closing → how ≢ drove.JournalFull → ((m : ℕ) → how ≢ drove.Undecided m) → HasEnded l terms (standing_on l events) how →
+          EndsSo reply closing events q → ToldSo turns l q here there reply → EndsAs turns l terms here there marks how
+      closes how closing reply is room decided says ends said =
+          ends_closed turns l terms here there marks made how closing is says (λ m e. absurd (decided m e)) (ran_closed turns l terms q here there comes reply closing refl ends said) (not_full_with l terms events how room asked.room)
 
-      ran : (closing : Closing) (reply : Reply) → EndsSo reply closing events q → ToldSo turns m (count + 1) q here there reply → RanTo turns l terms closing here there
-      ran closing reply ends told = ran_closed turns l terms q reply closing here there comes refl ends (told_here reply told)
+      suspends : (reply : Reply) → EndsSo reply Suspended events q → ToldSo turns l q here there reply → EndsAs turns l terms here there marks (drove.Suspended (length (standing_on l events)))
+      suspends reply = closes (drove.Suspended (length (standing_on l events))) Suspended reply refl (λ e. cc) (λ m e. cc) (record { number = refl; found = due })
 
-      closes : (how : Drove) → ((n : ℕ) → how ≢ drove.Undecided n) → how ≢ drove.JournalFull → (closing_of how ≢ None) → how ≢ drove.DiskFault → HasEnded l terms (standing_on l events) how →
-          IfSome (closing_of how) (λ c. RanTo turns l terms c here there) → EndsAs turns l terms here there marks how
-      closes how decided full some kept says run = ends_closed turns l terms here there marks made how decided (not_full_with l terms events how full asked.room) some kept says run
-
-      suspends : (reply : Reply) → EndsSo reply Suspended events q → ToldSo turns m (count + 1) q here there reply → EndsAs turns l terms here there marks (drove.Suspended count)
-      suspends reply ends told = closes (drove.Suspended count) (λ n e. cc) (λ e. cc) (λ e. cc) (λ e. cc) (record { number = asked.at.number; found = due }) (ran Suspended reply ends told)
-
-      fails : (how : Drove) → ((n : ℕ) → how ≢ drove.Undecided n) → how ≢ drove.JournalFull → HasEnded l terms (standing_on l events) how → IfSome (closing_of how) (λ c. RanTo turns l terms c here there) → how ≢ drove.DiskFault →
-          FrontSo turns m (count + 1) q here there → EndsAs turns l terms here there marks how
-      fails how decided full says run other front =
-          ends_failed turns l terms here there marks made how decided (not_full_with l terms events how full asked.room) says run (λ e. absurd (other e)) due
-          (cut_turn run_laws turns l terms asked.at.lawful q here there (within l terms events count m q asked) comes refl
-          (front_as turns m l (count + 1) (number_on l events) q here there asked.at.language (ap (λ n. n + 1) asked.at.number) front) (word_asked first))
+      fails : (how : Drove) → closing_of how ≡ None → how ≢ drove.DiskFault → HasEnded l terms (standing_on l events) how → FrontSo turns l q here there → EndsAs turns l terms here there marks how
+      fails how failed other says front =
+          ends_failed turns l terms here there marks made how failed says (λ e. absurd (other e)) due (cut_turn turns l terms q here there comes run_laws asked.lawful (within l terms events q asked) refl front first) asked.room

@@ -6,6 +6,7 @@ pub mod Reached
 pub mod Running
 pub mod Turning
 pub mod Standings
+pub mod Serving
 pub mod Added
 pub mod Answered
 pub mod Entries

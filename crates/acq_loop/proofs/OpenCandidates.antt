@@ -1,43 +1,21 @@
 -- The open candidates.
-use Rattle.acq_loop.proofs.Prelude.{◌≡◌, ◌<◌, Bool, true, false, cond, ◌||◌, List, [], ◌∷◌, get_or, refl, sym, ◌∙◌, ap, Option, ◌≢◌, ◌==◌, ◌&&◌, IsTrue, All, Any, filter, list_any, and_from, eq-eqb, All-filter, All-head, All-tail, filter_passes, list_any_at, Answer, Candidate, Language, IsCandidate, candidates, kept, outcome_of_candidate, is_among, is_spent, IsUndecided, Remembered, is_open, WalkEnd, Idle, At, state_after, all_candidates, Terms, TellsOpen}
+use Rattle.acq_loop.proofs.Prelude.{◌≡◌, ◌<◌, Bool, true, List, [], ◌∷◌, get_or, refl, ◌∙◌, ap, Option, ◌≢◌, inl, inr, cases_Bool, ◌==◌, ◌&&◌, IsTrue, All, Any, filter, list_any, and_from, eq-eqb, All-filter, All-head, All-tail, filter_passes, list_any_at, Answer, Candidate, Language, IsCandidate, candidates, kept, outcome_of_candidate, is_among, is_spent, IsUndecided, Remembered, is_open, WalkEnd, Idle, At, state_after, all_candidates, Terms, TellsOpen}
 use Rattle.language.specs.Search.{plain_size}
 use Rattle.fd_solver.specs.declared.outcome.Outcome.{Outcome}
-use Rattle.fd_solver.specs.declared.outcome.Outcome.TheVariants.{Found, Absent, Spent}
+use Rattle.fd_solver.specs.declared.outcome.Outcome.TheVariants.{Spent}
 use Rattle.acq_loop.specs.Texts.{open_candidates}
+use Rattle.shared_lemmas.proofs.Lists.{filter_and}
 use Rattle.query_gen.proofs.Among.{picked_are_in_order}
 
 -- ---- lists
 
 filter_alike : {X : Type 0} (P : X → Type 0) (p q : X → Bool) (xs : List X) → All P xs → ((x : X) → P x → p x ≡ q x) → filter p xs ≡ filter q xs
 filter_alike P p q [] all same = refl
-filter_alike P p q (x ∷ xs) all same =
-    ap (λ b. cond b (x ∷ filter p xs) (filter p xs)) (same x (All-head P x xs all))
-    ∙ ap (λ rest. cond (q x) (x ∷ rest) rest) (filter_alike P p q xs (All-tail P x xs all) same)
-
-filter_both : {X : Type 0} (p q : X → Bool) (xs : List X) → filter (λ x. p x && q x) xs ≡ filter q (filter p xs)
-filter_both p q [] = refl
-filter_both p q (x ∷ xs) = go (p x) refl (filter_both p q xs)
-  where
-    go : (b : Bool) → p x ≡ b → filter (λ y. p y && q y) xs ≡ filter q (filter p xs) → filter (λ y. p y && q y) (x ∷ xs) ≡ filter q (filter p (x ∷ xs))
-    go true on rest =
-        ap (λ b. cond (b && q x) (x ∷ filter (λ y. p y && q y) xs) (filter (λ y. p y && q y) xs)) on
-        ∙ ap (λ ys. cond (q x) (x ∷ ys) ys) rest
-        ∙ ap (λ b. filter q (cond b (x ∷ filter p xs) (filter p xs))) (sym on)
-    go false off rest =
-        ap (λ b. cond (b && q x) (x ∷ filter (λ y. p y && q y) xs) (filter (λ y. p y && q y) xs)) off
-        ∙ rest
-        ∙ ap (λ b. filter q (cond b (x ∷ filter p xs) (filter p xs))) (sym off)
+filter_alike P p q (x ∷ xs) all same = rw (same x (All-head P x xs all), filter_alike P p q xs (All-tail P x xs all) same)
 
 filter_some : {X : Type 0} (p : X → Bool) (xs : List X) → list_any p xs ≡ true → filter p xs ≢ []
 filter_some p [] some = cc
-filter_some p (x ∷ xs) some = go (p x) refl (filter_some p xs)
-  where
-    go : (b : Bool) → p x ≡ b → (list_any p xs ≡ true → filter p xs ≢ []) → filter p (x ∷ xs) ≢ []
-    go true on rest none = cons_nil (ap (λ b. cond b (x ∷ filter p xs) (filter p xs)) (sym on) ∙ none)
-      where
-        cons_nil : x ∷ filter p xs ≡ [] → ⊥
-        cons_nil e = cc
-    go false off rest none = rest (ap (λ b. b || list_any p xs) (sym off) ∙ some) (ap (λ b. cond b (x ∷ filter p xs) (filter p xs)) (sym off) ∙ none)
+filter_some p (x ∷ xs) some = elim (cases_Bool (p x)) [ inl on ↦ rw on (λ e. cc) | inr off ↦ rw off (filter_some p xs (rw off at some)) ]
 
 -- ---- what the screen tells
 
@@ -47,13 +25,12 @@ opens_are l terms t network end screen idle tells =
     let live : List Candidate = kept l t network in
     let spent : Candidate → Bool = λ c. is_spent (outcome_of_candidate l network c terms.budget) in
     filter_alike (IsCandidate l) (is_open l screen) (λ c. is_among live c && spent c) (candidates l) (all_candidates l) (λ c is. tells network end idle c is)
-    ∙ filter_both (is_among live) spent (candidates l)
+    ∙ filter_and (is_among live) spent (candidates l)
     ∙ ap (filter spent) (picked_are_in_order l _)
 
 is_spent_true : (o : Outcome) → is_spent o ≡ true → o ≡ Spent
-is_spent_true (Found e) h = cc
-is_spent_true Absent h = cc
 is_spent_true Spent h = refl
+is_spent_true o h = cc
 
 among_itself : (cs : List Candidate) → All (λ c. IsTrue (is_among cs c)) cs
 among_itself cs k d low =

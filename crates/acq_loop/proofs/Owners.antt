@@ -1,5 +1,5 @@
 -- What comes of it where one network gave each answer.
-use Rattle.acq_loop.proofs.Prelude.{List, Option, Some, None, IfSome, IsTrue, Answer, Candidate, Language, IsNetwork, agrees, Closing, Converged, Collapsed, Undecided, Suspended, LineTooLong, Unreadable, JournalFull, Terms, HasFound, IsOwned}
+use Rattle.acq_loop.proofs.Prelude.{List, Option, Some, None, IfSome, IsTrue, Answer, Candidate, Language, IsNetwork, agrees, Closing, Converged, Collapsed, Terms, HasFound, IsOwned}
 
 owned_at : (l : Language) (terms : Terms) (t : List Answer) (closing : Closing) (owner : List Candidate) → HasFound l terms t closing → IsNetwork l owner → IsTrue (agrees l owner t) → IsOwned l terms owner t closing
 owned_at l terms t Converged owner found lawful agreeing = (found.network, found.end, found.idle, found.converged.only owner lawful agreeing)

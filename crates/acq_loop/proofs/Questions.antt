@@ -1,5 +1,5 @@
 -- What the next question's search says of a session.
-use Rattle.acq_loop.proofs.Prelude.{◌≡◌, ℕ, true, List, Option, ◌∙◌, ap, IsTrue, Any, ◌&&◌, All-filter, list_any_at, and_from, Assignment, is_complete, Answer, Plan, Quacq, Multi, Candidate, Language, IsLanguage, IsCandidate, IsQuestion, candidates, is_question, accepts, violates, IsNetwork, kept, Ask, next_query, AskedIsLawful, AllAreImplied, UndecidedIsSpent, MarksStay, State, Idle, At, is_lawful, state_after, WalkEnd, violates_some, all_candidates, idle_is_in_step}
+use Rattle.acq_loop.proofs.Prelude.{◌≡◌, ◌≢◌, refl, ℕ, true, List, Option, ◌∙◌, ap, IsTrue, Any, All-filter, list_any_at, and_from, Assignment, Answer, Plan, Scopes, Candidate, Language, IsLanguage, IsCandidate, IsQuestion, candidates, violates, IsNetwork, kept, Ask, next_query, AskedIsLawful, AllAreImplied, UndecidedIsSpent, MarksStay, State, Idle, At, is_lawful, state_after, WalkEnd, violates_some, all_candidates, idle_is_in_step}
 use Rattle.language.proofs.Ranged.{question_passes}
 use Rattle.fd_solver.specs.Laws.{IsQuestionAgainst}
 use Rattle.fd_solver.proofs.Outcomes.{absent_is_implied, absent_stays, found_is_lawful}
@@ -9,12 +9,8 @@ use Rattle.query_gen.proofs.Marking as marking
 
 -- a question that may be put in the plans that search
 pub record IsLawfulExample (l : Language) (live network : List Candidate) (q : Assignment) : Type 0 where
-  pub quacq : IsTrue (is_lawful l Quacq live network q)
-  pub multi : IsTrue (is_lawful l Multi live network q)
+  pub lawful : (plan : Plan) → plan ≢ Scopes → IsTrue (is_lawful l plan live network q)
   pub fits : IsQuestion l q
-
-pub same_state : (a b : State) → At a ≡ At b → a ≡ b
-same_state a b e = cc
 
 pub asked_is_lawful : AskedIsLawful
 asked_is_lawful = told.asked_is_lawful found_is_lawful
@@ -42,6 +38,8 @@ asked_is_example l plan budget t network end q lawful at h =
     let legal : IsNetwork l network = (idle_is_in_step l plan t network end lawful at).lawful in
     let any : Any (λ c. IsQuestionAgainst l network c q) live = asked_is_lawful l network live budget q lawful legal (kept_network l t network) h in
     let against : IsQuestionAgainst l network any.1 q = any.4 in
-    let passes : (is_question l q && is_complete q && accepts l network q && violates_some l live q) ≡ true =
-    and_from _ _ (and_from _ _ (and_from _ _ (question_passes l q against.question) against.complete) against.accepted) (violated_there l live network q any) in
-    record { quacq = passes; multi = passes; fits = against.question }
+    record { lawful = may against (violated_there l live network q any); fits = against.question }
+  where
+    may : {c : Candidate} → IsQuestionAgainst l network c q → violates_some l (kept l t network) q ≡ true → (p : Plan) → p ≢ Scopes → IsTrue (is_lawful l p (kept l t network) network q)
+    may against violated Scopes other = absurd (other refl)
+    may against violated p other = and_from _ _ (and_from _ _ (and_from _ _ (question_passes l q against.question) against.complete) against.accepted) violated

@@ -1,5 +1,5 @@
 -- Answers that have places.
-use Rattle.acq_loop.proofs.Prelude.{◌≡◌, ℕ, zero, suc, ◌+◌, ◌-◌, ◌<◌, ◌≤◌, List, [], ◌∷◌, ◌++◌, length, take, refl, sym, ◌∙◌, ap, subst, arith, Option, Some, None, length-map, take-map, Answer, standing, without_last, cut_to, Event, Plan, standing-back, Language, variable_count, standing_on, State, Idle, At, then_on, step, read_on, state_after}
+use Rattle.acq_loop.proofs.Prelude.{◌≡◌, ℕ, zero, suc, ◌+◌, ◌-◌, ◌≤◌, List, [], ◌∷◌, ◌++◌, length, take, refl, sym, ◌∙◌, ap, arith, Option, Some, None, length-map, take-map, Answer, standing, without_last, cut_to, Event, Plan, standing-back, Language, variable_count, standing_on, State, Idle, At, lead_on, step, read_on, state_after}
 use Rattle.assign.specs.declared.events.Event.TheVariants as event
 
 abbrev pub IsReached : Language → Plan → List Answer → Type 0
@@ -14,16 +14,13 @@ front_read l plan (suc n) [] before start final h = (start, refl)
 front_read l plan (suc n) (a ∷ t) before start final h =
     go (step l plan before a start) refl h (λ middle rest. front_read l plan n t (before ++ a ∷ []) middle final rest)
   where
-    go : (o : Option State) → step l plan before a start ≡ o → then_on (length before + 1) o (λ middle. read_on l plan (before ++ a ∷ []) middle t) ≡ At final →
+    go : (o : Option State) → step l plan before a start ≡ o → lead_on (length before + 1) o (λ middle. read_on l plan (before ++ a ∷ []) middle t) ≡ At final →
         ((middle : State) → read_on l plan (before ++ a ∷ []) middle t ≡ At final → (mid : State) × (read_on l plan (before ++ a ∷ []) middle (take n t) ≡ At mid)) →
-        (mid : State) × (then_on (length before + 1) (step l plan before a start) (λ middle. read_on l plan (before ++ a ∷ []) middle (take n t)) ≡ At mid)
+        (mid : State) × (lead_on (length before + 1) (step l plan before a start) (λ middle. read_on l plan (before ++ a ∷ []) middle (take n t)) ≡ At mid)
     go None e h rest = absurd (let no : ⊥ = cc in no)
     go (Some middle) e h rest =
         let on = rest middle h in
-        (on.0, ap (λ o. then_on (length before + 1) o (λ middle. read_on l plan (before ++ a ∷ []) middle (take n t))) e ∙ on.1)
-
-pub front_reached : (l : Language) (plan : Plan) (n : ℕ) (t : List Answer) → IsReached l plan t → IsReached l plan (take n t)
-front_reached l plan n t (state, at) = front_read l plan n t [] (Idle [] None) state at
+        (on.0, ap (λ o. lead_on (length before + 1) o (λ middle. read_on l plan (before ++ a ∷ []) middle (take n t))) e ∙ on.1)
 
 -- ---- how many
 
@@ -31,16 +28,9 @@ front_reached l plan n t (state, at) = front_read l plan n t [] (Idle [] None) s
 pub standing_size : (l : Language) (events : List Event) → length (standing_on l events) ≡ length (standing events)
 standing_size l events = length-map (standing events) (λ (a : Answer). let b : Answer = record { question = take (variable_count l) a.question; yes = a.yes } in b)
 
-none_long : (t : List Answer) → t ≡ [] → length t ≡ 0
-none_long t none = ap length none
-
--- where one stands, some do
-pub some_stand : (l : Language) (events : List Event) (k : ℕ) → k ≡ length (standing_on l events) + 1 → 1 < k → (standing events ≡ [] → ⊥)
-some_stand l events k is low none = omega (arith, is, low, standing_size l events, none_long (standing events) none)
-
 -- where there is one, the list isn't empty
 pub some_there : (l : Language) (events : List Event) (m : ℕ) → m ≡ length (standing_on l events) → 1 ≤ m → (standing events ≡ [] → ⊥)
-some_there l events m is some none = omega (arith, is, some, standing_size l events, none_long (standing events) none)
+some_there l events m is some none = omega (arith, is, some, standing_size l events, ap (λ (t : List Answer). length t) none)
 
 -- ---- a take-back
 
@@ -52,7 +42,7 @@ standing_on-back l events =
     ∙ ap (λ n. take (n - 1) (standing_on l events)) (sym (standing_size l events))
 
 pub back_reached : (l : Language) (plan : Plan) (events : List Event) → IsReached l plan (standing_on l events) → IsReached l plan (standing_on l (events ++ event.Back ∷ []))
-back_reached l plan events reached =
+back_reached l plan events (state, at) =
     let t : List Answer = standing_on l events in
-    let Reached : List Answer → Type 0 = IsReached l plan in
-    subst Reached (sym (standing_on-back l events)) (front_reached l plan (length t - 1) t reached)
+    let back : IsReached l plan (take (length t - 1) t) = front_read l plan (length t - 1) t [] (Idle [] None) state at in
+    rw (standing_on-back l events) back

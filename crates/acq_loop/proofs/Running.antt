@@ -1,5 +1,5 @@
 -- Runs, one turn at a time.
-use Rattle.acq_loop.proofs.Prelude.{◌≡◌, ℕ, zero, suc, ◌+◌, ◌<◌, ◌≤◌, List, [], ◌∷◌, ◌++◌, Bool, true, false, length, ap, subst, sym, ◌∙◌, refl, Option, Some, None, arith, append_assoc, length-append, ⊎_elim, cases_lt, eq-eqb, eqb-true, append-nil, option_map, Assignment, Answer, Event, Plan, Scopes, Quacq, Multi, cut_to-standing-push, Candidate, Language, IsLanguage, variable_count, kept, standing_on, Ask, AllImplied, next_query, WalkEnd, answer_event, Terms, State, Idle, Halving, Choosing, Walking, Over, At, is_just, step, state_after, assignment_same, IsAskedIn, OneAnswerMore, QuestionsHavePlaces, QuestionsHaveValues, Turns, Turned, Reply, Said, TakenBack, Stopped, Ended, Overlong, Unread, Closing, Suspended, LineTooLong, Unreadable, Collapsed, Converged, JournalFull, Next, Puts, Ends, searched, idle_next, next_at, next_in, next_after, is_full, unless_full, next_on, number_on, Ran, after_text, answer, ended, event_heard, heard_on, put_on, ran, Runs}
+use Rattle.acq_loop.proofs.Prelude.{◌≡◌, ℕ, zero, suc, ◌+◌, ◌<◌, ◌≤◌, List, [], ◌∷◌, ◌++◌, Bool, true, false, length, ap, sym, ◌∙◌, refl, Option, Some, None, arith, append_assoc, length-append, ⊎_elim, cases_lt, eq-eqb, eqb-true, append-nil, option_map, Assignment, Answer, Event, Plan, Scopes, cut_to-standing-push, Candidate, Language, IsLanguage, variable_count, kept, standing_on, Ask, AllImplied, next_query, WalkEnd, answer_event, Terms, State, Idle, Over, At, is_just, step, state_after, assignment_same, IsAskedIn, IsAskedAfter, IsTrue, false_from_ne_true, OneAnswerMore, QuestionsHavePlaces, QuestionsHaveValues, Turns, Turned, Reply, Said, TakenBack, Overlong, Unread, Closing, Suspended, LineTooLong, Unreadable, Collapsed, Converged, JournalFull, Next, Puts, Ends, searched, idle_next, next_at, next_in, next_after, is_full, unless_full, next_on, number_on, Ran, after_text, answer, ended, event_heard, heard_on, put_on, ran, Runs}
 use Rattle.acq_loop.proofs.Short.{turned_on, puts_or}
 use Rattle.assign.specs.declared.events.Event.TheVariants as event
 use Rattle.query_gen.specs.declared.query.Query.{Query}
@@ -18,46 +18,40 @@ heard_event again events q rest (Said said) e h = let same : answer_event q said
 heard_event again events q rest TakenBack e h = let same : event.Back ≡ e = cc in ap (λ (x : Event). again (events ++ x ∷ []) rest) same
 heard_event again events q rest reply e h = absurd (let no : ⊥ = cc in no)
 
--- a turn that heard one
-pub runs_heard : (turns : Turns) (l : Language) (terms : Terms) (events : List Event) (bytes : List ℕ) (q : Assignment) (e : Event) (run : Ran) →
-    next_on l terms events ≡ Some (Puts q) → event_heard q (turns l (number_on l events) q bytes).heard.reply ≡ Some e →
-    Runs turns l terms (events ++ e ∷ []) (turns l (number_on l events) q bytes).heard.rest run →
-    Runs turns l terms events bytes (after_text (turns l (number_on l events) q bytes).text run)
-unfolding ran
-runs_heard turns l terms events bytes q e run due heard runs =
-    let turned : Turned = turns l (number_on l events) q bytes in
-    record {
-      count = suc runs.count;
-      is = ap (put_on (λ p. turned_on (ran turns l terms runs.count) events p (turns l (number_on l events) p bytes)) events bytes) due
-          ∙ ap (option_map (after_text turned.text)) (heard_event (ran turns l terms runs.count) events q turned.heard.rest turned.heard.reply e heard ∙ runs.is);
-    }
-
 -- a reply that ends the run so
 abbrev pub EndsSo : Reply → Closing → List Event → Assignment → Type 0
 EndsSo reply closing events q = (again : List Event → List ℕ → Option Ran) (rest : List ℕ) → heard_on again events q rest reply ≡ Some (ended closing events rest)
 
--- a turn that heard such a reply
-pub runs_closed : (turns : Turns) (l : Language) (terms : Terms) (events : List Event) (bytes : List ℕ) (q : Assignment) (reply : Reply) (closing : Closing) →
-    next_on l terms events ≡ Some (Puts q) → (turns l (number_on l events) q bytes).heard.reply ≡ reply → EndsSo reply closing events q →
-    Runs turns l terms events bytes (after_text (turns l (number_on l events) q bytes).text (ended closing events (turns l (number_on l events) q bytes).heard.rest))
-unfolding ran
-runs_closed turns l terms events bytes q reply closing due heard closes =
-    let turned : Turned = turns l (number_on l events) q bytes in
-    record {
-      count = 1;
-      is = ap (put_on (λ p. turned_on (ran turns l terms 0) events p (turns l (number_on l events) p bytes)) events bytes) due
-          ∙ ap (λ r. option_map (after_text turned.text) (heard_on (ran turns l terms 0) events q turned.heard.rest r)) heard
-          ∙ ap (option_map (after_text turned.text)) (closes (ran turns l terms 0) turned.heard.rest);
-    }
+module _ (turns : Turns) (l : Language) (terms : Terms) (events : List Event) (bytes : List ℕ) where
+  abbrev turn : Assignment → Turned
+  turn q = turns l (number_on l events) q bytes
 
--- nothing is put any more
-pub runs_end : (turns : Turns) (l : Language) (terms : Terms) (events : List Event) (bytes : List ℕ) (closing : Closing) →
-    next_on l terms events ≡ Some (Ends closing) → Runs turns l terms events bytes (ended closing events bytes)
-unfolding ran
-runs_end turns l terms events bytes closing due = record {
-  count = 1;
-  is = ap (put_on (λ p. turned_on (ran turns l terms 0) events p (turns l (number_on l events) p bytes)) events bytes) due;
-}
+  -- a run of one turn more, by what comes next
+  ran_on : (count : ℕ) (next : Next) → next_on l terms events ≡ Some next → ran turns l terms (suc count) events bytes ≡ put_on (λ q. turned_on (ran turns l terms count) events q (turn q)) events bytes (Some next)
+  unfolding ran
+  ran_on count next due = ap (put_on (λ q. turned_on (ran turns l terms count) events q (turn q)) events bytes) due
+
+  -- a turn that heard an event
+  pub runs_heard : (q : Assignment) (e : Event) (run : Ran) → next_on l terms events ≡ Some (Puts q) → event_heard q (turn q).heard.reply ≡ Some e →
+      Runs turns l terms (events ++ e ∷ []) (turn q).heard.rest run → Runs turns l terms events bytes (after_text (turn q).text run)
+  runs_heard q e run due heard runs = record {
+    count = suc runs.count;
+    is = ran_on runs.count (Puts q) due ∙ ap (option_map (after_text (turn q).text)) (heard_event (ran turns l terms runs.count) events q (turn q).heard.rest (turn q).heard.reply e heard ∙ runs.is);
+  }
+
+  -- a turn that heard a reply which ends the run
+  pub runs_closed : (q : Assignment) (reply : Reply) (closing : Closing) → next_on l terms events ≡ Some (Puts q) → (turn q).heard.reply ≡ reply → EndsSo reply closing events q →
+      Runs turns l terms events bytes (after_text (turn q).text (ended closing events (turn q).heard.rest))
+  runs_closed q reply closing due heard closes = record {
+    count = 1;
+    is = ran_on 0 (Puts q) due
+        ∙ ap (λ r. option_map (after_text (turn q).text) (heard_on (ran turns l terms 0) events q (turn q).heard.rest r)) heard
+        ∙ ap (option_map (after_text (turn q).text)) (closes (ran turns l terms 0) (turn q).heard.rest);
+  }
+
+  -- nothing is put any more
+  pub runs_end : (closing : Closing) → next_on l terms events ≡ Some (Ends closing) → Runs turns l terms events bytes (ended closing events bytes)
+  runs_end closing due = record { count = 1; is = ran_on 0 (Ends closing) due }
 
 -- ---- each run comes to an end
 
@@ -69,7 +63,6 @@ pub record RunLaws : Type 0 where
   pub lawful : (l : Language) (plan : Plan) (budget : ℕ) (t : List Answer) (network : List Candidate) (end : Option WalkEnd) (q : Assignment) → IsLanguage l → state_after l plan t ≡ At (Idle network end) →
       next_query l network (kept l t network) budget ≡ Ask q → IsLawfulExample l (kept l t network) network q
 
--- what comes next is put, so its answer has a place
 puts_is : (closing : Closing) (o : Option Assignment) (q : Assignment) → puts_or closing o ≡ Puts q → o ≡ Some q
 puts_is closing None q h = cc
 puts_is closing (Some p) q h = cc
@@ -79,55 +72,45 @@ searched_is (Ask p) q h = cc
 searched_is AllImplied q h = cc
 searched_is Undecided q h = cc
 
-idle_place : RunLaws → (l : Language) → IsLanguage l → (plan : Plan) (budget : ℕ) (t : List Answer) (network : List Candidate) (end : Option WalkEnd) (q : Assignment) (reply : Bool) →
-    state_after l plan t ≡ At (Idle network end) → idle_next l plan budget (kept l t network) network ≡ Puts q → (next : State) × (step l plan t (answer q reply) (Idle network end) ≡ Some next)
-idle_place laws l lawful Scopes budget t network end q reply at h = laws.places.scoped l t network end q reply (puts_is Converged _ q h)
-idle_place laws l lawful Quacq budget t network end q reply at h = laws.places.put l Quacq t network end q reply (laws.lawful l Quacq budget t network end q lawful at (searched_is _ q h)).quacq
-idle_place laws l lawful Multi budget t network end q reply at h = laws.places.put l Multi t network end q reply (laws.lawful l Multi budget t network end q lawful at (searched_is _ q h)).multi
+-- a question that comes next: it is asked there, its answer has a place, and it has as many options as the language has variables
+record IsPut (l : Language) (plan : Plan) (t : List Answer) (state : State) (q : Assignment) : Type 0 where
+  asked : IsAskedIn l plan t q state
+  place : (reply : Bool) → (next : State) × (step l plan t (answer q reply) state ≡ Some next)
+  size : length q ≡ variable_count l
 
-pub step_at : RunLaws → (l : Language) → IsLanguage l → (terms : Terms) (t : List Answer) (state : State) (q : Assignment) (reply : Bool) →
-    state_after l terms.plan t ≡ At state → next_at l terms t state ≡ Puts q → (next : State) × (step l terms.plan t (answer q reply) state ≡ Some next)
-step_at laws l lawful terms t (Idle network end) q reply at h = idle_place laws l lawful terms.plan terms.budget t network end q reply at h
-step_at laws l lawful terms t (Over network) q reply at h = cc
-step_at laws l lawful terms t state q reply at h = laws.places.opened l terms.plan t state q reply (puts_is Collapsed _ q h)
+module _ (laws : RunLaws) (l : Language) (lawful : IsLanguage l) where
+  idle_put : (plan : Plan) (budget : ℕ) (t : List Answer) (network : List Candidate) (end : Option WalkEnd) (q : Assignment) →
+      state_after l plan t ≡ At (Idle network end) → idle_next l plan budget (kept l t network) network ≡ Puts q → IsPut l plan t (Idle network end) q
+  idle_put Scopes budget t network end q at h =
+      let is = puts_is Converged _ q h in
+      record { asked = ap (λ o. is_just o q) is ∙ assignment_same q; place = λ reply. laws.places.scoped l t network end q reply is; size = (laws.values.scoped l t network q lawful is).fits.size }
+  idle_put plan budget t network end q at h =
+      let example = laws.lawful l plan budget t network end q lawful at (searched_is _ q h) in
+      let may = example.lawful plan (λ e. cc) in
+      record { asked = may; place = λ reply. laws.places.put l plan t network end q reply may; size = example.fits.size }
 
-place_at : RunLaws → (l : Language) → IsLanguage l → (terms : Terms) (t : List Answer) (state : State) (q : Assignment) (reply : Bool) →
-    state_after l terms.plan t ≡ At state → next_at l terms t state ≡ Puts q → IsReached l terms.plan (t ++ answer q reply ∷ [])
-place_at laws l lawful terms t state q reply at h =
-    let next = step_at laws l lawful terms t state q reply at h in (next.0, laws.more l terms.plan t (answer q reply) state next.0 at next.1)
+  state_put : (terms : Terms) (t : List Answer) (state : State) (q : Assignment) → state_after l terms.plan t ≡ At state → next_at l terms t state ≡ Puts q → IsPut l terms.plan t state q
+  state_put terms t (Idle network end) q at h = idle_put terms.plan terms.budget t network end q at h
+  state_put terms t (Over network) q at h = absurd (let no : ⊥ = cc in no)
+  state_put terms t state q at h =
+      let is = puts_is Collapsed _ q h in
+      record { asked = is; place = λ reply. laws.places.opened l terms.plan t state q reply is; size = (laws.values.opened l terms.plan t state q lawful at is).fits.size }
 
-pub placed : RunLaws → (l : Language) → IsLanguage l → (terms : Terms) (t : List Answer) (q : Assignment) (reply : Bool) →
-    IsReached l terms.plan t → next_after l terms t ≡ Some (Puts q) → IsReached l terms.plan (t ++ answer q reply ∷ [])
-placed laws l lawful terms t q reply (state, at) h =
-    place_at laws l lawful terms t state q reply at (let e : Some (next_at l terms t state) ≡ Some (Puts q) = sym (ap (next_in l terms t) at) ∙ h in let same : next_at l terms t state ≡ Puts q = cc in same)
+  -- of answers that have a place
+  put_after : (terms : Terms) (t : List Answer) (q : Assignment) (reached : IsReached l terms.plan t) → next_after l terms t ≡ Some (Puts q) → IsPut l terms.plan t reached.0 q
+  put_after terms t q (state, at) due =
+      let e : Some (next_at l terms t state) ≡ Some (Puts q) = sym (ap (next_in l terms t) at) ∙ due in
+      state_put terms t state q at (let same : next_at l terms t state ≡ Puts q = cc in same)
 
--- ---- a question that comes next
+  pub placed : (terms : Terms) (t : List Answer) (q : Assignment) (reply : Bool) → IsReached l terms.plan t → next_after l terms t ≡ Some (Puts q) → IsReached l terms.plan (t ++ answer q reply ∷ [])
+  placed terms t q reply reached due =
+      let next = (put_after terms t q reached due).place reply in (next.0, laws.more l terms.plan t (answer q reply) reached.0 next.0 reached.1 next.1)
 
--- it is asked there
-idle_asked : RunLaws → (l : Language) → IsLanguage l → (plan : Plan) (budget : ℕ) (t : List Answer) (network : List Candidate) (end : Option WalkEnd) (q : Assignment) →
-    state_after l plan t ≡ At (Idle network end) → idle_next l plan budget (kept l t network) network ≡ Puts q → IsAskedIn l plan t q (Idle network end)
-idle_asked laws l lawful Scopes budget t network end q at h = ap (λ o. is_just o q) (puts_is Converged _ q h) ∙ assignment_same q
-idle_asked laws l lawful Quacq budget t network end q at h = (laws.lawful l Quacq budget t network end q lawful at (searched_is _ q h)).quacq
-idle_asked laws l lawful Multi budget t network end q at h = (laws.lawful l Multi budget t network end q lawful at (searched_is _ q h)).multi
+  pub asked_after : (terms : Terms) (t : List Answer) (q : Assignment) → IsReached l terms.plan t → next_after l terms t ≡ Some (Puts q) → IsAskedAfter l terms.plan t q
+  asked_after terms t q reached due = record { state = reached.0; at = reached.1; asked = (put_after terms t q reached due).asked }
 
-pub asked_at : RunLaws → (l : Language) → IsLanguage l → (terms : Terms) (t : List Answer) (state : State) (q : Assignment) → state_after l terms.plan t ≡ At state → next_at l terms t state ≡ Puts q → IsAskedIn l terms.plan t q state
-asked_at laws l lawful terms t (Idle network end) q at h = idle_asked laws l lawful terms.plan terms.budget t network end q at h
-asked_at laws l lawful terms t (Over network) q at h = absurd (let no : ⊥ = cc in no)
-asked_at laws l lawful terms t state q at h = puts_is Collapsed _ q h
-
--- it has as many options as the language has variables
-idle_sized : RunLaws → (l : Language) → IsLanguage l → (plan : Plan) (budget : ℕ) (t : List Answer) (network : List Candidate) (end : Option WalkEnd) (q : Assignment) →
-    state_after l plan t ≡ At (Idle network end) → idle_next l plan budget (kept l t network) network ≡ Puts q → length q ≡ variable_count l
-idle_sized laws l lawful Scopes budget t network end q at h = (laws.values.scoped l t network q lawful (puts_is Converged _ q h)).fits.size
-idle_sized laws l lawful Quacq budget t network end q at h = (laws.lawful l Quacq budget t network end q lawful at (searched_is _ q h)).fits.size
-idle_sized laws l lawful Multi budget t network end q at h = (laws.lawful l Multi budget t network end q lawful at (searched_is _ q h)).fits.size
-
-pub sized_at : RunLaws → (l : Language) → IsLanguage l → (terms : Terms) (t : List Answer) (state : State) (q : Assignment) → state_after l terms.plan t ≡ At state → next_at l terms t state ≡ Puts q → length q ≡ variable_count l
-sized_at laws l lawful terms t (Idle network end) q at h = idle_sized laws l lawful terms.plan terms.budget t network end q at h
-sized_at laws l lawful terms t (Halving e set replies network walk) q at h = (laws.values.opened l terms.plan t (Halving e set replies network walk) q lawful at (puts_is Collapsed _ q h)).fits.size
-sized_at laws l lawful terms t (Choosing s choices network walk) q at h = (laws.values.opened l terms.plan t (Choosing s choices network walk) q lawful at (puts_is Collapsed _ q h)).fits.size
-sized_at laws l lawful terms t (Walking set walk network) q at h = (laws.values.opened l terms.plan t (Walking set walk network) q lawful at (puts_is Collapsed _ q h)).fits.size
-sized_at laws l lawful terms t (Over network) q at h = cc
+  pub sized_at : (terms : Terms) (t : List Answer) (state : State) (q : Assignment) → state_after l terms.plan t ≡ At state → next_at l terms t state ≡ Puts q → length q ≡ variable_count l
+  sized_at terms t state q at h = (state_put terms t state q at h).size
 
 -- events whose answers have places, and fewer than a journal takes
 pub record IsWithin (l : Language) (plan : Plan) (events : List Event) : Type 0 where
@@ -160,52 +143,28 @@ next_ends l terms events closing due = ap (option_map (unless_full (is_full even
 
 -- whether there is room, by the number of events
 pub room_not_full : (events : List Event) → length events + 1 < 1000000 → is_full events ≡ false
-room_not_full events room = go (is_full events) refl
-  where
-    go : (b : Bool) → is_full events ≡ b → is_full events ≡ false
-    go false is = is
-    go true is = absurd (let same : length events + 1 ≡ 1000000 = eqb-true (length events + 1) 1000000 is in omega (arith, same, room))
+room_not_full events room = false_from_ne_true (is_full events) (λ is. let same = eqb-true (length events + 1) 1000000 is in omega (arith, same, room))
 
-pub not_full_room : (events : List Event) → length events < 1000000 → is_full events ≡ false → length events + 1 < 1000000
-not_full_room events few room = go (length events) few (λ e. absurd (let bad : true ≡ false = sym (eq-eqb (length events + 1) 1000000 e) ∙ room in let no : ⊥ = cc in no))
-  where
-    go : (n : ℕ) → n < 1000000 → (n + 1 ≡ 1000000 → ⊥) → n + 1 < 1000000
-    go n low other = ⊎_elim (λ less. less) (λ more. absurd (other (omega (arith, low, more)))) (cases_lt (n + 1) 1000000)
+-- where a count isn't the greatest, there is room for one more
+pub room_unless : (n : ℕ) (full : Bool) → n < 1000000 → (n + 1 ≡ 1000000 → IsTrue full) → full ≡ false → n + 1 < 1000000
+room_unless n full few tells room = ⊎_elim (λ less. less) (λ more. absurd (let bad : true ≡ false = sym (tells (omega (arith, few, more))) ∙ room in let no : ⊥ = cc in no)) (cases_lt (n + 1) 1000000)
 
--- an answer more leads to where it does
-within_said : RunLaws → (l : Language) → IsLanguage l → (terms : Terms) (events : List Event) (q : Assignment) (reply : Bool) →
-    IsWithin l terms.plan events → next_on l terms events ≡ Some (Puts q) → IsWithin l terms.plan (events ++ answer_event q reply ∷ [])
-within_said laws l lawful terms events q reply within next =
-    let puts = puts_next l terms events q next in
-    let Reached : List Answer → Type 0 = IsReached l terms.plan in
-    let state = within.reached.0 in
-    let e : Some (next_at l terms (standing_on l events) state) ≡ Some (Puts q) = sym (ap (next_in l terms (standing_on l events)) within.reached.1) ∙ puts.due in
-    let here : next_at l terms (standing_on l events) state ≡ Puts q = cc in
-    let size : length q ≡ variable_count l = sized_at laws l lawful terms (standing_on l events) state q within.reached.1 here in
-    let room : length events + 1 < 1000000 = not_full_room events within.few puts.room in
-    record {
-      reached = subst Reached (sym (cut_to-standing-push (variable_count l) events q reply size)) (placed laws l lawful terms (standing_on l events) q reply within.reached puts.due);
-      few = omega (arith, room, length-append events (answer_event q reply ∷ []));
-    }
+module _ (laws : RunLaws) (l : Language) (lawful : IsLanguage l) (terms : Terms) (events : List Event) (q : Assignment) (within : IsWithin l terms.plan events) (next : next_on l terms events ≡ Some (Puts q)) where
+  few_on : (e : Event) → length (events ++ e ∷ []) < 1000000
+  few_on e =
+      let room = room_unless (length events) (is_full events) within.few (eq-eqb (length events + 1) 1000000) (puts_next l terms events q next).room in
+      omega (arith, room, length-append events (e ∷ []))
 
--- a take-back leads to where the answers before the last do
-within_back : (l : Language) (terms : Terms) (events : List Event) (q : Assignment) → IsWithin l terms.plan events → next_on l terms events ≡ Some (Puts q) → IsWithin l terms.plan (events ++ event.Back ∷ [])
-within_back l terms events q within next =
-    let puts = puts_next l terms events q next in
-    let room : length events + 1 < 1000000 = not_full_room events within.few puts.room in
-    let back : List Event = event.Back ∷ [] in
-    record { reached = back_reached l terms.plan events within.reached; few = omega (arith, room, length-append events back) }
-
--- an event more
-pub within_on : RunLaws → (l : Language) → IsLanguage l → (terms : Terms) (events : List Event) (q : Assignment) (reply : Reply) (e : Event) → event_heard q reply ≡ Some e →
-    IsWithin l terms.plan events → next_on l terms events ≡ Some (Puts q) → IsWithin l terms.plan (events ++ e ∷ [])
-within_on laws l lawful terms events q (Said said) e h within next =
-    let Within : Event → Type 0 = λ x. IsWithin l terms.plan (events ++ x ∷ []) in
-    let same : answer_event q said ≡ e = cc in subst Within same (within_said laws l lawful terms events q said within next)
-within_on laws l lawful terms events q TakenBack e h within next =
-    let Within : Event → Type 0 = λ x. IsWithin l terms.plan (events ++ x ∷ []) in
-    let same : event.Back ≡ e = cc in subst Within same (within_back l terms events q within next)
-within_on laws l lawful terms events q reply e h within next = absurd (let no : ⊥ = cc in no)
+  -- an event more: an answer leads to where it does, and a take-back to where the answers before the last do
+  pub within_on : (reply : Reply) (e : Event) → event_heard q reply ≡ Some e → IsWithin l terms.plan (events ++ e ∷ [])
+  within_on (Said said) e h =
+      let due = (puts_next l terms events q next).due in
+      let t : List Answer = standing_on l events in
+      let same : answer_event q said ≡ e = cc in
+      let grown = cut_to-standing-push (variable_count l) events q said (put_after laws l lawful terms t q within.reached due).size in
+      rw (← same) (record { reached = rw grown (placed laws l lawful terms t q said within.reached due); few = few_on (answer_event q said) })
+  within_on TakenBack e h = let same : event.Back ≡ e = cc in rw (← same) (record { reached = back_reached l terms.plan events within.reached; few = few_on event.Back })
+  within_on reply e h = absurd (let no : ⊥ = cc in no)
 
 -- ---- a run from some events
 
@@ -222,58 +181,54 @@ pub record HasTurn (turns : Turns) (l : Language) (terms : Terms) (events : List
   pub more : List ℕ
   pub begins : has.run.text ≡ (turns l (number_on l events) q bytes).text ++ more
 
-turn_closed : (turns : Turns) (l : Language) (terms : Terms) (events : List Event) (bytes : List ℕ) (q : Assignment) (reply : Reply) (closing : Closing) → next_on l terms events ≡ Some (Puts q) →
-    (turns l (number_on l events) q bytes).heard.reply ≡ reply → EndsSo reply closing events q → HasTurn turns l terms events bytes q
-turn_closed turns l terms events bytes q reply closing due heard closes = record {
-  has = record { run = _; runs = runs_closed turns l terms events bytes q reply closing due heard closes; later = []; extends = sym (append-nil events) };
-  more = [];
-  begins = refl;
-}
-
-turn_event : (turns : Turns) (l : Language) (terms : Terms) (events : List Event) (bytes : List ℕ) (q : Assignment) (e : Event) → next_on l terms events ≡ Some (Puts q) →
-    event_heard q (turns l (number_on l events) q bytes).heard.reply ≡ Some e → ((rest : List ℕ) → HasRun turns l terms (events ++ e ∷ []) rest) → HasTurn turns l terms events bytes q
-turn_event turns l terms events bytes q e due heard next =
-    let later = next (turns l (number_on l events) q bytes).heard.rest in
-    record {
-      has = record { run = _; runs = runs_heard turns l terms events bytes q e later.run due heard later.runs; later = e ∷ later.later; extends = later.extends ∙ append_assoc events (e ∷ []) later.later };
-      more = later.run.text;
+module _ (turns : Turns) (l : Language) (terms : Terms) where
+  -- a turn, by what was heard
+  module _ (events : List Event) (bytes : List ℕ) (q : Assignment) (due : next_on l terms events ≡ Some (Puts q)) where
+    turn_closed : (reply : Reply) (closing : Closing) → (turns l (number_on l events) q bytes).heard.reply ≡ reply → EndsSo reply closing events q → HasTurn turns l terms events bytes q
+    turn_closed reply closing heard closes = record {
+      has = record { run = _; runs = runs_closed turns l terms events bytes q reply closing due heard closes; later = []; extends = sym (append-nil events) };
+      more = [];
       begins = refl;
     }
 
--- a turn, by what was heard
-turn_heard : (turns : Turns) (l : Language) (terms : Terms) (events : List Event) (bytes : List ℕ) (q : Assignment) → next_on l terms events ≡ Some (Puts q) →
-    (reply : Reply) → (turns l (number_on l events) q bytes).heard.reply ≡ reply →
-    ((e : Event) (rest : List ℕ) → event_heard q reply ≡ Some e → HasRun turns l terms (events ++ e ∷ []) rest) → HasTurn turns l terms events bytes q
-turn_heard turns l terms events bytes q due (Said said) heard next = turn_event turns l terms events bytes q (answer_event q said) due (ap (event_heard q) heard) (λ rest. next (answer_event q said) rest refl)
-turn_heard turns l terms events bytes q due TakenBack heard next = turn_event turns l terms events bytes q event.Back due (ap (event_heard q) heard) (λ rest. next event.Back rest refl)
-turn_heard turns l terms events bytes q due Stopped heard next = turn_closed turns l terms events bytes q Stopped Suspended due heard (λ again rest. refl)
-turn_heard turns l terms events bytes q due Ended heard next = turn_closed turns l terms events bytes q Ended Suspended due heard (λ again rest. refl)
-turn_heard turns l terms events bytes q due Overlong heard next = turn_closed turns l terms events bytes q Overlong LineTooLong due heard (λ again rest. refl)
-turn_heard turns l terms events bytes q due Unread heard next = turn_closed turns l terms events bytes q Unread Unreadable due heard (λ again rest. refl)
+    turn_event : (reply : Reply) (e : Event) → event_heard q reply ≡ Some e → (turns l (number_on l events) q bytes).heard.reply ≡ reply → ((rest : List ℕ) → HasRun turns l terms (events ++ e ∷ []) rest) → HasTurn turns l terms events bytes q
+    turn_event reply e gives heard next =
+        let later = next (turns l (number_on l events) q bytes).heard.rest in
+        record {
+          has = record { run = _; runs = runs_heard turns l terms events bytes q e later.run due (ap (event_heard q) heard ∙ gives) later.runs; later = e ∷ later.later; extends = later.extends ∙ append_assoc events (e ∷ []) later.later };
+          more = later.run.text;
+          begins = refl;
+        }
 
-run_next : (turns : Turns) (l : Language) (terms : Terms) (events : List Event) (bytes : List ℕ) (next : Next) → next_on l terms events ≡ Some next →
-    ((q : Assignment) → next_on l terms events ≡ Some (Puts q) → HasTurn turns l terms events bytes q) → HasRun turns l terms events bytes
-run_next turns l terms events bytes (Puts q) due go = (go q due).has
-run_next turns l terms events bytes (Ends closing) due go = record { run = _; runs = runs_end turns l terms events bytes closing due; later = []; extends = sym (append-nil events) }
+    turn_heard : (reply : Reply) → (turns l (number_on l events) q bytes).heard.reply ≡ reply → ((e : Event) (rest : List ℕ) → event_heard q reply ≡ Some e → HasRun turns l terms (events ++ e ∷ []) rest) → HasTurn turns l terms events bytes q
+    turn_heard (Said said) heard next = turn_event (Said said) (answer_event q said) refl heard (λ rest. next (answer_event q said) rest refl)
+    turn_heard TakenBack heard next = turn_event TakenBack event.Back refl heard (λ rest. next event.Back rest refl)
+    turn_heard Overlong heard next = turn_closed Overlong LineTooLong heard (λ again rest. refl)
+    turn_heard Unread heard next = turn_closed Unread Unreadable heard (λ again rest. refl)
+    turn_heard reply heard next = turn_closed reply Suspended heard (λ again rest. refl)
 
--- by the records that are left
-run_from : RunLaws → (turns : Turns) (l : Language) (terms : Terms) → IsLanguage l → (left : ℕ) (events : List Event) (bytes : List ℕ) → IsWithin l terms.plan events → 1000000 ≤ length events + left → HasRun turns l terms events bytes
-run_from laws turns l terms lawful zero events bytes within above = absurd (let few = within.few in omega (arith, few, above))
-run_from laws turns l terms lawful (suc left) events bytes within above =
-    let t : List Answer = standing_on l events in
-    let next : Next = unless_full (is_full events) (next_at l terms t within.reached.0) in
-    let is : next_on l terms events ≡ Some next = ap (λ r. option_map (unless_full (is_full events)) (next_in l terms t r)) within.reached.1 in
-    run_next turns l terms events bytes next is
-    (λ q due. turn_heard turns l terms events bytes q due (turns l (number_on l events) q bytes).heard.reply refl
-    (λ e rest heard. run_from laws turns l terms lawful left (events ++ e ∷ []) rest (within_on laws l lawful terms events q (turns l (number_on l events) q bytes).heard.reply e heard within due)
-    (omega (arith, above, length-append events (e ∷ [])))))
+  run_next : (events : List Event) (bytes : List ℕ) (next : Next) → next_on l terms events ≡ Some next → ((q : Assignment) → next_on l terms events ≡ Some (Puts q) → HasTurn turns l terms events bytes q) → HasRun turns l terms events bytes
+  run_next events bytes (Puts q) due go = (go q due).has
+  run_next events bytes (Ends closing) due go = record { run = _; runs = runs_end turns l terms events bytes closing due; later = []; extends = sym (append-nil events) }
 
--- there is a run, whatever the bytes
-pub run_exists : RunLaws → (turns : Turns) (l : Language) (terms : Terms) → IsLanguage l → (events : List Event) (bytes : List ℕ) → IsWithin l terms.plan events → HasRun turns l terms events bytes
-run_exists laws turns l terms lawful events bytes within = run_from laws turns l terms lawful 1000000 events bytes within (omega arith)
+module _ (laws : RunLaws) (turns : Turns) (l : Language) (terms : Terms) (lawful : IsLanguage l) where
+  -- by the records that are left
+  run_from : (left : ℕ) (events : List Event) (bytes : List ℕ) → IsWithin l terms.plan events → 1000000 ≤ length events + left → HasRun turns l terms events bytes
+  run_from zero events bytes within above = absurd (let few = within.few in omega (arith, few, above))
+  run_from (suc left) events bytes within above =
+      let next : Next = unless_full (is_full events) (next_at l terms (standing_on l events) within.reached.0) in
+      let is : next_on l terms events ≡ Some next = ap (λ r. option_map (unless_full (is_full events)) (next_in l terms (standing_on l events) r)) within.reached.1 in
+      run_next turns l terms events bytes next is
+      (λ q due. turn_heard turns l terms events bytes q due (turns l (number_on l events) q bytes).heard.reply refl
+      (λ e rest heard. run_from left (events ++ e ∷ []) rest (within_on laws l lawful terms events q within due (turns l (number_on l events) q bytes).heard.reply e heard)
+      (omega (arith, above, length-append events (e ∷ [])))))
 
--- where a question comes next there is one that begins with its turn
-pub turn_exists : RunLaws → (turns : Turns) (l : Language) (terms : Terms) → IsLanguage l → (events : List Event) (bytes : List ℕ) (q : Assignment) → IsWithin l terms.plan events → next_on l terms events ≡ Some (Puts q) → HasTurn turns l terms events bytes q
-turn_exists laws turns l terms lawful events bytes q within due =
-    turn_heard turns l terms events bytes q due (turns l (number_on l events) q bytes).heard.reply refl
-    (λ e rest heard. run_exists laws turns l terms lawful (events ++ e ∷ []) rest (within_on laws l lawful terms events q (turns l (number_on l events) q bytes).heard.reply e heard within due))
+  -- there is a run, whatever the bytes
+  pub run_exists : (events : List Event) (bytes : List ℕ) → IsWithin l terms.plan events → HasRun turns l terms events bytes
+  run_exists events bytes within = run_from 1000000 events bytes within (omega arith)
+
+  -- where a question comes next there is one that begins with its turn
+  pub turn_exists : (events : List Event) (bytes : List ℕ) (q : Assignment) → IsWithin l terms.plan events → next_on l terms events ≡ Some (Puts q) → HasTurn turns l terms events bytes q
+  turn_exists events bytes q within due =
+      turn_heard turns l terms events bytes q due (turns l (number_on l events) q bytes).heard.reply refl
+      (λ e rest heard. run_exists (events ++ e ∷ []) rest (within_on laws l lawful terms events q within due (turns l (number_on l events) q bytes).heard.reply e heard))

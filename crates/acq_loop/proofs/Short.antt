@@ -1,22 +1,22 @@
 -- Short names for what the definitions write out.
-use Rattle.acq_loop.proofs.Prelude.{◌≡◌, ◌≢◌, ◌⊎◌, ◌+◌, ◌++◌, List, [], length, Bool, ℕ, ForSome, Assignment, Event, standing, answer_event, Language, standing_on, Answer, Plan, Multi, At, state_after, Turns, Terms, Closing, Ran, Point, IsPending, Loses, Drove, Option, Some, Turned, after_text, heard_on, option_map, Next, Puts, Ends}
+use Rattle.acq_loop.proofs.Prelude.{◌≡◌, ◌≢◌, is_some, true, refl, None, ◌⊎◌, ◌+◌, ◌++◌, List, [], length, Bool, ℕ, ForSome, Assignment, Event, standing, answer_event, Language, standing_on, Answer, Plan, Multi, At, state_after, Turns, Terms, Closing, Ran, Point, IsPending, Loses, Drove, Option, Some, Turned, after_text, heard_on, option_map, Next, Puts, Ends}
 use Rattle.std.specs.Option.{option_map_or}
 use Rattle.std.specs.Prelude.{◌↔◌}
 use Rattle.assign.specs.declared.events.Event.TheVariants as event
 use Rattle.session_laws.specs.Laws.{IsWalked, network_in}
 use Rattle.session_laws.specs.Session.{State, walk_end}
 use Rattle.session_laws.specs.Walk.{Ended}
-use Rattle.acq_loop.specs.Driven.{IsCut, IsRun}
+use Rattle.acq_loop.specs.Driven.{IsRunCutShort, IsWholeRun}
 use Rattle.acq_loop.specs.Texts.{closing_text}
 use Rattle.acq_loop.specs.declared.driving.Drove.TheVariants as drove
 
 -- the run with this closing is what was written and left, where the source tells
 abbrev pub RanTo : Turns → Language → Terms → Closing → Point → Point → Type 0
-RanTo turns l terms closing old new = ForSome old.left (λ bytes. IsRun turns l terms bytes closing old new)
+RanTo turns l terms closing old new = ForSome old.left (λ bytes. IsWholeRun turns l terms bytes closing old new)
 
 -- a front of a run was written
 abbrev pub CutOff : Turns → Language → Terms → Point → Point → Type 0
-CutOff turns l terms old new = ForSome old.left (λ bytes. IsCut turns l terms bytes old new)
+CutOff turns l terms old new = ForSome old.left (λ bytes. IsRunCutShort turns l terms bytes old new)
 
 -- an event was lost
 abbrev pub UnkeptTo : Turns → Language → Terms → Point → Point → Type 0
@@ -48,3 +48,8 @@ puts_or closing o = option_map_or Puts o (Ends closing)
 -- where the last answer has ended the walk of an example, nothing is left to learn from the example
 abbrev pub LeavesNothing : Language → Plan → List Answer → Type 0
 LeavesNothing l plan t = (e : Assignment) (state : State) → plan ≡ Multi → state_after l plan t ≡ At state → walk_end l t ≡ Some (Ended e) → IsWalked l t (network_in state) e
+
+-- where there is one, it is one
+pub there_is : {A : Type 0} (o : Option A) → is_some o ≡ true → (x : A) × (o ≡ Some x)
+there_is None h = absurd (let no : ⊥ = cc in no)
+there_is (Some x) h = (x, refl)

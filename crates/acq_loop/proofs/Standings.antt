@@ -1,5 +1,5 @@
 -- Sessions that stand where answers lead, and what follows of them.
-use Rattle.acq_loop.proofs.Prelude.{Some, None, ⊎_elim, Bool, true, false, IsTrue, ◌≡◌, ℕ, ◌+◌, ◌≤◌, ◌<◌, ◌^◌, List, ◌∷◌, [], ◌++◌, refl, length, ap, sym, ◌∙◌, subst, arith, cases_lt, Assignment, Answer, Plan, Candidate, Language, IsLanguage, IsQuestion, variable_count, Remembered, MarksHold, State, Reading, Stray, At, state_after, network_in, Extends, one_answer_more, answers_are_at_most, Session, Knowledge, Stands, PutAfter, knowledge_of, open_in, OnlyPuts, KeepOf, ForSome, IsDue, terms_with, Terms, Event, cut_to-standing-push, standing_on, answer_event, Next, Puts, next_in, next_after, answer, Remembers}
+use Rattle.acq_loop.proofs.Prelude.{same_state, Some, None, Bool, ◌≡◌, ℕ, ◌+◌, ◌≤◌, ◌<◌, ◌^◌, List, ◌∷◌, [], ◌++◌, refl, length, ap, sym, ◌∙◌, subst, arith, Assignment, Answer, Plan, Language, IsLanguage, IsQuestion, variable_count, Remembered, MarksHold, State, Course, Stray, At, state_after, network_in, Extends, one_answer_more, answers_are_at_most, Session, Knowledge, Stands, PutAfter, knowledge_of, open_in, OnlyPuts, KeepOf, ForSome, IsDue, terms_with, Terms, Event, cut_to-standing-push, standing_on, answer_event, Next, Puts, next_in, next_after, answer, Remembers}
 use Rattle.session_laws.proofs.Places.{questions_have_places}
 use Rattle.session_laws.proofs.Askable.{questions_have_values}
 use Rattle.session_laws.proofs.Growing.{network_grows}
@@ -7,7 +7,7 @@ use Rattle.session_laws.proofs.Limits.{answers_fit}
 use Rattle.session_core.specs.declared.session.Session.TheVariants as sessions
 use Rattle.session_core.specs.declared.put.Put.{Put}
 use Rattle.session_core.specs.declared.put.Put.TheVariants as puts
-use Rattle.acq_loop.proofs.Questions.{asked_is_example, marks_stay, same_state}
+use Rattle.acq_loop.proofs.Questions.{asked_is_example, marks_stay}
 use Rattle.acq_loop.proofs.Reached.{IsReached}
 use Rattle.acq_loop.proofs.Running.{IsWithin, RunLaws}
 
@@ -22,11 +22,10 @@ pub record StandsIn (k : Knowledge) (t : List Answer) : Type 0 where
   pub network : network_in state ≡ k.network.list
 
 put_at : (k : Knowledge) (put : Put) (t : List Answer) → PutAfter k put t → StandsIn k t
-put_at k (puts.Example e) t after = record { state = _; at = after.idle; network = refl }
 put_at k (puts.OnWalk e set) t after = record { state = _; at = after.walking; network = refl }
 put_at k (puts.Part e set run) t after = record { state = _; at = after.halving; network = refl }
-put_at k (puts.FirstTuple run) t after = record { state = _; at = after.idle; network = refl }
 put_at k (puts.Tuple run) t after = record { state = _; at = after; network = refl }
+put_at k put t after = record { state = _; at = after.idle; network = refl }
 
 pub stands_at : (session : Session) (t : List Answer) → Stands session t → StandsIn (knowledge_of session) t
 stands_at (sessions.Idle idle) t h = record { state = _; at = h.after.idle; network = refl }
@@ -52,7 +51,7 @@ pub at_turn : (session : Session) (l m : Language) (plan : Plan) (t : List Answe
     count ≡ (knowledge_of session).answers → m ≡ (knowledge_of session).lang → IsLanguage m → AtTurn l plan t count m
 at_turn session l m plan t count stands lang planned counted is lawful = record {
   lawful = subst IsLanguage (is ∙ lang) lawful;
-  reached = let P : Language → Type 0 = λ x. IsReached x plan t in let Q : Plan → Type 0 = λ p. IsReached (knowledge_of session).lang p t in subst P lang (subst Q planned (reached session t stands));
+  reached = rw (lang, planned) at (reached session t stands);
   number = counted ∙ stands.knows.count;
   language = is ∙ lang;
 }
@@ -61,9 +60,10 @@ at_turn session l m plan t count stands lang planned counted is lawful = record 
 pub next_fits : (l : Language) (plan : Plan) (m : Language) (t : List Answer) (count : ℕ) → AtTurn l plan t count m → count + 1 < 2 ^ 32
 next_fits l plan m t count at = let few = few_answers l plan t at.lawful at.reached in let is = at.number in omega arith
 
--- that, and this question comes next, of which there is a record for what is said to it
-pub record AtQuestion (l : Language) (terms : Terms) (events : List Event) (count : ℕ) (m : Language) (q : Assignment) : Type 0 where
-  pub at : AtTurn l terms.plan (standing_on l events) count m
+-- this question comes next, after answers that have a place, and there is a record for what is said to it
+pub record AtQuestion (l : Language) (terms : Terms) (events : List Event) (q : Assignment) : Type 0 where
+  pub lawful : IsLanguage l
+  pub reached : IsReached l terms.plan (standing_on l events)
   pub puts : next_after l terms (standing_on l events) ≡ Some (Puts q)
   pub fits : IsQuestion l q
   pub room : length events + 1 < 1000000
@@ -73,52 +73,38 @@ pub record Asks {K D : Type 0} (keep : KeepOf K D) (old new : K) (budget : ℕ) 
   pub question : Assignment
   pub is_open : open_in s ≡ Some question
   pub put : keep.question new ≡ Some question
-  pub asked : AtQuestion (keep.lang old) (terms_with (keep.plan old) budget) (keep.record_of old) (knowledge_of s).answers (knowledge_of s).lang question
+  pub language : (knowledge_of s).lang ≡ keep.lang old
+  pub number : (knowledge_of s).answers ≡ length (standing_on (keep.lang old) (keep.record_of old))
+  pub asked : AtQuestion (keep.lang old) (terms_with (keep.plan old) budget) (keep.record_of old) question
 
 pub asks : {K D : Type 0} (keep : KeepOf K D) (old new : K) (budget : ℕ) (s : Session) → OnlyPuts keep old new → Stands s (standing_on (keep.lang new) (keep.record_of new)) →
     (knowledge_of s).lang ≡ keep.lang new → (knowledge_of s).plan ≡ keep.plan new → open_in s ≡ keep.question new → IsLanguage (knowledge_of s).lang → ForSome (open_in s) (IsQuestion (knowledge_of s).lang) →
     IsDue (keep.lang old) (terms_with (keep.plan old) budget) (standing_on (keep.lang old) (keep.record_of old)) (keep.question new) → length (keep.record_of new) + 1 < 1000000 → Asks keep old new budget s
 asks keep old new budget s only stands lang planned opened lawful fits due room =
-    let l : Language = keep.lang old in
-    let k = knowledge_of s in
-    let same : k.lang ≡ l = lang ∙ only.lang in
-    let there : standing_on (keep.lang new) (keep.record_of new) ≡ standing_on l (keep.record_of old) = (λ i. standing_on (only.lang i) (only.events i)) in
+    let same : (knowledge_of s).lang ≡ keep.lang old = lang ∙ only.lang in
+    let at = at_turn s (keep.lang old) (knowledge_of s).lang (keep.plan old) (standing_on (keep.lang old) (keep.record_of old)) (knowledge_of s).answers (rw (only.lang, only.events) at stands) same (planned ∙ only.plan) refl refl lawful in
     record {
       question = due.question;
       is_open = opened ∙ due.is;
       put = due.is;
-      asked = record {
-        at = at_turn s l k.lang (keep.plan old) (standing_on l (keep.record_of old)) k.answers (subst (Stands s) there stands) same (planned ∙ only.plan) refl refl lawful;
-        puts = due.puts;
-        fits = let Fits : Language → Type 0 = λ m. IsQuestion m due.question in subst Fits same (fits due.question (opened ∙ due.is));
-        room = omega (arith, room, ap (λ (es : List Event). length es) only.events);
-      };
+      language = same;
+      number = at.number;
+      asked = record { lawful = at.lawful; reached = at.reached; puts = due.puts; fits = rw same at (fits due.question (opened ∙ due.is)); room = rw only.events at room };
     }
 
 -- ---- what a screen remembers
 
 -- true marks of a session's network are true of the network that the answers lead to, and the other way round
-pub marks_there : (session : Session) (l : Language) (plan : Plan) (budget : ℕ) (t : List Answer) (screen : Remembered) → Stands session t → (knowledge_of session).lang ≡ l → (knowledge_of session).plan ≡ plan →
-    MarksHold (knowledge_of session).lang (knowledge_of session).network.list budget screen → Remembers l (record { plan = plan; budget = budget }) t screen
-marks_there session l plan budget t screen stands lang planned marks state at =
-    let there = stands_at session t stands in
-    let same : there.state ≡ state = same_state _ _ (sym there.at ∙ ap (λ x. state_after x (knowledge_of session).plan t) lang ∙ ap (λ p. state_after l p t) planned ∙ at) in
-    let P : Language → Type 0 = λ x. MarksHold x (knowledge_of session).network.list budget screen in
-    subst (λ (n : List Candidate). MarksHold l n budget screen) (sym there.network ∙ ap network_in same) (subst P lang marks)
+module _ (session : Session) (l : Language) (plan : Plan) (budget : ℕ) (t : List Answer) (screen : Remembered) (stands : Stands session t) (lang : (knowledge_of session).lang ≡ l) (planned : (knowledge_of session).plan ≡ plan) where
+  pub marks_there : MarksHold (knowledge_of session).lang (knowledge_of session).network.list budget screen → Remembers l (terms_with plan budget) t screen
+  marks_there marks state leads =
+      let there = stands_at session t stands in
+      let leads_there : state_after l plan t ≡ At there.state = rw (lang, planned) at there.at in
+      let same : there.state ≡ state = same_state _ _ (sym leads_there ∙ leads) in
+      rw (lang, ← there.network, ap network_in same) at marks
 
-pub marks_here : (session : Session) (l : Language) (plan : Plan) (budget : ℕ) (t : List Answer) (screen : Remembered) → Stands session t → (knowledge_of session).lang ≡ l → (knowledge_of session).plan ≡ plan →
-    Remembers l (record { plan = plan; budget = budget }) t screen → MarksHold (knowledge_of session).lang (knowledge_of session).network.list budget screen
-marks_here session l plan budget t screen stands lang planned remembers =
-    let there = stands_at session t stands in
-    let marks = remembers there.state (sym (ap (λ x. state_after x (knowledge_of session).plan t) lang ∙ ap (λ p. state_after l p t) planned) ∙ there.at) in
-    let P : Language → Type 0 = λ x. MarksHold x (knowledge_of session).network.list budget screen in
-    subst P (sym lang) (subst (λ (n : List Candidate). MarksHold l n budget screen) there.network marks)
-
--- they stay true when an answer is added
-pub marks_on : (l : Language) (terms : Terms) (t : List Answer) (a : Answer) (screen : Remembered) → IsReached l terms.plan t → Remembers l terms t screen → Remembers l terms (t ++ a ∷ []) screen
-marks_on l terms t a screen (state, at) remembers next then =
-    let on : Extends (network_in state) (network_in next) = network_grows l terms.plan t a state next at then in
-    subst (λ (n : List Candidate). MarksHold l n terms.budget screen) (sym on.is) (marks_stay l (network_in state) on.more terms.budget screen (remembers state at))
+  pub marks_here : Remembers l (terms_with plan budget) t screen → MarksHold (knowledge_of session).lang (knowledge_of session).network.list budget screen
+  marks_here remembers = let there = stands_at session t stands in rw (lang, ← there.network) (remembers there.state (rw (lang, planned) at there.at))
 
 -- what holds of a language and a plan holds of the same ones
 pub carried : (P : Language → Plan → Type 0) (l m : Language) (p q : Plan) → l ≡ m → p ≡ q → P l p → P m q
@@ -131,22 +117,18 @@ due_reached l terms t n due = go (state_after l terms.plan t) refl
     none_some : None ≡ Some n → ⊥
     none_some e = cc
 
-    go : (r : Reading) → state_after l terms.plan t ≡ r → IsReached l terms.plan t
+    go : (r : Course) → state_after l terms.plan t ≡ r → IsReached l terms.plan t
     go (Stray number) at = absurd (none_some (sym (ap (next_in l terms t) at) ∙ due))
     go (At state) at = (state, at)
 
 -- marks stay true over an answer
 pub marks_after : (l : Language) (terms : Terms) (events later : List Event) (q : Assignment) (said : Bool) (screen : Remembered) → IsReached l terms.plan (standing_on l events) → length q ≡ variable_count l →
     later ≡ events ++ answer_event q said ∷ [] → Remembers l terms (standing_on l events) screen → Remembers l terms (standing_on l later) screen
-marks_after l terms events later q said screen reached size is remembers =
+marks_after l terms events later q said screen (state, at) size is remembers next then =
     let grown : standing_on l later ≡ standing_on l events ++ answer q said ∷ [] = ap (standing_on l) is ∙ cut_to-standing-push (variable_count l) events q said size in
-    let P : List Answer → Type 0 = λ ts. Remembers l terms ts screen in
-    subst P (sym grown) (marks_on l terms (standing_on l events) (answer q said) screen reached remembers)
+    let on : Extends (network_in state) (network_in next) = network_grows l terms.plan (standing_on l events) (answer q said) state next at (sym (ap (state_after l terms.plan) grown) ∙ then) in
+    rw on.is (marks_stay l (network_in state) on.more terms.budget screen (remembers state at))
 
 -- the events at which a question comes
-pub within : (l : Language) (terms : Terms) (events : List Event) (count : ℕ) (m : Language) (q : Assignment) → AtQuestion l terms events count m q → IsWithin l terms.plan events
-within l terms events count m q asked = record { reached = asked.at.reached; few = omega (arith, asked.room) }
-
--- where a keeper isn't full, there is room for one more event
-pub room_unless : (n : ℕ) (full : Bool) → n < 1000000 → (n + 1 ≡ 1000000 → IsTrue full) → full ≡ false → n + 1 < 1000000
-room_unless n full few tells room = ⊎_elim (λ less. less) (λ more. absurd (let bad : true ≡ false = sym (tells (omega (arith, few, more))) ∙ room in let no : ⊥ = cc in no)) (cases_lt (n + 1) 1000000)
+pub within : (l : Language) (terms : Terms) (events : List Event) (q : Assignment) → AtQuestion l terms events q → IsWithin l terms.plan events
+within l terms events q asked = record { reached = asked.reached; few = omega (arith, asked.room) }

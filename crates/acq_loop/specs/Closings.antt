@@ -19,12 +19,12 @@ closing_of drove.JournalFull = Some JournalFull
 closing_of how = None
 
 -- the number that is told then
-abbrev pub number_of : Drove → Option ℕ
-number_of (drove.Converged m) = Some m
-number_of (drove.Collapsed m) = Some m
-number_of (drove.Undecided m) = Some m
-number_of (drove.Suspended m) = Some m
-number_of how = None
+abbrev pub told_number : Drove → Option ℕ
+told_number (drove.Converged m) = Some m
+told_number (drove.Collapsed m) = Some m
+told_number (drove.Undecided m) = Some m
+told_number (drove.Suspended m) = Some m
+told_number how = None
 
 -- how the program ends then, where its last lines are taken
 abbrev pub ending_of : Drove → Result Ending Put

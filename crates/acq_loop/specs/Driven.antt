@@ -2,7 +2,7 @@
 use Rattle.std.specs.Prelude.{◌≡◌, ◌≢◌, ◌⊎◌, ◌↔◌, ◌<◌, ◌≤◌, ◌+◌, ◌*◌, ◌++◌, ◌&&◌}
 use Rattle.acq_loop.specs.Prelude.{ℕ, Bool, IsTrue, List, [], length, filter, All, Option, Some, None, IfSome, ForSome, Adds, AddsFront, Assignment, Answer, standing, Event, Scopes, Candidate, Language, variable_count, candidates, agrees, has_scope, numbers, log_up, bound, greatest_arity, HasSameSolutions, IsCandidate, IsImplied, IsQuestion, IsNetwork, IsCovered, IsConverged, NoneAgrees, kept, standing_on, plain_size, Spent, outcome_of_candidate, is_among, is_spent, Remembered, MarksHold, is_open, IsUndecided, State, Idle, Over, At, state_after, WalkEnd, network_in, answer_event, Turns, AsksFirst}
 use Rattle.assign.specs.declared.events.Event.TheVariants as event
-use Rattle.acq_loop.specs.Closings.{closing_of, number_of}
+use Rattle.acq_loop.specs.Closings.{closing_of, told_number}
 use Rattle.acq_loop.specs.Run.{Closing, Converged, Collapsed, Undecided, Next, Puts, Ends, next_after, next_on, number_on, Ran, Runs, after_text, event_heard}
 use Rattle.acq_loop.specs.Texts.{open_candidates}
 use Rattle.acq_loop.specs.declared.terms.Terms.{Terms}
@@ -16,7 +16,7 @@ pub record Point : Type 0 where
   pub written : Option (List ℕ)
 
 -- what was written so far begins each run that goes on from there
-pub record IsBegun (turns : Turns) (l : Language) (terms : Terms) (bytes : List ℕ) (old new : Point) : Type 0 where
+pub record BeginsRuns (turns : Turns) (l : Language) (terms : Terms) (bytes : List ℕ) (old new : Point) : Type 0 where
   pub rest : List ℕ
   pub done : List ℕ
   pub left : new.left ≡ Some rest
@@ -25,10 +25,10 @@ pub record IsBegun (turns : Turns) (l : Language) (terms : Terms) (bytes : List 
 
 -- where the source tells
 abbrev pub StepsTo : Turns → Language → Terms → Point → Point → Type 0
-StepsTo turns l terms old new = ForSome old.left (λ bytes. IsBegun turns l terms bytes old new)
+StepsTo turns l terms old new = ForSome old.left (λ bytes. BeginsRuns turns l terms bytes old new)
 
 -- the run with this closing is what was written and left, and its events are there
-pub record IsRun (turns : Turns) (l : Language) (terms : Terms) (bytes : List ℕ) (end : Closing) (old new : Point) : Type 0 where
+pub record IsWholeRun (turns : Turns) (l : Language) (terms : Terms) (bytes : List ℕ) (end : Closing) (old new : Point) : Type 0 where
   pub run : Ran
   pub runs : Runs turns l terms old.events bytes run
   pub closing : run.closing ≡ end
@@ -44,7 +44,7 @@ next_lines turns l events bytes (Some (Puts q)) = (turns l (number_on l events) 
 
 -- What was written is a front of the run's text, and the events are a front of its events. What was written goes no further than
 -- the lines of the question that comes after these events. So no event is missing behind whose lines something was written.
-pub record IsCut (turns : Turns) (l : Language) (terms : Terms) (bytes : List ℕ) (old new : Point) : Type 0 where
+pub record IsRunCutShort (turns : Turns) (l : Language) (terms : Terms) (bytes : List ℕ) (old new : Point) : Type 0 where
   pub run : Ran
   pub runs : Runs turns l terms old.events bytes run
   pub text : AddsFront old.written new.written run.text
@@ -130,17 +130,17 @@ HasFound l terms t closing = IsPending l terms t
 
 -- The number that is told is that of the answers that stand, and what is said of these is true.
 pub record HasEnded (l : Language) (terms : Terms) (t : List Answer) (how : Drove) : Type 0 where
-  pub number : IfSome (number_of how) (λ m. m ≡ length t)
+  pub number : IfSome (told_number how) (λ m. m ≡ length t)
   pub found : IfSome (closing_of how) (HasFound l terms t)
 
 -- The loop ends so only in this way.
 pub record Drives (turns : Turns) (l : Language) (terms : Terms) (old new : Point) (how : Drove) : Type 0 where
   pub says : HasEnded l terms (standing_on l new.events) how
   -- where the source tells, the run that is closed so is what was written and left
-  pub closed : IfSome (closing_of how) (λ closing. ForSome old.left (λ bytes. IsRun turns l terms bytes closing old new))
+  pub closed : IfSome (closing_of how) (λ closing. ForSome old.left (λ bytes. IsWholeRun turns l terms bytes closing old new))
   -- where something failed, a question was due, and a front of a run was written
   pub pending : closing_of how ≡ None → IsPending l terms (standing_on l new.events)
-  pub broken : closing_of how ≡ None → ForSome old.left (λ bytes. IsCut turns l terms bytes old new)
+  pub broken : closing_of how ≡ None → ForSome old.left (λ bytes. IsRunCutShort turns l terms bytes old new)
   -- where the disk failed, what was written ends with the lines of the question whose reply wasn't kept
   pub unkept : how ≡ drove.DiskFault → (lost : Event) × Loses turns l terms old new lost
   -- the journal is full exactly where a question is due and no record is left

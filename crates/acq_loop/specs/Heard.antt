@@ -25,7 +25,7 @@ heard_of told.WriteFault count = heard.End drove.WriteFault
 heard_of told.Memory count = heard.End drove.Memory
 
 -- This is heard of the teacher's word to this question, after so many answers.
-pub record Hears (turns : Turns) (may : Language → Assignment → Told → Type 0) (l : Language) (q : Assignment) (count : ℕ) (left written left' written' : Option (List ℕ)) (heard : Heard) : Type 0 where
+pub record HearsReply (turns : Turns) (may : Language → Assignment → Told → Type 0) (l : Language) (q : Assignment) (count : ℕ) (left written left' written' : Option (List ℕ)) (heard : Heard) : Type 0 where
   pub word : Told
   pub is : heard ≡ heard_of word count
   -- where the source tells
@@ -51,6 +51,6 @@ Forgets (entry.Answer reply) old new = new ≡ old
 Forgets entry.Back old new = HasNoMarks new
 
 -- how the loop ends where an event couldn't be kept
-abbrev pub end_of : Result (Unit {0}) SFault → Option Drove
-end_of (Ok done) = None
-end_of (Err fault) = Some (ended_by fault)
+abbrev pub end_on_fault : Result (Unit {0}) SFault → Option Drove
+end_on_fault (Ok done) = None
+end_on_fault (Err fault) = Some (ended_by fault)

@@ -1,6 +1,6 @@
 -- What a turn and the loop begin with, and how they go on and end.
 use Rattle.std.specs.Prelude.{◌≡◌, ◌≤◌}
-use Rattle.acq_loop.specs.Prelude.{ℕ, Bool, true, false, IsTrue, List, Option, HasCalled, Rose, TakesSome, IsBudget, Assignment, Answer, Event, Language, standing_on, Place, Remembered, IsMadeFor, HasNoMarks, AreMadeFor, IsSettled, Turns}
+use Rattle.acq_loop.specs.Prelude.{ℕ, Bool, true, false, IsTrue, List, Option, HasCalled, Rose, TakesSome, IsBudget, Assignment, Answer, Event, Language, standing_on, Place, Remembered, AreMarksFor, HasNoMarks, AreMadeFor, IsSettled, Turns}
 use Rattle.acq_loop.specs.Driven.{Point, StepsTo, Drives, Remembers, TellsOpen}
 use Rattle.acq_loop.specs.Due.{IsOneMore}
 use Rattle.acq_loop.specs.Points.{point_of}
@@ -27,10 +27,10 @@ pub record HasReadAndWritten (left left' : Option (List ℕ)) (input input_now l
 
 -- What a turn begins with, after these answers and with this question put: none is put where nothing is open, places and screen
 -- are made for the language, and the screen's marks are true.
-pub record IsReady (l : Language) (terms : Terms) (t : List Answer) (put : Option Assignment) (places : List Place) (marks : Remembered) : Type 0 where
+pub record IsReadyToTurn (l : Language) (terms : Terms) (t : List Answer) (put : Option Assignment) (places : List Place) (marks : Remembered) : Type 0 where
   pub settled : IsSettled l terms.plan t put
   pub equipped : AreMadeFor l places
-  pub made : IsMadeFor l marks
+  pub made : AreMarksFor l marks
   pub hold : Remembers l terms t marks
   pub affordable : IsBudget terms.budget
 
@@ -38,7 +38,7 @@ pub record IsReady (l : Language) (terms : Terms) (t : List Answer) (put : Optio
 pub record IsAtStart (l : Language) (terms : Terms) (t : List Answer) (put : Option Assignment) (places : List Place) (marks : Remembered) : Type 0 where
   pub settled : IsSettled l terms.plan t put
   pub equipped : AreMadeFor l places
-  pub made : IsMadeFor l marks
+  pub made : AreMarksFor l marks
   pub unmarked : HasNoMarks marks
   pub affordable : IsBudget terms.budget
 
@@ -51,7 +51,7 @@ pub record HasTurned (turns : Turns) (l : Language) (terms : Terms) (old new : P
 
 -- The screen is made for the language, and where it is undecided it tells the open candidates.
 pub record TellsCandidates (l : Language) (terms : Terms) (t : List Answer) (marks : Remembered) (how : Drove) : Type 0 where
-  pub made : IsMadeFor l marks
+  pub made : AreMarksFor l marks
   pub undecided : (m : ℕ) → how ≡ drove.Undecided m → TellsOpen l terms t marks
 
 -- The loop has ended so: what it says is true, and so is what the screen tells.

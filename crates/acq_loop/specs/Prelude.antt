@@ -25,14 +25,14 @@ pub use Rattle.language.specs.declared.candidates.Candidate.{Candidate}
 pub use Rattle.network.specs.Texts.{network_text}
 pub use Rattle.par_screen.specs.Eighths.{AreMadeFor}
 pub use Rattle.query_gen.specs.Laws.{IsUndecided}
-pub use Rattle.query_gen.specs.Marks.{HasNoMarks, IsMadeFor, MarksHold, Remembered, is_open}
+pub use Rattle.query_gen.specs.Marks.{HasNoMarks, AreMarksFor, MarksHold, Remembered, is_open}
 pub use Rattle.query_gen.specs.Questions.{is_among, is_spent, next_query}
 pub use Rattle.query_gen.specs.declared.place.Place.{Place}
 pub use Rattle.query_gen.specs.declared.query.Query.{Query}
 pub use Rattle.session_core.specs.Settled.{IsSettled}
 pub use Rattle.session_laws.specs.Bound.{bound, greatest_arity}
 pub use Rattle.session_laws.specs.Laws.{IsWalked, network_in}
-pub use Rattle.session_laws.specs.Session.{At, Choosing, Halving, Idle, Over, Reading, State, Stray, Walking, open_question, scope_question, state_after, walk_end}
+pub use Rattle.session_laws.specs.Session.{At, Choosing, Halving, Idle, Over, Course, State, Stray, Walking, open_question, scope_question, state_after, walk_end}
 pub use Rattle.session_laws.specs.Walk.{WalkEnd}
 pub use Rattle.session_store.specs.Keeps.{LosesNone}
 pub use Rattle.session_store.specs.Kept.{IsLawfulAfter, answer_event, event_for}

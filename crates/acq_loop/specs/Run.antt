@@ -1,6 +1,6 @@
 -- What a run writes, how it ends, its events, and what it leaves.
 use Rattle.std.specs.Prelude.{◌≡◌, ◌==◌, ◌+◌, ◌∷◌, ◌++◌}
-use Rattle.acq_loop.specs.Prelude.{ℕ, zero, suc, List, [], length, Bool, true, false, Option, Some, None, option_map, Assignment, Answer, Event, Plan, Scopes, Quacq, Multi, Candidate, Language, kept, standing_on, Query, next_query, State, Idle, Halving, Choosing, Walking, Over, Reading, At, Stray, open_question, scope_question, state_after, answer_event, Turns, Reply, Said, TakenBack, Stopped, Overlong, Unread, option_map_or}
+use Rattle.acq_loop.specs.Prelude.{ℕ, zero, suc, List, [], length, Bool, true, false, Option, Some, None, option_map, Assignment, Answer, Event, Plan, Scopes, Candidate, Language, kept, standing_on, Query, next_query, State, Idle, Over, Course, At, Stray, open_question, scope_question, state_after, answer_event, Turns, Reply, Said, TakenBack, Stopped, Overlong, Unread, option_map_or}
 use Rattle.assign.specs.declared.events.Event.TheVariants as event
 use Rattle.query_gen.specs.declared.query.Query.TheVariants as query
 use Rattle.acq_loop.specs.declared.terms.Terms.{Terms}
@@ -39,7 +39,7 @@ next_at l terms t (Idle network end) = idle_next l terms.plan terms.budget (kept
 next_at l terms t (Over network) = Ends Collapsed
 next_at l terms t state = option_map_or Puts (open_question l state) (Ends Collapsed)
 
-abbrev pub next_in : Language → Terms → List Answer → Reading → Option Next
+abbrev pub next_in : Language → Terms → List Answer → Course → Option Next
 next_in l terms t (Stray number) = None
 next_in l terms t (At state) = Some (next_at l terms t state)
 

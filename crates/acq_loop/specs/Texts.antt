@@ -1,6 +1,6 @@
 -- What the program writes beside the lines of its turns.
 use Rattle.std.specs.Prelude.{◌∷◌, ◌++◌}
-use Rattle.acq_loop.specs.Prelude.{ℕ, List, [], length, filter, codes, flat_map, decimal, Answer, Candidate, Language, kept, candidate_text, network_text, outcome_of_candidate, is_spent, Reading, Stray, At, state_after, network_in, fault_text, VocFault}
+use Rattle.acq_loop.specs.Prelude.{ℕ, List, [], length, filter, codes, flat_map, decimal, Answer, Candidate, Language, kept, candidate_text, network_text, outcome_of_candidate, is_spent, Course, Stray, At, state_after, network_in, fault_text, VocFault}
 use Rattle.acq_loop.specs.Run.{Closing, Converged, Collapsed, Undecided, Suspended, LineTooLong, Unreadable, JournalFull}
 use Rattle.acq_loop.specs.declared.terms.Terms.{Terms}
 
@@ -28,7 +28,7 @@ abbrev pub open_line : Language → Candidate → List ℕ
 open_line l c = codes "open " ++ (candidate_text l c ++ 10 ∷ [])
 
 -- the network to which answers lead
-abbrev pub learned_in : Reading → List Candidate
+abbrev pub learned_in : Course → List Candidate
 learned_in (Stray number) = []
 learned_in (At state) = network_in state
 

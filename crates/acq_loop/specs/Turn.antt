@@ -17,8 +17,8 @@ pub record Between (K D : Type 0) : Type 0 where
   pub left : Option (List ℕ)
   pub written : Option (List ℕ)
 
-abbrev pub between : {K D : Type 0} → K → D → (left written : Option (List ℕ)) → Between K D
-between keeper on left written = record { keeper = keeper; on = on; left = left; written = written }
+abbrev pub between_turns : {K D : Type 0} → K → D → (left written : Option (List ℕ)) → Between K D
+between_turns keeper on left written = record { keeper = keeper; on = on; left = left; written = written }
 
 -- the meanings of a keeper and of a disk
 module _ {K D : Type 0} (keep : KeepOf K D) (disk : DiskOf D) where
@@ -29,7 +29,7 @@ module _ {K D : Type 0} (keep : KeepOf K D) (disk : DiskOf D) where
     pub acknowledged : LosesNone keep disk old.keeper old.on new.on
     pub says_next : SaysNext turns l terms (keep.record_of old.keeper) old.left old.written new.written
 
-  -- Turns one after another lead from the one to the other. What is between them is listed from the last to the first.
+  -- Turns one after another lead from the one to the other. What is between_turns them is listed from the last to the first.
   abbrev pub AreTurns : Turns → Language → Terms → Between K D → List (Between K D) → Between K D → Type 0
   AreTurns turns l terms old [] new = new ≡ old
   AreTurns turns l terms old (mid ∷ more) new = AreTurns turns l terms old more mid × IsTurn turns l terms mid new

@@ -7,7 +7,7 @@ ghost use Rattle.assign.specs.declared.events.Plan.TheVariants.{Multi};
 ghost use Rattle.language.specs.declared.candidates.Candidate.{Candidate};
 ghost use Rattle.language.specs.Language.{Language, IsLanguage, IsQuestion};
 ghost use Rattle.language.specs.Answers.{IsNetwork, agrees, standing_on};
-ghost use Rattle.query_gen.specs.Marks.{IsMadeFor};
+ghost use Rattle.query_gen.specs.Marks.{AreMarksFor};
 ghost use Rattle.par_screen.specs.Eighths.{AreMadeFor};
 ghost use Rattle.session_core.specs.Settled.{IsSettled};
 ghost use Rattle.session_core.specs.Standing.{Stands, knowledge_of, open_in};
@@ -20,10 +20,10 @@ ghost use Rattle.acq_loop.specs.Closings.{closing_of, ending_of};
 ghost use Rattle.acq_loop.specs.Driven.{IsOwned, Loses, Remembers};
 ghost use Rattle.acq_loop.specs.Added.{IsTaught, MayEnd};
 ghost use Rattle.acq_loop.specs.Due.{IsDue, EventKept};
-ghost use Rattle.acq_loop.specs.Heard.{heard_of, event_on, MayKeep, Forgets, Hears, end_of};
+ghost use Rattle.acq_loop.specs.Heard.{heard_of, event_on, MayKeep, Forgets, HearsReply, end_on_fault};
 ghost use Rattle.acq_loop.specs.Points.{point_of, terms_with};
-ghost use Rattle.acq_loop.specs.Turn.{ByTurns, IsTurn, ServesOn, between};
-ghost use Rattle.acq_loop.specs.Loop.{EndsAs, EndsUnasked, HasReadAndWritten, HasTurned, IsAtStart, IsReady};
+ghost use Rattle.acq_loop.specs.Turn.{ByTurns, IsTurn, ServesOn, between_turns};
+ghost use Rattle.acq_loop.specs.Loop.{EndsAs, EndsUnasked, HasReadAndWritten, HasTurned, IsAtStart, IsReadyToTurn};
 
 use crate::next::{Upcoming, next_of};
 use acq_io::{Sink, Source};
@@ -72,12 +72,12 @@ fn put_next<R: Threads + Sync, D: Disk, P: Keep<D>, G: Gate>(
     gate: &G,
 ) -> Option<Drove>
     requires sound { P.sound keep.old }
-    requires ready { IsReady (P.lang keep.old) (terms_with (P.plan keep.old) budget) (standing_on (P.lang keep.old) (P.record_of keep.old)) (P.question keep.old) places.old screen.old }
+    requires ready { IsReadyToTurn (P.lang keep.old) (terms_with (P.plan keep.old) budget) (standing_on (P.lang keep.old) (P.record_of keep.old)) (P.question keep.old) places.old screen.old }
     ensures put { result ≡ None → IsDue (P.lang keep.old) (terms_with (P.plan keep.old) budget) (standing_on (P.lang keep.old) (P.record_of keep.old)) (P.question keep.new) }
     ensures ends { IfSome result (EndsUnasked (P.lang keep.old) (terms_with (P.plan keep.old) budget) (P.record_of keep.old) screen.new) }
     ensures keeper { OnlyPuts P.Keep keep.old keep.new }
     ensures places { AreMadeFor (P.lang keep.old) places.new }
-    ensures screen { IsMadeFor (P.lang keep.old) screen.new }
+    ensures screen { AreMarksFor (P.lang keep.old) screen.new }
     ensures remembers { Remembers (P.lang keep.old) (terms_with (P.plan keep.old) budget) (standing_on (P.lang keep.old) (P.record_of keep.old)) screen.new }
 {
     let count = keep.session().answers();
@@ -143,7 +143,7 @@ pub fn keep_event<D: Disk, P: Keep<D>>(keep: &mut P, disk: &mut D, entry: Entry)
 
 /// How the loop ends where an event couldn't be kept.
 fn end_of(kept: Result<(), SFault>) -> Option<Drove>
-    ensures { result ≡ end_of kept }
+    ensures { result ≡ end_on_fault kept }
 {
     match kept {
         Ok(()) => None,
@@ -155,7 +155,7 @@ fn end_of(kept: Result<(), SFault>) -> Option<Drove>
 /// Forgets what searches said where an answer is taken back, since less may be learned than before.
 fn forget(screen: &mut Screen, entry: Entry)
     ensures forgets { Forgets entry screen.old screen.new }
-    ensures made { (l : Language) → IsMadeFor l screen.old → IsMadeFor l screen.new }
+    ensures made { (l : Language) → AreMarksFor l screen.old → AreMarksFor l screen.new }
 {
     match entry {
         Entry::Answer(_) => {}
@@ -176,7 +176,7 @@ fn hear<S: Source, K: Sink, T: Teacher<S, K>>(
     requires stands { (t : List Answer) × Stands session.now t }
     ensures lawful { IsLanguage (knowledge_of session.now).lang }
     ensures fits { ForSome (open_in session.now) (IsQuestion (knowledge_of session.now).lang) }
-    ensures hears { ForSome (open_in session.now) (λ q. Hears (T.turn teacher.old) (T.may_say teacher.old) (knowledge_of session.now).lang q (knowledge_of session.now).answers
+    ensures hears { ForSome (open_in session.now) (λ q. HearsReply (T.turn teacher.old) (T.may_say teacher.old) (knowledge_of session.now).lang q (knowledge_of session.now).answers
         (S.left source.old) (K.written sink.old) (S.left source.new) (K.written sink.new) result) }
     ensures teacher { TeachesOn T.turn T.fits T.may_say T.reads teacher.old teacher.new }
     ensures unread { IsFalse (T.reads teacher.old) → source.new ≡ source.old }
@@ -185,8 +185,8 @@ fn hear<S: Source, K: Sink, T: Teacher<S, K>>(
     let count = session.answers();
     match session {
         Session::Asking(asking) => {
-            let question = asking.question();
-            let told = teacher.told(alloc, source, sink, session.lang(), count + 1, &question);
+            let question = asking.asked();
+            let told = teacher.told(alloc, source, sink, session.lang(), count + 1, question);
             heard_of(told, count)
         }
         Session::Idle(_) | Session::Over(_) => unreachable!(),
@@ -221,11 +221,11 @@ pub fn take_turn<
 ) -> Option<Drove>
     requires keeper { IsKeeping P.Keep keep.old disk.old }
     requires fits { T.fits teacher.old (P.lang keep.old) }
-    requires ready { IsReady (P.lang keep.old) (terms_with (P.plan keep.old) budget) (standing_on (P.lang keep.old) (P.record_of keep.old)) (P.question keep.old) places.old screen.old }
+    requires ready { IsReadyToTurn (P.lang keep.old) (terms_with (P.plan keep.old) budget) (standing_on (P.lang keep.old) (P.record_of keep.old)) (P.question keep.old) places.old screen.old }
     ensures again { result ≡ None → HasTurned (T.turn teacher.old) (P.lang keep.old) (terms_with (P.plan keep.old) budget)
         (point_of (P.record_of keep.old) (S.left source.old) (K.written sink.old))
         (point_of (P.record_of keep.new) (S.left source.new) (K.written sink.new)) }
-    ensures ready { result ≡ None → IsReady (P.lang keep.old) (terms_with (P.plan keep.old) budget) (standing_on (P.lang keep.old) (P.record_of keep.new)) (P.question keep.new) places.new screen.new }
+    ensures ready { result ≡ None → IsReadyToTurn (P.lang keep.old) (terms_with (P.plan keep.old) budget) (standing_on (P.lang keep.old) (P.record_of keep.new)) (P.question keep.new) places.new screen.new }
     ensures ends { IfSome result (EndsAs (T.turn teacher.old) (P.lang keep.old) (terms_with (P.plan keep.old) budget)
         (point_of (P.record_of keep.old) (S.left source.old) (K.written sink.old))
         (point_of (P.record_of keep.new) (S.left source.new) (K.written sink.new)) screen.new) }
@@ -242,7 +242,7 @@ pub fn take_turn<
     ensures serves { ServesOn T.turn T.fits T.may_say T.reads (P.lang keep.old) teacher.old teacher.new source.old source.new places.new }
     // whatever comes of it
     ensures turn { IsTurn P.Keep D.Disk (T.turn teacher.old) (P.lang keep.old) (terms_with (P.plan keep.old) budget)
-        (between keep.old disk.old (S.left source.old) (K.written sink.old)) (between keep.new disk.new (S.left source.new) (K.written sink.new)) }
+        (between_turns keep.old disk.old (S.left source.old) (K.written sink.old)) (between_turns keep.new disk.new (S.left source.new) (K.written sink.new)) }
 {
     if let Some(end) = put_next::<R, D, P, G>(rt, keep, places, screen, budget, gate) {
         return Some(end);
@@ -307,7 +307,7 @@ pub fn drive<R: Threads + Sync, S: Source, K: Sink, D: Disk, T: Teacher<S, K>, P
     ensures serves { ServesOn T.turn T.fits T.may_say T.reads (P.lang keep.old) teacher.old teacher.new source.old source.new places.new }
     // no turn loses an event that was there when it began, or writes more than the lines of the question that came then
     ensures by_turns { ByTurns P.Keep D.Disk (T.turn teacher.old) (P.lang keep.old) (terms_with (P.plan keep.old) budget)
-        (between keep.old disk.old (S.left source.old) (K.written sink.old)) (between keep.new disk.new (S.left source.new) (K.written sink.new)) }
+        (between_turns keep.old disk.old (S.left source.old) (K.written sink.old)) (between_turns keep.new disk.new (S.left source.new) (K.written sink.new)) }
 {
     let _variables = keep.session().lang().n();
     for _turn in 0..MOST_RECORDS {

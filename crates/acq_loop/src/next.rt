@@ -3,13 +3,13 @@
 ghost use Rattle.std.specs.Prelude.{◌≡◌, ◌≢◌, List, None};
 ghost use Rattle.assign.specs.Events.{Answer};
 ghost use Rattle.assign.specs.declared.events.Plan.TheVariants.{Scopes};
-ghost use Rattle.query_gen.specs.Marks.{IsMadeFor, MarksHold};
+ghost use Rattle.query_gen.specs.Marks.{AreMarksFor, MarksHold};
 ghost use Rattle.par_screen.specs.Eighths.{AreMadeFor};
 ghost use Rattle.language.specs.Answers.{standing_on};
 ghost use Rattle.session_core.specs.Standing.{Stands, knowledge_of};
 ghost use Rattle.acq_loop.specs.Driven.{Remembers, TellsOpen};
 ghost use Rattle.acq_loop.specs.Due.{NextIs};
-ghost use Rattle.acq_loop.specs.Loop.{IsReady};
+ghost use Rattle.acq_loop.specs.Loop.{IsReadyToTurn};
 ghost use Rattle.acq_loop.specs.Points.{terms_with};
 ghost use Rattle.acq_words.specs.Request.{IsBudget};
 
@@ -61,12 +61,12 @@ fn searched_next<R: Threads + Sync, G: Gate>(
 ) -> Upcoming
     requires plan { (knowledge_of (Session.Idle idle.now)).plan ≢ Scopes }
     requires places { AreMadeFor (knowledge_of (Session.Idle idle.now)).lang places.old }
-    requires screen { IsMadeFor (knowledge_of (Session.Idle idle.now)).lang screen.old }
+    requires screen { AreMarksFor (knowledge_of (Session.Idle idle.now)).lang screen.old }
     requires marks { let k = knowledge_of (Session.Idle idle.now) in MarksHold k.lang k.network.list budget screen.old }
     requires budget { IsBudget budget }
     ensures next { (t : List Answer) → let k = knowledge_of (Session.Idle idle.now) in Stands (Session.Idle idle.now) t → NextIs k.lang (terms_with k.plan budget) t None result }
     ensures places { AreMadeFor (knowledge_of (Session.Idle idle.now)).lang places.new }
-    ensures screen { IsMadeFor (knowledge_of (Session.Idle idle.now)).lang screen.new }
+    ensures screen { AreMarksFor (knowledge_of (Session.Idle idle.now)).lang screen.new }
     ensures marks { let k = knowledge_of (Session.Idle idle.now) in MarksHold k.lang k.network.list budget screen.new }
     ensures open { (t : List Answer) → let k = knowledge_of (Session.Idle idle.now) in Stands (Session.Idle idle.now) t → result ≡ Upcoming.Undecided → TellsOpen k.lang (terms_with k.plan budget) t screen.new }
 {
@@ -97,12 +97,12 @@ fn idle_next<R: Threads + Sync, G: Gate>(
     gate: &G,
 ) -> Upcoming
     requires places { AreMadeFor (knowledge_of (Session.Idle idle.now)).lang places.old }
-    requires screen { IsMadeFor (knowledge_of (Session.Idle idle.now)).lang screen.old }
+    requires screen { AreMarksFor (knowledge_of (Session.Idle idle.now)).lang screen.old }
     requires marks { let k = knowledge_of (Session.Idle idle.now) in MarksHold k.lang k.network.list budget screen.old }
     requires budget { IsBudget budget }
     ensures next { (t : List Answer) → let k = knowledge_of (Session.Idle idle.now) in Stands (Session.Idle idle.now) t → NextIs k.lang (terms_with k.plan budget) t None result }
     ensures places { AreMadeFor (knowledge_of (Session.Idle idle.now)).lang places.new }
-    ensures screen { IsMadeFor (knowledge_of (Session.Idle idle.now)).lang screen.new }
+    ensures screen { AreMarksFor (knowledge_of (Session.Idle idle.now)).lang screen.new }
     ensures marks { let k = knowledge_of (Session.Idle idle.now) in MarksHold k.lang k.network.list budget screen.new }
     ensures open { (t : List Answer) → let k = knowledge_of (Session.Idle idle.now) in Stands (Session.Idle idle.now) t → result ≡ Upcoming.Undecided → TellsOpen k.lang (terms_with k.plan budget) t screen.new }
 {
@@ -122,10 +122,10 @@ pub fn next_of<R: Threads + Sync, D: Disk, P: Keep<D>, G: Gate>(
     gate: &G,
 ) -> Upcoming
     requires sound { P.sound keep.now }
-    requires ready { IsReady (P.lang keep.now) (terms_with (P.plan keep.now) budget) (standing_on (P.lang keep.now) (P.record_of keep.now)) (P.question keep.now) places.old screen.old }
+    requires ready { IsReadyToTurn (P.lang keep.now) (terms_with (P.plan keep.now) budget) (standing_on (P.lang keep.now) (P.record_of keep.now)) (P.question keep.now) places.old screen.old }
     ensures next { NextIs (P.lang keep.now) (terms_with (P.plan keep.now) budget) (standing_on (P.lang keep.now) (P.record_of keep.now)) (P.question keep.now) result }
     ensures places { AreMadeFor (P.lang keep.now) places.new }
-    ensures screen { IsMadeFor (P.lang keep.now) screen.new }
+    ensures screen { AreMarksFor (P.lang keep.now) screen.new }
     ensures remembers { Remembers (P.lang keep.now) (terms_with (P.plan keep.now) budget) (standing_on (P.lang keep.now) (P.record_of keep.now)) screen.new }
     ensures open { result ≡ Upcoming.Undecided → TellsOpen (P.lang keep.now) (terms_with (P.plan keep.now) budget) (standing_on (P.lang keep.now) (P.record_of keep.now)) screen.new }
 {

@@ -1,5 +1,5 @@
 -- The endings of the loop and those of the program.
-use Rattle.acq_said.proofs.Prelude.{◌≡◌, ◌∙◌, sym, ap, Option, None, Some, Result, Ok, Err, Put, Failed, Memory, ending_of, Drove, Ending, ℕ, List, IsErr, MatchOption, Answer, Language, Closing, closing_text, Terms}
+use Rattle.acq_said.proofs.Prelude.{◌≡◌, ◌∙◌, refl, sym, subst, Option, None, Some, Result, Ok, Err, IfOk, Put, ending_of, Drove, Ending, ℕ, List, IsErr, MatchOption, Answer, Language, Closing, closing_text, Terms}
 use Rattle.acq_io.specs.Streams.{Adds, AddsFront}
 use Rattle.acq_loop.specs.declared.driving.Drove.TheVariants as drove
 use Rattle.acq_loop.specs.declared.ending.Ending.TheVariants as ending
@@ -29,18 +29,14 @@ loop_end ending.DiskFault = Some drove.DiskFault
 loop_end ending.JournalFull = Some drove.JournalFull
 loop_end end = None
 
-pub loop_ended : (how : Drove) (end : Ending) → ending_of how ≡ okay end → loop_end end ≡ Some how
-loop_ended (drove.Converged m) end is = ap loop_end (sym (same_ok (ending.Converged m) end is))
-loop_ended (drove.Collapsed m) end is = ap loop_end (sym (same_ok (ending.Collapsed m) end is))
-loop_ended (drove.Undecided m) end is = ap loop_end (sym (same_ok (ending.Undecided m) end is))
-loop_ended (drove.Suspended m) end is = ap loop_end (sym (same_ok (ending.Suspended m) end is))
-loop_ended drove.LineTooLong end is = ap loop_end (sym (same_ok ending.LineTooLong end is))
-loop_ended drove.Unreadable end is = ap loop_end (sym (same_ok ending.Unreadable end is))
-loop_ended drove.ReadFault end is = ap loop_end (sym (same_ok ending.ReadFault end is))
-loop_ended drove.WriteFault end is = absurd (err_ok Failed end is)
-loop_ended drove.DiskFault end is = ap loop_end (sym (same_ok ending.DiskFault end is))
-loop_ended drove.JournalFull end is = ap loop_end (sym (same_ok ending.JournalFull end is))
-loop_ended drove.Memory end is = absurd (err_ok Memory end is)
+-- where the program ends as the loop did, the loop ended so
+loops_as : (how : Drove) → IfOk (ending_of how) (λ (end : Ending). loop_end end ≡ Some how)
+loops_as drove.WriteFault = tt
+loops_as drove.Memory = tt
+loops_as how = refl
+
+loop_ended : (how : Drove) (end : Ending) → ending_of how ≡ okay end → loop_end end ≡ Some how
+loop_ended how end is = subst (λ (r : Result Ending Put). IfOk r (λ (e : Ending). loop_end e ≡ Some how)) is (loops_as how)
 
 -- the loop doesn't end so
 pub not_loops : (how : Drove) (end : Ending) → ending_of how ≡ okay end → loop_end end ≡ None → ⊥
@@ -49,20 +45,6 @@ not_loops how end is other = let bad : None ≡ Some how = sym other ∙ loop_en
 -- it ended so
 pub loops_by : (how was : Drove) (end : Ending) → ending_of how ≡ okay end → loop_end end ≡ Some was → how ≡ was
 loops_by how was end is so = let same : Some how ≡ Some was = sym (loop_ended how end is) ∙ so in cc
-
--- a fault that is told is the loop's
-pub read_by : (how : Drove) (end : Ending) → ending_of how ≡ okay end → end ≡ ending.ReadFault → how ≡ drove.ReadFault
-read_by how end is so = loops_by how drove.ReadFault end is (ap loop_end so)
-
-pub disk_by : (how : Drove) (end : Ending) → ending_of how ≡ okay end → end ≡ ending.DiskFault → how ≡ drove.DiskFault
-disk_by how end is so = loops_by how drove.DiskFault end is (ap loop_end so)
-
--- and the other way round
-pub read_said : (how : Drove) (end : Ending) → ending_of how ≡ okay end → how ≡ drove.ReadFault → end ≡ ending.ReadFault
-read_said how end so is = same_ok end ending.ReadFault (sym so ∙ ap ending_of is)
-
-pub disk_said : (how : Drove) (end : Ending) → ending_of how ≡ okay end → how ≡ drove.DiskFault → end ≡ ending.DiskFault
-disk_said how end so is = same_ok end ending.DiskFault (sym so ∙ ap ending_of is)
 
 -- ---- the last lines
 

@@ -1,5 +1,5 @@
 -- Exactly when a command over a journal is done or refused, of what it has done.
-use Rattle.acq_said.proofs.Prelude.{◌≡◌, ◌⊎◌, ℕ, List, Option, Result, Ok, Err, refl, sym, ◌∙◌, ap, subst, inl, inr, ⊎_elim, ForSome, DiskOf, Put, Opened, Holds, RefusesOpening, SFault, IsBrokenOff, Refuses, SaysOver, SaysSo, GoesOn, line_turn, ended_as, Ending, MatchResult}
+use Rattle.acq_said.proofs.Prelude.{◌≡◌, ◌⊎◌, ℕ, List, Option, Result, Ok, Err, refl, sym, ◌∙◌, ap, subst, inl, inr, ⊎_elim, ForSome, DiskOf, Put, Opened, SaysOpened, RefusesOpening, SFault, IsBrokenOff, SaysRefusal, SaysOver, SaysSo, RunGoesOn, line_turn, ended_as, Ending, MatchResult}
 use Rattle.acq_io.specs.declared.streams.Put.TheVariants as put
 use Rattle.std.specs.Prelude.{◌↔◌}
 use Rattle.session_store.specs.Opening.{NotOpened}
@@ -23,7 +23,7 @@ abbrev pub OpensExactly : (file : List ℕ) → Ending → Type 0
 OpensExactly file end = (f : SFault) → (end ≡ ending.JournalRefused f) ↔ RefusesOpening file f
 
 -- a file that is refused holds no session
-pub holds_none : ReadOnce → (file : List ℕ) (f : SFault) → RefusesOpening file f → (o : Opened) → Holds file o → ⊥
+pub holds_none : ReadOnce → (file : List ℕ) (f : SFault) → RefusesOpening file f → (o : Opened) → SaysOpened file o → ⊥
 holds_none once file f why o held = bytes_hold_none once file f o why held
 
 pub closed_exactly : ReadOnce → (file : List ℕ) (end : Ending) (f : SFault) → RefusesOpening file f → end ≡ ending.JournalRefused f → OpensExactly file end
@@ -33,8 +33,8 @@ module _ {D : Type 0} (disk : DiskOf D) where
   -- what `run` has done
   abbrev pub RunsOn : ℕ → (left written left' written' : Option (List ℕ)) → D → D → Result Ending Put → Type 0
   RunsOn budget left written left' written' old new got =
-      SaysSo (SaysOver disk (λ opening said. (fault : SFault) × (opening ≡ Err fault) × Refuses fault said × (left' ≡ left)) (λ o. Unit {0}) old new) written written' got
-      ⊎ GoesOn disk line_turn (λ l q told. Unit {0}) budget left written left' written' old new got
+      SaysSo (SaysOver disk (λ opening said. (fault : SFault) × (opening ≡ Err fault) × SaysRefusal fault said × (left' ≡ left)) (λ o. Unit {0}) old new) written written' got
+      ⊎ RunGoesOn disk line_turn (λ l q told. Unit {0}) budget left written left' written' old new got
 
   pub run_ends : ReadOnce → (budget : ℕ) (left written left' written' : Option (List ℕ)) (old new : D) (got : Result Ending Put) → RunsOn budget left written left' written' old new got →
       ForSome (disk.content old) (λ file. IsBrokenOff (ended_as got) ⊎ OpensExactly file (ended_as got))
@@ -42,7 +42,7 @@ module _ {D : Type 0} (disk : DiskOf D) where
   run_ends once budget left written left' written' old new (Err put.Memory) runs = λ file told. inl (inr (inr (inr refl)))
   run_ends once budget left written left' written' old new (Ok end) (inl (said, over, has)) = λ file told.
       let closed = over.says in
-      let As : Result Opened SFault → Type 0 = λ o. MatchResult o (Holds file) (NotOpened file) in
+      let As : Result Opened SFault → Type 0 = λ o. MatchResult o (SaysOpened file) (NotOpened file) in
       let why : NotOpened file closed.0 = subst As closed.1 (over.opens file told) in
       ⊎_elim (λ broken. inl broken) (λ is. inr (closed_exactly once file end closed.0 (is.0, why) is.1)) (refuses_end closed.0 said written written' end closed.2 has)
   run_ends once budget left written left' written' old new (Ok end) (inr on) = λ file told.

@@ -1,6 +1,5 @@
 -- What a run over a journal has done, of its opening and its loop.
-use Rattle.acq_said.proofs.Prelude.{◌≡◌, ◌⊎◌, ◌+◌, ◌≤◌, ℕ, Bool, List, [], ◌∷◌, ◌++◌, Option, Some, Result, Ok, Err, refl, sym, ◌∙◌, ap, subst, inl, inr, ⊎_elim, arith, append_cancel_left, IfOk, OnErr, IsSome, ForSome, append-nil, DiskOf, Put, AreReadingCalls, Assignment, Event, Plan, LeavesOnly, joined, Language, IsLanguage, OpensWith, OpensWithin, SaysSession, LeavesNow, bytes_told, calls_of, IsRaisedOn, AreEventCalls, IsGrown, Persists, FailsWith, HavePlaces, plan_of, voc_of, events_of, IsThere, is_raised_in, opens_there, Store, SFault, IsVocabulary, BreaksRun, Turns, Told, IsAdded, run_laws, Loses, point_of, terms_with, Tries, GoesOn, Ending, untold, Saying, Unsaid, Opened, Holds, opened_as, lang_of, SaysOver, AllFault, MatchResult, IsSaid, voc_refused}
-use Rattle.acq_io.specs.declared.streams.Put.TheVariants as put
+use Rattle.acq_said.proofs.Prelude.{◌≡◌, ◌⊎◌, ◌+◌, ◌≤◌, ℕ, Bool, List, [], ◌∷◌, ◌++◌, Option, Some, Result, Ok, Err, refl, sym, ◌∙◌, ap, subst, inl, inr, ⊎_elim, arith, append_cancel_left, IfOk, OnErr, IsSome, ForSome, append-nil, DiskOf, Put, AreReadingCalls, Assignment, Event, Plan, LeavesOnly, joined, Language, IsLanguage, OpensWith, OpensWithin, SaysSession, LeavesNow, bytes_told, all_calls, IsRaisedOn, AreEventCalls, IsGrown, Persists, FailsWith, HavePlaces, plan_of, voc_of, events_of, IsThere, is_raised_in, opens_there, Store, SFault, IsVocabulary, BreaksRun, Turns, Told, IsAdded, run_laws, Loses, point_of, terms_with, Tries, RunGoesOn, Ending, Saying, Unsaid, Opened, opened_as, lang_of, SaysOver, AllFault, MatchResult, IsSaid, voc_refused}
 use Rattle.answer_journal.specs.Synced.{IsSynced}
 use Rattle.session_store.specs.Opened.{IsSession}
 use Rattle.session_store.specs.Opening.{NotOpened}
@@ -8,11 +7,10 @@ use Rattle.answer_journal.specs.declared.fault.JFault.TheVariants as journal
 use Rattle.session_store.specs.declared.fault.SFault.TheVariants as store
 use Rattle.acq_loop.proofs.Added.{placed_event}
 use Rattle.voc_read.specs.declared.fault.VocFault.TheVariants as vocs
-use Rattle.acq_said.specs.Making.{IsMade, IsNotMade}
+use Rattle.acq_said.specs.Making.{IsJournalMade, IsNotMade}
 use Rattle.acq_said.proofs.Closings.{okay, same_ok, err_ok}
 use Rattle.acq_said.proofs.Spoken.{ok_any}
 use Rattle.acq_loop.specs.declared.ending.Ending.TheVariants as ending
-use Rattle.acq_said.specs.declared.said.Unsaid.TheVariants as unsaid
 
 -- a person may give any answer
 abbrev pub any_answer : Language → Assignment → Told → Type 0
@@ -41,122 +39,63 @@ module _ {D : Type 0} (disk : DiskOf D) where
       IfOk got (Tries turns lang (terms_with plan budget) events later left written left' written') →
       OnErr got (BreaksRun turns lang (terms_with plan budget) events later left written left' written') →
       P lang plan events later →
-      (on : GoesOn disk turns may budget left written left' written' first new got) × P on.of.lang on.of.plan on.of.events on.later
+      (on : RunGoesOn disk turns may budget left written left' written' first new got) × P on.of.lang on.of.plan on.of.events on.later
   goes_on_with P turns may budget left written left' written' first old new got plan voc events later open_then lang was is says some read places still opening few knows grown calls lawful added on persists fails tries part has =
-      let o : Opened = opened_as plan voc events lang in
-      let session : IsSession o = record { read = read; places = places } in
-      let holds : ForSome (disk.content first) (λ bytes. Holds bytes o) = λ bytes told. record { says = says bytes told; session = session } in
-      let held : (bytes : List ℕ) × Holds bytes o = (some.0, record { says = some.1; session = session }) in
       ⊎_elim
       (λ is.
       let f = fails is in
-      let last : List Event = f.event ∷ [] in (
-        record {
-          of = o;
-          opens = holds;
-          some = held;
-          later = later;
-          added = added;
-          tries = tries;
-          part = part;
-          last = last;
-          none_lost = λ no. absurd (no is);
-          one_lost = λ so. (f.event, refl, f.lost);
-          all_places = placed_event run_laws lang lawful (terms_with plan budget) later f.lost.question f.event f.lost.puts f.lost.fits f.lost.follows (added.places places);
-          any_moment = λ bytes told.
-              joined disk first old new (disk.may_leave first) (OpensWithin plan voc events (later ++ last)) (λ c. disk.may_leave first c ⊎ OpensWithin plan voc events (later ++ last) c) opening (f.any_moment bytes (still ∙ told))
-              (λ c was. inl was) (λ c opens. inr opens);
-          now = λ bytes told. let t = bytes_told (disk.content new) (on bytes (still ∙ told)) in record { bytes = t.0; tells = t.1; each = f.now bytes (still ∙ told) };
-          raised = was;
-          was_raised = knows;
-          calls = λ bytes told.
-              let more : grown.more ≡ added.more = append_cancel_left events grown.more added.more (sym grown.is ∙ added.is) in
-              let Calls : List Event → Type 0 = λ l. disk.calls new ≤ disk.calls old + calls_of was (l ++ last) in
-              let made : Calls added.more = subst Calls more f.few in omega (arith, few bytes told, made);
-        },
-        has,
-      ))
+      with_last (f.event ∷ []) (λ no. absurd (no is)) (λ so. (f.event, refl, f.lost))
+      (placed_event run_laws lang lawful (terms_with plan budget) later f.lost.question f.event f.lost.puts f.lost.fits f.lost.follows (added.places places)) f.any_moment
+      (λ bytes told. let t = bytes_told (disk.content new) (on bytes told) in record { bytes = t.0; tells = t.1; each = f.now bytes told }) f.few)
       (λ no.
       let p = persists no in
-      let same : later ++ [] ≡ later = append-nil later in
-      let Within : List Event → Type 0 = λ l. LeavesOnly disk old new (OpensWithin plan voc events l) in (
-        record {
-          of = o;
-          opens = holds;
-          some = held;
-          later = later;
-          added = added;
-          tries = tries;
-          part = part;
-          last = [];
-          none_lost = λ so. refl;
-          one_lost = λ is. absurd (no is);
-          all_places = let Placed : List Event → Type 0 = λ x. HavePlaces lang plan x in subst Placed (sym same) (added.places places);
-          any_moment = λ bytes told.
-              joined disk first old new (disk.may_leave first) (OpensWithin plan voc events (later ++ [])) (λ c. disk.may_leave first c ⊎ OpensWithin plan voc events (later ++ []) c) opening
-              (subst Within (sym same) (p bytes (still ∙ told)).any_moment) (λ c was. inl was) (λ c opens. inr opens);
-          now = λ bytes told. let n = (p bytes (still ∙ told)).now in record { bytes = n.bytes; tells = n.tells; each = λ c left. inl (n.each c left) };
-          raised = was;
-          was_raised = knows;
-          calls = λ bytes told.
-              let more : grown.more ≡ added.more ++ [] = append_cancel_left events grown.more added.more (sym grown.is ∙ added.is) ∙ sym (append-nil added.more) in
-              let Calls : List Event → Type 0 = λ l. disk.calls new ≤ disk.calls old + calls_of was l in
-              let made : Calls (added.more ++ []) = subst Calls more (calls no).few in omega (arith, few bytes told, made);
-        },
-        has,
-      ))
+      let same : later ≡ later ++ [] = sym (append-nil later) in
+      with_last [] (λ so. refl) (λ is. absurd (no is)) (subst (λ (es : List Event). HavePlaces lang plan es) same (added.places places))
+      (λ bytes told. subst (λ (es : List Event). LeavesOnly disk old new (OpensWithin plan voc events es)) same (p bytes told).any_moment)
+      (λ bytes told. let n = (p bytes told).now in record { bytes = n.bytes; tells = n.tells; each = λ c left. inl (n.each c left) })
+      (subst (λ (es : List Event). disk.calls new ≤ disk.calls old + all_calls was es) (sym (append-nil grown.more)) (calls no).few))
       (disk_failed got)
-
-  pub goes_on : (turns : Turns) (may : Language → Assignment → Told → Type 0) (budget : ℕ) (left written left' written' : Option (List ℕ)) (first old new : D) (got : Result Ending Put) (plan : Plan) (voc : List ℕ) (events later : List Event) (open_then : Option Assignment) (lang : Language) (was is : Bool) →
-      ForSome (disk.content first) (λ bytes. SaysSession bytes plan voc events) → ((bytes : List ℕ) × SaysSession bytes plan voc events) → IsVocabulary voc lang → HavePlaces lang plan events → disk.content old ≡ disk.content first → LeavesOnly disk first old (disk.may_leave first) → ForSome (disk.content first) (AreReadingCalls 5 (disk.calls first) (disk.calls old)) →
-      ForSome (disk.content first) (λ bytes. IsRaisedOn bytes was) → (grown : IsGrown events later) → ((IsDisk got → ⊥) → AreEventCalls disk was is grown.more old new) →
-      IsLanguage lang → IsAdded lang plan (may lang) events later → ForSome (disk.content old) (λ _. IsSome (disk.content new)) → ((IsDisk got → ⊥) → ForSome (disk.content old) (λ _. Persists disk plan voc events later old new)) →
-      (IsDisk got → FailsWith disk was grown.more plan voc events later open_then
-      (Loses turns lang (terms_with plan budget) (point_of events left written) (point_of later left' written')) old new) →
-      IfOk got (Tries turns lang (terms_with plan budget) events later left written left' written') →
-      OnErr got (BreaksRun turns lang (terms_with plan budget) events later left written left' written') →
-      GoesOn disk turns may budget left written left' written' first new got
-  goes_on turns may budget left written left' written' first old new got plan voc events later open_then lang was is says some read places still opening few knows grown calls lawful added on persists fails tries part =
-      (goes_on_with (λ l p es fs. Unit {0}) turns may budget left written left' written' first old new got plan voc events later open_then lang was is says some read places still opening few knows grown calls lawful added on persists fails tries part tt).0
-
--- ---- faults that aren't told
-
-abbrev unspoken : Option Unsaid → Unsaid → Type 0
-unspoken o why = o ≡ Some why
-
--- the disk failed, or memory was wanting
-pub untold_is : (fault : SFault) (why : Unsaid) → unspoken (untold fault) why → ((fault ≡ store.Journal journal.DiskFault) × (why ≡ unsaid.DiskFault)) ⊎ (why ≡ unsaid.Memory)
-untold_is (store.Journal journal.DiskFault) why is = inl (refl, let same : why ≡ unsaid.DiskFault = cc in same)
-untold_is (store.Journal journal.Memory) why is = inr (let same : why ≡ unsaid.Memory = cc in same)
-untold_is store.Memory why is = inr (let same : why ≡ unsaid.Memory = cc in same)
-untold_is fault why is = absurd (let no : ⊥ = cc in no)
-
-pub untold_read : (fault : SFault) (why : Unsaid) → unspoken (untold fault) why → why ≡ unsaid.ReadFault → ⊥
-untold_read fault why is read = ⊎_elim (λ failed. let no : unsaid.ReadFault ≡ unsaid.DiskFault = sym read ∙ failed.1 in cc) (λ want. let no : unsaid.ReadFault ≡ unsaid.Memory = sym read ∙ want in cc) (untold_is fault why is)
-
-pub untold_disk : (fault : SFault) (why : Unsaid) → unspoken (untold fault) why → why ≡ unsaid.DiskFault → fault ≡ store.Journal journal.DiskFault
-untold_disk fault why is disk = ⊎_elim (λ failed. failed.0) (λ want. let no : unsaid.DiskFault ≡ unsaid.Memory = sym disk ∙ want in absurd (let bad : ⊥ = cc in bad)) (untold_is fault why is)
+    where
+      with_last : (last : List Event) → ((IsDisk got → ⊥) → last ≡ []) → (IsDisk got → (lost : Event) × (last ≡ lost ∷ []) × Loses turns lang (terms_with plan budget) (point_of events left written) (point_of later left' written') lost) → HavePlaces lang plan (later ++ last) →
+          ForSome (disk.content old) (λ _. LeavesOnly disk old new (OpensWithin plan voc events (later ++ last))) → ForSome (disk.content old) (λ _. LeavesNow disk (λ c. OpensWith plan voc later c ⊎ OpensWith plan voc (later ++ last) c) new) →
+          disk.calls new ≤ disk.calls old + all_calls was (grown.more ++ last) → (on : RunGoesOn disk turns may budget left written left' written' first new got) × P on.of.lang on.of.plan on.of.events on.later
+      with_last last none_lost one_lost all_places within now all =
+          let o : Opened = opened_as plan voc events lang in
+          let session : IsSession o = record { read = read; places = places } in
+          let more : grown.more ≡ added.more = append_cancel_left events grown.more added.more (sym grown.is ∙ added.is) in (
+            record {
+              of = o;
+              opens = λ bytes told. record { says = says bytes told; session = session };
+              some = (some.0, record { says = some.1; session = session });
+              later = later;
+              added = added;
+              tries = tries;
+              part = part;
+              last = last;
+              none_lost = none_lost;
+              one_lost = one_lost;
+              all_places = all_places;
+              any_moment = λ bytes told.
+                  joined disk first old new (disk.may_leave first) (OpensWithin plan voc events (later ++ last)) (λ c. disk.may_leave first c ⊎ OpensWithin plan voc events (later ++ last) c) opening (within bytes (still ∙ told))
+                  (λ c was. inl was) (λ c opens. inr opens);
+              now = λ bytes told. now bytes (still ∙ told);
+              raised = was;
+              was_raised = knows;
+              calls = λ bytes told. let made = subst (λ (es : List Event). disk.calls new ≤ disk.calls old + all_calls was (es ++ last)) more all in omega (arith, few bytes told, made);
+            },
+            has,
+          )
 
 -- ---- making a journal
 
 -- what was made of the input's bytes
 abbrev pub MakesOf : {D : Type 0} (disk : DiskOf D) → Plan → D → D → Result (List ℕ) AllFault → Result Saying Unsaid → Type 0
-MakesOf disk plan old new read said = MatchResult read (λ voc. IsMade disk plan voc old new said ⊎ IsNotMade disk plan voc old new said) (λ e. IsSaid (voc_refused vocs.TooLong) said)
-
--- what is left of a store that was just made
-pub made_now : {D : Type 0} (disk : DiskOf D) (new : D) (made : Store) (plan : Plan) (voc : List ℕ) (bytes : List ℕ) → disk.content new ≡ Some bytes →
-    plan_of made ≡ plan → voc_of made ≡ voc → events_of made ≡ [] → IsThere made.journal (plan_of made) (voc_of made) (events_of made) (disk.may_leave new) bytes → LeavesNow disk (OpensWith plan voc []) new
-made_now disk new made plan voc bytes told planned same none there = record {
-  bytes = bytes;
-  tells = told;
-  each = λ c left.
-      let A : Plan → Type 0 = λ p. OpensWith p (voc_of made) (events_of made) c in
-      let B : List ℕ → Type 0 = λ v. OpensWith plan v (events_of made) c in
-      let C : List Event → Type 0 = λ e. OpensWith plan voc e c in
-      subst C none (subst B same (subst A planned (opens_there made.journal (plan_of made) (voc_of made) (events_of made) (disk.may_leave new) bytes c there left)));
-}
+MakesOf disk plan old new read said = MatchResult read (λ voc. IsJournalMade disk plan voc old new said ⊎ IsNotMade disk plan voc old new said) (λ e. IsSaid (voc_refused vocs.TooLong) said)
 
 -- ---- opening a journal
+
+abbrev pub not_opened : SFault → Result Store SFault
+not_opened e = Err e
 
 -- whether its journal is raised
 pub opened_raised : (opened : Store) (may_leave : List ℕ → Type 0) (bytes : List ℕ) → IsThere opened.journal (plan_of opened) (voc_of opened) (events_of opened) may_leave bytes → IsRaisedOn bytes (is_raised_in opened)
@@ -175,9 +114,6 @@ opened_now disk new opened bytes told there = record {
 abbrev pub opened_in : Store → Opened
 opened_in store = opened_as (plan_of store) (voc_of store) (events_of store) (lang_of store)
 
-pub holds_session : (bytes : List ℕ) (store : Store) → SaysSession bytes (plan_of store) (voc_of store) (events_of store) → IsSession (opened_in store) → Holds bytes (opened_in store)
-holds_session bytes store says session = record { says = says; session = session }
-
 -- what was said of a journal that was opened, or of one that wasn't
 module _ {D : Type 0} (disk : DiskOf D) (Says : Result Opened SFault → Result Saying Unsaid → Type 0) (IsTrueOf : Opened → Type 0) (old new : D) (said : Result Saying Unsaid)
     (same : disk.content new ≡ disk.content old) (any_moment : LeavesOnly disk old new (disk.may_leave old)) (calls : ForSome (disk.content old) (AreReadingCalls 5 (disk.calls old) (disk.calls new))) where
@@ -189,8 +125,8 @@ module _ {D : Type 0} (disk : DiskOf D) (Says : Result Opened SFault → Result 
       let session : IsSession (opened_in store) = record { read = read; places = places } in
       record {
         opening = Ok (opened_in store);
-        opens = λ bytes told. holds_session bytes store (opens bytes told) session;
-        some = (some.0, holds_session some.0 store some.1 session);
+        opens = λ bytes told. record { says = opens bytes told; session = session };
+        some = (some.0, record { says = some.1; session = session });
         session = session;
         says = says;
         so = so;

@@ -8,10 +8,9 @@ pub mod Tries
 pub mod Journals
 pub mod Exactly
 pub mod Showing
+pub mod Moved
 pub mod Reduced
 pub mod SaidOver
-pub mod Printed
-pub mod Solved
 pub mod StandingQuestions
 pub mod Certified
 pub mod TakenBack

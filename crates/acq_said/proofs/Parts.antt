@@ -1,15 +1,16 @@
 -- What was written where it could not be written whole.
-use Rattle.acq_said.proofs.Prelude.{◌≡◌, ◌⊎◌, ℕ, List, [], ap, sym, subst, refl, ◌∙◌, Option, Some, None, Result, Ok, Err, inl, inr, arith, IfOk, OnErr, option_map, Gathered, gathered, Gives, TakesOfLine, first_line_of, Put, Failed, Memory, AllFault, Event, Plan, Language, IsLanguage, standing_on, Idle, read_on, line_turn, Turns, IsVocabulary, Ran, Runs, next_on, ended_as, BreaksRun, next_lines, point_of, Tries, Closing, closing_text, refusal_text, Terms, IsWithin, run_exists, run_laws, closing_of, ending_of, Drove, Ending}
-use Rattle.acq_said.proofs.Spoken.{EndsWith}
+use Rattle.acq_said.proofs.Prelude.{◌≡◌, ◌⊎◌, ℕ, List, [], ap, sym, subst, refl, Option, Some, None, Result, Ok, Err, inl, inr, arith, IfOk, OnErr, Gathered, Gives, TakesOfLine, first_line_of, Put, Failed, Memory, AllFault, Event, Plan, Language, IsLanguage, standing_on, Idle, read_on, line_turn, Turns, IsVocabulary, Ran, Runs, next_on, ended_as, BreaksRun, next_lines, Tries, closing_text, refusal_text, Terms, IsWithin, run_exists, run_laws, closing_of, Ending}
+use Rattle.acq_said.proofs.Spoken.{EndsWith, given_of}
 use Rattle.acq_io.specs.Streams.{Adds, AddsFront, TakesSome}
 use Rattle.acq_io.proofs.TakenLemmas.{adds_none}
 use Rattle.target_oracle.proofs.Fronts.{front_longer, front_none, front_then}
 use Rattle.voc_read.specs.declared.fault.VocFault.{VocFault}
-use Rattle.acq_said.specs.Trying.{Breaks, BreaksOff, IsRefusal, IsTextOfRun, Acquires, ReadsVocabulary}
-use Rattle.acq_loop.proofs.Short.{CutOff, RanTo, whole_text}
-use Rattle.acq_said.proofs.Closings.{okay, not_loops, read_by}
+use Rattle.acq_said.specs.Trying.{Breaks, HasBrokenOff, IsRefusal, IsTextOfRun, Acquires, ReadsVocabulary}
+use Rattle.acq_loop.proofs.Short.{whole_text}
+use Rattle.acq_said.proofs.Closings.{loops_by, not_loops}
 use Rattle.acq_loop.proofs.Taking.{takes_same}
 use Rattle.acq_said.proofs.Tries.{cut_off}
+use Rattle.acq_loop.specs.declared.driving.Drove.TheVariants as drove
 use Rattle.acq_loop.specs.declared.ending.Ending.TheVariants as ending
 
 -- ---- one text
@@ -23,11 +24,6 @@ pub ends_part : (end : Ending) (text : List ℕ) (old new : Option (List ℕ)) (
 ends_part end text old new (Ok e) told = tt
 ends_part end text old new (Err Failed) told = told
 ends_part end text old new (Err Memory) told = front_none old new text told
-
--- what is told in place of the value
-pub on_err : {A : Type 0} (got : Result A Put) {P : Type 0} → P → OnErr got P
-on_err (Ok done) part = tt
-on_err (Err e) part = part
 
 -- ---- the text of a run
 
@@ -62,46 +58,19 @@ record IsPartOfRun (turns : Turns) (l : Language) (terms : Terms) (start : List 
   pub text : AddsFront written written' (whole_text l terms run)
 
 module _ (turns : Turns) (l : Language) (terms : Terms) (start events : List Event) (left written left' written' : Option (List ℕ)) where
+  part_of_run : BreaksRun turns l terms start events left written left' written' → (bytes : List ℕ) → left ≡ Some bytes → IsPartOfRun turns l terms start bytes written written'
   -- not all the lines of its turns
-  cut_part : CutOff turns l terms (point_of start left written) (point_of events left' written') → (bytes : List ℕ) → left ≡ Some bytes → IsPartOfRun turns l terms start bytes written written'
-  cut_part cut bytes from =
+  part_of_run (inl cut) bytes from =
       let run = cut bytes from in
       record { run = run.run; runs = run.runs; text = front_longer written written' run.run.text (closing_text l terms (standing_on l run.run.events) run.run.closing) run.text }
-
   -- these, and a front of the last ones
-  closed_part : (closing : Closing) (middle : Option (List ℕ)) → RanTo turns l terms closing (point_of start left written) (point_of events left' middle) → AddsFront middle written' (closing_text l terms (standing_on l events) closing) →
-      (bytes : List ℕ) → left ≡ Some bytes → IsPartOfRun turns l terms start bytes written written'
-  closed_part closing middle ran adds bytes from =
+  part_of_run (inr (closing, middle, ran, adds)) bytes from =
       let run = ran bytes from in
       let last : List ℕ = closing_text l terms (standing_on l run.run.events) run.run.closing in
       let same : last ≡ closing_text l terms (standing_on l events) closing = (λ i. closing_text l terms (standing_on l (run.events i)) (run.closing i)) in
-      let Last : List ℕ → Type 0 = AddsFront middle written' in
-      record { run = run.run; runs = run.runs; text = front_then written middle written' run.run.text last run.written (subst Last (sym same) adds) }
-
-  part_of_run : BreaksRun turns l terms start events left written left' written' → (bytes : List ℕ) → left ≡ Some bytes → IsPartOfRun turns l terms start bytes written written'
-  part_of_run (inl cut) = cut_part cut
-  part_of_run (inr (closing, middle, ran, adds)) = closed_part closing middle ran adds
+      record { run = run.run; runs = run.runs; text = front_then written middle written' run.run.text last run.written (subst (AddsFront middle written') (sym same) adds) }
 
 -- ---- the text of the program
-
--- what is given of the bytes that are told
-record GivenOf (f : List ℕ → Gathered) (left' : Option (List ℕ)) (got : Result (List ℕ) AllFault) (bytes : List ℕ) : Type 0 where
-  pub rest : List ℕ
-  pub left : left' ≡ Some rest
-  pub gives : f bytes ≡ gathered got rest
-
-given_of : (f : List ℕ → Gathered) (left left' : Option (List ℕ)) (got : Result (List ℕ) AllFault) (bytes : List ℕ) → Gives f left left' got → left ≡ Some bytes → GivenOf f left' got bytes
-given_of f left left' got bytes gives told = go left' (sym (ap (option_map f) told) ∙ gives)
-  where
-    same : (a b : Gathered) → (let x : Option Gathered = Some a in x) ≡ Some b → a ≡ b
-    same a b e = cc
-
-    none : (a : Gathered) → (let x : Option Gathered = Some a in x) ≡ None → ⊥
-    none a e = cc
-
-    go : (now : Option (List ℕ)) → Some (f bytes) ≡ option_map (gathered got) now → GivenOf f now got bytes
-    go None e = absurd (none (f bytes) e)
-    go (Some rest) e = record { rest = rest; left = refl; gives = same (f bytes) (gathered got rest) e }
 
 -- this is given of the first line
 module _ (terms : Terms) (left rest written written' : Option (List ℕ)) (got : Result (List ℕ) AllFault) (gives : Gives (first_line_of 4194304) left rest got) where
@@ -123,40 +92,27 @@ module _ (terms : Terms) (left rest written written' : Option (List ℕ)) (got :
       inr (whole, inr run, part.text)
 
 -- what was done about a vocabulary is what the program has done
-pub acquires_by : (terms : Terms) (left rest written left' written' : Option (List ℕ)) (line : List ℕ) (lang : Language) (events : List Event) (end : Ending) →
-    Gives (first_line_of 4194304) left rest (Ok line) → IsVocabulary line lang → (end ≡ ending.DiskFault → ⊥) → Tries line_turn lang terms [] events rest written left' written' end → Acquires terms left written left' written' end
-acquires_by terms left rest written left' written' line lang events end gives vocabulary never tries = go end never tries
+pub acquires_in : (terms : Terms) (left rest written left' written' : Option (List ℕ)) (line : List ℕ) (lang : Language) (got : Result Ending Put) →
+    Gives (first_line_of 4194304) left rest (Ok line) → IsVocabulary line lang → IfOk got (λ (e : Ending). e ≡ ending.DiskFault → ⊥) →
+    IfOk got (λ (e : Ending). (events : List Event) × Tries line_turn lang terms [] events rest written left' written' e) → IfOk got (Acquires terms left written left' written')
+acquires_in terms left rest written left' written' line lang (Err e) gives vocabulary never tries = tt
+acquires_in terms left rest written left' written' line lang (Ok end) gives vocabulary never (events, tries) = go end never tries
   where
     reads : (e : Ending) → Tries line_turn lang terms [] events rest written left' written' e → ReadsVocabulary left (λ l es over. Tries line_turn l terms [] es over written left' written' e)
     reads e tried = record { line = line; rest = rest; gives = gives; lang = lang; vocabulary = vocabulary; events = events; did = tried }
 
-    broken : (e : Ending) (how : Drove) → ending_of how ≡ okay e → e ≡ ending.ReadFault → closing_of how ≡ None
-    broken e how so is = ap closing_of (read_by how e so is)
-
     go : (e : Ending) → (e ≡ ending.DiskFault → ⊥) → Tries line_turn lang terms [] events rest written left' written' e → Acquires terms left written left' written' e
-    go (ending.Converged m) never tried = reads (ending.Converged m) tried
-    go (ending.Collapsed m) never tried = reads (ending.Collapsed m) tried
-    go (ending.Undecided m) never tried = reads (ending.Undecided m) tried
-    go (ending.Suspended m) never tried = reads (ending.Suspended m) tried
-    go ending.LineTooLong never tried = reads ending.LineTooLong tried
-    go ending.Unreadable never tried = reads ending.Unreadable tried
-    go ending.ReadFault never tried = (
-      breaks_run terms left rest written written' (Ok line) gives line lang events left' refl vocabulary (inl (cut_off line_turn lang terms [] events rest written left' written' ending.ReadFault tried (broken ending.ReadFault tried.how tried.is refl))),
-      inr (reads ending.ReadFault tried),
-    )
+    go ending.ReadFault never tried =
+        let none : closing_of tried.how ≡ None = ap closing_of (loops_by tried.how drove.ReadFault ending.ReadFault tried.is refl) in
+        (breaks_run terms left rest written written' (Ok line) gives line lang events left' refl vocabulary (inl (cut_off line_turn lang terms [] events rest written left' written' ending.ReadFault tried none)), inr (reads ending.ReadFault tried))
     go ending.DiskFault never tried = absurd (never refl)
-    go ending.JournalFull never tried = reads ending.JournalFull tried
-    go e never tried = absurd (not_loops tried.how e tried.is refl)
-
-pub acquires_in : (terms : Terms) (left rest written left' written' : Option (List ℕ)) (line : List ℕ) (lang : Language) (got : Result Ending Put) →
-    Gives (first_line_of 4194304) left rest (Ok line) → IsVocabulary line lang → IfOk got (λ (e : Ending). e ≡ ending.DiskFault → ⊥) →
-    IfOk got (λ (e : Ending). (events : List Event) × Tries line_turn lang terms [] events rest written left' written' e) → IfOk got (Acquires terms left written left' written')
-acquires_in terms left rest written left' written' line lang (Ok end) gives vocabulary never (events, tries) =
-    acquires_by terms left rest written left' written' line lang events end gives vocabulary never tries
-acquires_in terms left rest written left' written' line lang (Err e) gives vocabulary never tries = tt
+    go (ending.VocRefused fault) never tried = absurd (not_loops tried.how (ending.VocRefused fault) tried.is refl)
+    go ending.WriteFault never tried = absurd (not_loops tried.how ending.WriteFault tried.is refl)
+    go ending.Memory never tried = absurd (not_loops tried.how ending.Memory tried.is refl)
+    go e never tried = reads e tried
 
 pub breaks_in : (terms : Terms) (left rest written left' written' : Option (List ℕ)) (line : List ℕ) (lang : Language) (got : Result Ending Put) →
-    Gives (first_line_of 4194304) left rest (Ok line) → IsVocabulary line lang → OnErr got ((events : List Event) × BreaksRun line_turn lang terms [] events rest written left' written') → OnErr got (BreaksOff terms left written left' written')
+    Gives (first_line_of 4194304) left rest (Ok line) → IsVocabulary line lang → OnErr got ((events : List Event) × BreaksRun line_turn lang terms [] events rest written left' written') → OnErr got (HasBrokenOff terms left written left' written')
 breaks_in terms left rest written left' written' line lang (Ok end) gives vocabulary broken = tt
 breaks_in terms left rest written left' written' line lang (Err e) gives vocabulary (events, broken) = record {
   text = breaks_run terms left rest written written' (Ok line) gives line lang events left' refl vocabulary broken;
@@ -164,7 +120,7 @@ breaks_in terms left rest written left' written' line lang (Err e) gives vocabul
 }
 
 pub breaks_refused : (terms : Terms) (left rest written written' : Option (List ℕ)) (first : Result (List ℕ) AllFault) (fault : VocFault) (got : Result Ending Put) →
-    Gives (first_line_of 4194304) left rest first → IsRefusal fault first → OnErr got (AddsFront written written' (refusal_text fault)) → OnErr got (BreaksOff terms left written rest written')
+    Gives (first_line_of 4194304) left rest first → IsRefusal fault first → OnErr got (AddsFront written written' (refusal_text fault)) → OnErr got (HasBrokenOff terms left written rest written')
 breaks_refused terms left rest written written' first fault (Ok end) gives refused adds = tt
 breaks_refused terms left rest written written' first fault (Err e) gives refused adds = record {
   text = breaks_refusal terms left rest written written' first gives fault refused adds;
@@ -172,14 +128,14 @@ breaks_refused terms left rest written written' first fault (Err e) gives refuse
 }
 
 -- nothing was written
-pub unbegun : (terms : Terms) (left left' written : Option (List ℕ)) → TakesOfLine 4194304 left left' ⊎ ((got : Result (List ℕ) AllFault) × Gives (first_line_of 4194304) left left' got) → BreaksOff terms left written left' written
+pub unbegun : (terms : Terms) (left left' written : Option (List ℕ)) → TakesOfLine 4194304 left left' ⊎ ((got : Result (List ℕ) AllFault) × Gives (first_line_of 4194304) left left' got) → HasBrokenOff terms left written left' written
 unbegun terms left left' written taken = record { text = λ bytes from. inl refl; step = inl (record { silent = refl; taken = taken }) }
 
 pub unread : (terms : Terms) (left left' written : Option (List ℕ)) → TakesOfLine 4194304 left left' → Acquires terms left written left' written ending.ReadFault
 unread terms left left' written taken = (λ bytes from. inl refl, inl (record { silent = refl; taken = inl taken }))
 
 -- the ending of the program, by what was answered
-pub acquires_as : (terms : Terms) (left written left' written' : Option (List ℕ)) (got : Result Ending Put) → IfOk got (Acquires terms left written left' written') → OnErr got (BreaksOff terms left written left' written') → Acquires terms left written left' written' (ended_as got)
+pub acquires_as : (terms : Terms) (left written left' written' : Option (List ℕ)) (got : Result Ending Put) → IfOk got (Acquires terms left written left' written') → OnErr got (HasBrokenOff terms left written left' written') → Acquires terms left written left' written' (ended_as got)
 acquires_as terms left written left' written' (Ok end) done broken = done
 acquires_as terms left written left' written' (Err Failed) done broken = broken
 acquires_as terms left written left' written' (Err Memory) done broken = broken

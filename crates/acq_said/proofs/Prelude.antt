@@ -15,8 +15,8 @@ pub use Rattle.acq_io.specs.declared.streams.Put.TheVariants.{Failed, Memory}
 pub use Rattle.acq_io.specs.declared.whole.AllFault.{AllFault}
 pub use Rattle.acq_loop.proofs.Nexts.{learned_is, some_of}
 pub use Rattle.acq_loop.proofs.Reached.{IsReached, some_there}
-pub use Rattle.acq_loop.proofs.Running.{IsWithin, room_not_full, run_exists}
-pub use Rattle.acq_loop.proofs.Standings.{carried, few_answers, reached, room_unless, run_laws, stands_at}
+pub use Rattle.acq_loop.proofs.Running.{IsWithin, room_not_full, room_unless, run_exists}
+pub use Rattle.acq_loop.proofs.Standings.{carried, few_answers, reached, run_laws, stands_at}
 pub use Rattle.acq_loop.specs.Added.{IsAdded, MayEnd}
 pub use Rattle.acq_loop.specs.Closings.{closing_of, ending_of}
 pub use Rattle.acq_loop.specs.Driven.{Drives, HasEnded, IsDone, Loses, Point, TellsOpen, next_lines}
@@ -34,7 +34,7 @@ pub use Rattle.assign.specs.declared.events.Event.{Event}
 pub use Rattle.assign.specs.declared.events.Plan.{Plan}
 pub use Rattle.cert_check.specs.Certificate.{Certificate}
 pub use Rattle.cert_check.specs.Checking.{verdict}
-pub use Rattle.cert_check.specs.Making.{certificate_of, made}
+pub use Rattle.cert_check.specs.Making.{certificate_of, certificate_made}
 pub use Rattle.cert_check.specs.WritingLaws.{HaveValues, IsConfirmed}
 pub use Rattle.cert_check.specs.declared.fault.CertFault.{CertFault}
 pub use Rattle.disk_model.specs.Moments.{LeavesOnly, joined, weaker}
@@ -45,22 +45,21 @@ pub use Rattle.language.specs.declared.candidates.Candidate.{Candidate}
 pub use Rattle.net_cnf.specs.Models.{model_of}
 pub use Rattle.net_cnf.specs.Texts.{cnf_of}
 pub use Rattle.net_cnf.specs.declared.fault.CnfFault.{CnfFault}
-pub use Rattle.net_reduce.specs.declared.fault.ReduceFault.{ReduceFault}
 pub use Rattle.network.specs.Learned.{Learned}
 pub use Rattle.network.specs.Texts.{network_text}
-pub use Rattle.query_gen.specs.Marks.{IsMadeFor, Remembered, is_open}
+pub use Rattle.query_gen.specs.Marks.{AreMarksFor, Remembered, is_open}
 pub use Rattle.session_core.specs.Standing.{IsAskedIn, Stands, knowledge_of, open_in}
 pub use Rattle.session_core.specs.declared.session.Session.{Session}
 pub use Rattle.session_laws.specs.Laws.{IsAskable, network_in}
-pub use Rattle.session_laws.specs.Session.{At, Choosing, Halving, Idle, Over, State, Walking, is_just, open_question, state_after, step, then_on}
+pub use Rattle.session_laws.specs.Session.{At, Choosing, Halving, Idle, Over, State, Walking, is_just, open_question, state_after, step, lead_on}
 unfoldable pub use Rattle.session_laws.specs.Session.{read_on}
 pub use Rattle.session_store.proofs.Keepers.{both_as, keeps_as, rose_later, within_more}
 pub use Rattle.session_store.proofs.Recording.{record_at, recorded_seen}
 pub use Rattle.session_store.proofs.Replaying.{IsBusy, busy_from, seen_next}
 pub use Rattle.session_store.specs.Held.{IsWide}
-pub use Rattle.session_store.specs.Keeping.{AreEventCalls, FailsWith, IsGrown, Persists, calls_for, calls_of}
+pub use Rattle.session_store.specs.Keeping.{AreEventCalls, FailsWith, IsGrown, Persists, calls_for, all_calls}
 pub use Rattle.session_store.specs.Left.{IsRaisedOn, LeavesNow, OpensWith, OpensWithOrWithout, OpensWithin, SaysSession, bytes_told}
-pub use Rattle.session_store.specs.Opened.{Holds, Opened, OpensOnce, RefusesOpening, is_of_bytes, opened_as}
+pub use Rattle.session_store.specs.Opened.{SaysOpened, Opened, OpensOnce, RefusesOpening, is_of_bytes, opened_as}
 pub use Rattle.session_store.specs.Replay.{HavePlaces, IsAnswer, Recorded, all_seen, answer_in, answer_to, recorded, recorded_from, seen, standing_numbers}
 pub use Rattle.session_store.specs.Store.{IsThere, events_of, is_raised_in, lang_of, opens_there, plan_of, question_of, voc_of}
 pub use Rattle.session_store.specs.declared.fault.SFault.{SFault}
@@ -73,18 +72,18 @@ pub use Rattle.acq_said.specs.Asks.{AsksTruly, asked_said}
 pub use Rattle.acq_said.specs.Breaks.{BreaksRun}
 pub use Rattle.acq_said.specs.Certifying.{MakesGood, TellsEnd, certificate_said, if_at_end}
 pub use Rattle.acq_said.specs.Confirming.{IsCheck, checked_said, verdict_said}
-pub use Rattle.acq_said.specs.Endings.{HasAsked, Says, SaysEnd, SaysEndBy, SaysPart, Tries}
+pub use Rattle.acq_said.specs.Endings.{HasAsked, Says, SaysEnd, SaysPart, Tries}
 pub use Rattle.acq_said.specs.Exactly.{IsBrokenOff}
 pub use Rattle.acq_said.specs.Inputs.{SaysOfInput, SaysOfRead}
-pub use Rattle.acq_said.specs.Journals.{Refuses, refused_said, untold}
+pub use Rattle.acq_said.specs.Journals.{SaysRefusal, refused_said, untold}
 pub use Rattle.acq_said.specs.Making.{made_said, voc_refused}
 pub use Rattle.acq_said.specs.Over.{EndsAsOpened, SaysOver}
 pub use Rattle.acq_said.specs.Printing.{clauses_said}
-pub use Rattle.acq_said.specs.Reducing.{IsReduced, first_spent, network_of, unreduced_said}
-pub use Rattle.acq_said.specs.Running.{GoesOn}
+pub use Rattle.acq_said.specs.Reducing.{first_spent, network_led_to, reduced_said}
+pub use Rattle.acq_said.specs.Running.{RunGoesOn}
 pub use Rattle.acq_said.specs.Said.{HasWritten, IsSaid, SaysSo, or_silent, silent_end}
 pub use Rattle.acq_said.specs.Saying.{Saying, saying}
-pub use Rattle.acq_said.specs.Shows.{answer_line, answer_lines, back_line, is_back, plan_text, reading_text, show_text}
+pub use Rattle.acq_said.specs.Shows.{answer_line, answer_lines, back_line, is_back, plan_words, reading_text, show_text}
 pub use Rattle.acq_said.specs.Solving.{Solves, solution_said, solved_said}
 pub use Rattle.acq_said.specs.TakingBack.{EndsBack, back_on, back_said}
 pub use Rattle.acq_said.specs.declared.ask.Ask.{Ask}

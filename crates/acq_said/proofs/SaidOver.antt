@@ -1,12 +1,11 @@
 -- What a command that only says something has done, and by which endings.
-use Rattle.acq_said.proofs.Prelude.{◌≡◌, ◌∙◌, ◌⊎◌, ℕ, Bool, true, false, List, length, Option, Some, None, Result, Ok, Err, refl, sym, ap, inl, inr, ⊎_elim, DiskOf, all_of, Put, AllFault, Assignment, Certificate, verdict, made, CertFault, Candidate, Language, standing_on, model_of, cnf_of, CnfFault, Opened, OpensOnce, RefusesOpening, SFault, asked_said, certificate_said, if_at_end, checked_said, verdict_said, IsBrokenOff, SaysOfRead, Refuses, EndsAsOpened, SaysOver, terms_with, clauses_said, ended_as, first_spent, network_of, Next, Ends, Converged, Collapsed, Undecided, Suspended, LineTooLong, Unreadable, next_after, HasWritten, IsSaid, SaysSo, Saying, saying, ForSome, [], ◌∷◌, ◌++◌, codes, decimal, Solves, solution_said, solved_said, Ask, Ending, Unsaid, MatchResult, Holds, made_said}
+use Rattle.acq_said.proofs.Prelude.{◌≡◌, ◌∙◌, ◌⊎◌, ℕ, Bool, true, false, List, length, Option, Some, None, Result, Ok, Err, refl, sym, ap, inl, inr, ⊎_elim, DiskOf, all_of, Put, AllFault, Certificate, verdict, certificate_made, Candidate, Language, standing_on, model_of, cnf_of, Opened, OpensOnce, RefusesOpening, SFault, asked_said, certificate_said, if_at_end, checked_said, verdict_said, IsBrokenOff, SaysOfRead, SaysRefusal, EndsAsOpened, SaysOver, terms_with, clauses_said, ended_as, first_spent, network_led_to, Next, Ends, Converged, next_after, HasWritten, IsSaid, SaysSo, Saying, saying, ForSome, [], ◌∷◌, ◌++◌, codes, decimal, Solves, solution_said, solved_said, Ask, Ending, Unsaid, MatchResult, SaysOpened, made_said}
 use Rattle.acq_said.proofs.Reduced.{sifted_said}
 use Rattle.acq_io.specs.declared.streams.Put.TheVariants as put
 use Rattle.acq_io.specs.declared.whole.AllFault.TheVariants as all
 use Rattle.cert_check.specs.declared.fault.MakeFault.{MakeFault}
 use Rattle.cert_check.specs.declared.verdict.Verdict.{Verdict}
 use Rattle.cert_check.specs.declared.verdict.Verdict.TheVariants.{Yes, No}
-use Rattle.net_cnf.specs.declared.model_fault.ModelFault.{ModelFault}
 use Rattle.acq_said.specs.declared.ask.Ask.TheVariants as ask
 use Rattle.acq_loop.specs.declared.ending.Ending.TheVariants as ending
 use Rattle.acq_said.specs.declared.said.Unsaid.TheVariants as unsaid
@@ -14,13 +13,13 @@ use Rattle.session_store.specs.Opening.{NotOpened}
 use Rattle.acq_said.specs.Making.{IsMaking}
 use Rattle.acq_said.specs.Over.{EndsAsSaid}
 use Rattle.acq_said.proofs.Closings.{okay}
-use Rattle.acq_said.proofs.Spoken.{IsCheckOf, SaysOpening, SaidSo, closed_end, ends_said, input_end, refuses_end, silently}
+use Rattle.acq_said.proofs.Spoken.{IsCheckOf, SaysOpening, SaidSo, ends_said, input_end, refuses_end, silently}
 
 -- ---- exactly when
 
 -- the bytes hold this session, or this is why they aren't opened
 abbrev pub OpensAs : List ℕ → Result Opened SFault → Type 0
-OpensAs bytes opening = MatchResult opening (Holds bytes) (NotOpened bytes)
+OpensAs bytes opening = MatchResult opening (SaysOpened bytes) (NotOpened bytes)
 
 -- it ends as is said of what the input and the file are
 abbrev pub EndsAsMade : (bytes file : List ℕ) → Ending → Type 0
@@ -79,50 +78,39 @@ not_own end other not own is = let bad : true ≡ false = sym own ∙ (ap is_own
 pub broken_own : (end : Ending) → IsBrokenOff end → is_own end ≡ true
 broken_own end broken = ⊎_elim (λ e. ap is_own e) (λ b. ⊎_elim (λ e. ap is_own e) (λ c. ⊎_elim (λ e. ap is_own e) (λ e. ap is_own e) c) b) broken
 
-pub refuses_own : (written written' : Option (List ℕ)) (end : Ending) (f : SFault) → SaysSo (Refuses f) written written' (okay end) → is_own end ≡ true
-refuses_own written written' end f refuses = ⊎_elim (broken_own end) (λ is. ap is_own is.1) (closed_end written written' end f refuses)
+pub refuses_own : (written written' : Option (List ℕ)) (end : Ending) (f : SFault) → SaysSo (SaysRefusal f) written written' (okay end) → is_own end ≡ true
+refuses_own written written' end f (said, says, has) = ⊎_elim (broken_own end) (λ is. ap is_own is.1) (refuses_end f said written written' end says has)
+
+-- by what it is said of
+own_by : {A E : Type 0} (says : Result A E → Saying) → ((x : A) → is_own (says (Ok x)).ending ≡ true) → ((e : E) → is_own (says (Err e)).ending ≡ true) → (r : Result A E) → is_own (says r).ending ≡ true
+own_by says good bad (Ok x) = good x
+own_by says good bad (Err e) = bad e
 
 sifted_own : (l : Language) (network : List Candidate) (budget : ℕ) (o : Option ℕ) → is_own (sifted_said l network budget o).ending ≡ true
 sifted_own l network budget None = refl
 sifted_own l network budget (Some i) = refl
 
-clauses_own : (r : Result (List ℕ) CnfFault) → is_own (clauses_said r).ending ≡ true
-clauses_own (Ok text) = refl
-clauses_own (Err fault) = refl
-
-certificate_own : (r : Result (List ℕ) MakeFault) → is_own (certificate_said r).ending ≡ true
-certificate_own (Ok text) = refl
-certificate_own (Err fault) = refl
-
 end_own : (next : Option Next) (r : Result (List ℕ) MakeFault) (m : ℕ) → is_own (if_at_end next (certificate_said r) (unconverged_said m)).ending ≡ true
-end_own (Some (Ends Converged)) r m = certificate_own r
+end_own (Some (Ends Converged)) r m = own_by certificate_said (λ text. refl) (λ fault. refl) r
 end_own next r m = refl
 
 pub asked_own : (a : Ask) (o : Opened) → is_own (asked_said a o).ending ≡ true
 asked_own ask.Show o = refl
-asked_own (ask.Reduce budget) o = sifted_own o.lang (network_of o) budget (first_spent o.lang (network_of o) budget (length (network_of o)))
-asked_own ask.Cnf o = clauses_own (cnf_of o.lang (network_of o))
+asked_own (ask.Reduce budget) o = sifted_own o.lang (network_led_to o) budget (first_spent o.lang (network_led_to o) budget (length (network_led_to o)))
+asked_own ask.Cnf o = own_by clauses_said (λ text. refl) (λ fault. refl) (cnf_of o.lang (network_led_to o))
 asked_own (ask.Certify budget) o =
-    end_own (next_after o.lang (terms_with o.plan budget) (standing_on o.lang o.events)) (made o.voc o.lang (network_of o) (standing_on o.lang o.events) budget) (length (standing_on o.lang o.events))
-
-solution_own : (l : Language) (r : Result Assignment ModelFault) → is_own (solution_said l r).ending ≡ true
-solution_own l (Ok e) = refl
-solution_own l (Err fault) = refl
+    end_own (next_after o.lang (terms_with o.plan budget) (standing_on o.lang o.events)) (certificate_made o.voc o.lang (network_led_to o) (standing_on o.lang o.events) budget) (length (standing_on o.lang o.events))
 
 solved_own : (read : Result (List ℕ) AllFault) (o : Opened) → is_own (solved_said read o).ending ≡ true
-solved_own (Ok bytes) o = solution_own o.lang (model_of o.lang (network_of o) bytes)
+solved_own (Ok bytes) o = own_by (solution_said o.lang) (λ e. refl) (λ fault. refl) (model_of o.lang (network_led_to o) bytes)
 solved_own (Err e) o = refl
 
 verdict_own : (cert : Certificate) (v : Verdict) → is_own (verdict_said cert v).ending ≡ true
 verdict_own cert Yes = refl
 verdict_own cert (No flaw) = refl
 
-checked_own : (reading : Result Certificate CertFault) → is_own (checked_said reading).ending ≡ true
-checked_own (Ok cert) = verdict_own cert (verdict cert)
-checked_own (Err fault) = refl
-
 pub check_own : (read : Result (List ℕ) AllFault) (what : Saying) → IsCheckOf read what → is_own what.ending ≡ true
-check_own (Ok bytes) what check = ap (λ (s : Saying). is_own s.ending) check.is ∙ checked_own check.reading
+check_own (Ok bytes) what check = ap (λ (s : Saying). is_own s.ending) check.is ∙ own_by checked_said (λ cert. verdict_own cert (verdict cert)) (λ fault. refl) check.reading
 check_own (Err e) what is = ap (λ (s : Saying). is_own s.ending) is
 
 -- by what was said

@@ -1,11 +1,11 @@
 -- What is said of a session at its end.
-use Rattle.acq_said.proofs.Prelude.{◌≡◌, ◌∙◌, ◌++◌, ℕ, List, flat_map, network_text, Option, Some, None, Result, Ok, Err, sym, ap, subst, refl, filter, IfOk, OnErr, IsErr, Put, Answer, Candidate, Language, candidates, Remembered, is_open, Idle, At, state_after, Session, Stands, knowledge_of, closing_of, ending_of, HasEnded, TellsOpen, Says, SaysEnd, SaysEndBy, SaysPart, terms_with, Closing, Converged, Undecided, HasWritten, silent_end, Saying, saying, closing_text, ending_line, open_candidates, open_line, learned_in, learned_after, Drove, Ending, Unsaid, Terms, learned_is}
+use Rattle.acq_said.proofs.Prelude.{◌≡◌, ◌∙◌, ◌++◌, ℕ, List, flat_map, network_text, Option, Some, None, Result, Ok, Err, sym, ap, subst, refl, filter, IfOk, OnErr, IsErr, Put, Answer, Candidate, Language, candidates, Remembered, is_open, Idle, At, state_after, Session, Stands, knowledge_of, closing_of, ending_of, HasEnded, TellsOpen, Says, SaysEnd, SaysPart, terms_with, Closing, Converged, Undecided, HasWritten, IsSaid, MatchOption, silent_end, Saying, saying, closing_text, ending_line, open_candidates, open_line, learned_in, learned_after, Drove, Ending, Unsaid, Terms, learned_is}
 use Rattle.session_laws.specs.Walk.{WalkEnd}
 use Rattle.acq_loop.specs.declared.driving.Drove.TheVariants as drove
-use Rattle.acq_said.proofs.Closings.{AddsLast, AddsLastFront, okay}
+use Rattle.acq_said.proofs.Closings.{AddsLast, AddsLastFront, failed, okay}
 use Rattle.acq_loop.proofs.OpenCandidates.{opens_are}
 use Rattle.acq_said.proofs.Parts.{ends_part}
-use Rattle.acq_said.proofs.Spoken.{EndsWith, ends_as}
+use Rattle.acq_said.proofs.Spoken.{ends_as}
 
 -- ---- the text
 
@@ -33,37 +33,17 @@ module _ (session : Session) (budget : ℕ) (t : List Answer) (stands : Stands s
 
 -- ---- what was written of it
 
-module _ (l : Language) (terms : Terms) (t : List Answer) (said : Result Saying Unsaid) (written written' : Option (List ℕ)) where
-  whole : (closing : Closing) (end : Ending) (got : Result Ending Put) → EndsWith end (closing_text l terms t closing) written written' got → IfOk got (λ e. (okay end ≡ okay e) × AddsLast l terms t written written' (Some closing))
-  whole closing end (Ok e) ends = (ap okay (sym ends.0), ends.1)
-  whole closing end (Err e) ends = tt
+module _ (l : Language) (terms : Terms) (t : List Answer) (said : Result Saying Unsaid) (written written' : Option (List ℕ)) (how : Drove) where
+  -- whole, and in part
+  written_by : (o : Option Closing) (got : Result Ending Put) → MatchOption o ((why : Unsaid) × (said ≡ Err why) × (ending_of how ≡ silent_end why)) (λ closing. (end : Ending) × (ending_of how ≡ Ok end) × IsSaid (saying (closing_text l terms t closing) end) said) →
+      HasWritten said written written' got → IfOk got (λ e. (ending_of how ≡ Ok e) × AddsLast l terms t written written' o) × OnErr got (AddsLastFront l terms t written written' (ending_of how) o)
+  written_by (Some closing) (Ok e) (end, is, says) has = let ends = ends_as (saying (closing_text l terms t closing) end) said written written' (okay e) says has in ((is ∙ ap okay (sym ends.0), ends.1), tt)
+  written_by (Some closing) (Err e) (end, is, says) has = (tt, ends_part end (closing_text l terms t closing) written written' (failed e) (ends_as (saying (closing_text l terms t closing) end) said written written' (failed e) says has))
+  written_by None (Ok e) (why, none, is) has = let silent = subst (λ (s : Result Saying Unsaid). HasWritten s written written' (okay e)) none has in ((is ∙ sym silent.0, silent.1), tt)
+  written_by None (Err e) (why, none, is) has = let silent = subst (λ (s : Result Saying Unsaid). HasWritten s written written' (failed e)) none has in (tt, (silent.1, subst IsErr (silent.0 ∙ sym is) refl))
 
-  silently : (why : Unsaid) (end got : Result Ending Put) → end ≡ silent_end why → got ≡ silent_end why → written' ≡ written → IfOk got (λ e. (end ≡ Ok e) × AddsLast l terms t written written' None)
-  silently why end (Ok e) is so same = (is ∙ sym so, same)
-  silently why end (Err e) is so same = tt
+  pub says_so : (got : Result Ending Put) → SaysEnd l terms t how said → HasWritten said written written' got → IfOk got (Says l terms t written written' how)
+  says_so got says has = (written_by (closing_of how) got says has).0
 
-  failing : (why : Unsaid) (end got : Result Ending Put) → end ≡ silent_end why → got ≡ silent_end why → written' ≡ written → OnErr got (AddsLastFront l terms t written written' end None)
-  failing why end (Ok e) is so same = tt
-  failing why end (Err e) is so same = (same, subst IsErr (so ∙ sym is) refl)
-
-  says_by : (o : Option Closing) (end got : Result Ending Put) → SaysEndBy l terms t o end said → HasWritten said written written' got → IfOk got (λ e. (end ≡ Ok e) × AddsLast l terms t written written' o)
-  says_by (Some closing) (Ok end) got says has = whole closing end got (ends_as (saying (closing_text l terms t closing) end) said written written' got says has)
-  says_by (Some closing) (Err e) got says has = absurd says
-  says_by None end got (why, is, so) has =
-      let Written : Result Saying Unsaid → Type 0 = λ s. HasWritten s written written' got in
-      let silent = subst Written is has in
-      silently why end got so silent.0 silent.1
-
-  part_by : (o : Option Closing) (end got : Result Ending Put) → SaysEndBy l terms t o end said → HasWritten said written written' got → OnErr got (AddsLastFront l terms t written written' end o)
-  part_by (Some closing) (Ok end) got says has = ends_part end (closing_text l terms t closing) written written' got (ends_as (saying (closing_text l terms t closing) end) said written written' got says has)
-  part_by (Some closing) (Err e) got says has = absurd says
-  part_by None end got (why, is, so) has =
-      let Written : Result Saying Unsaid → Type 0 = λ s. HasWritten s written written' got in
-      let silent = subst Written is has in
-      failing why end got so silent.0 silent.1
-
-  pub says_so : (how : Drove) (got : Result Ending Put) → SaysEnd l terms t how said → HasWritten said written written' got → IfOk got (Says l terms t written written' how)
-  says_so how got says has = says_by (closing_of how) (ending_of how) got says has
-
-  pub part_so : (how : Drove) (got : Result Ending Put) → SaysEnd l terms t how said → HasWritten said written written' got → OnErr got (SaysPart l terms t written written' how)
-  part_so how got says has = part_by (closing_of how) (ending_of how) got says has
+  pub part_so : (got : Result Ending Put) → SaysEnd l terms t how said → HasWritten said written written' got → OnErr got (SaysPart l terms t written written' how)
+  part_so got says has = (written_by (closing_of how) got says has).1

@@ -1,6 +1,9 @@
 -- The lines of answers, one more at a time.
-use Rattle.acq_said.proofs.Prelude.{◌≡◌, ◌∙◌, ℕ, suc, ◌+◌, ◌-◌, ◌<◌, ◌≤◌, Bool, false, List, [], ◌∷◌, ◌++◌, length, take, get_or, refl, sym, ap, subst, arith, append_assoc, length-append, length-take-le, codes, append-nil, length-map, Assignment, Answer, Event, Plan, Language, variable_count, standing_on, IsAskedIn, Stands, knowledge_of, Session, learned_in, stands_at, State, Idle, Over, At, state_after, IsAnswer, Recorded, all_seen, answer_to, recorded_from, seen, seen_next, IsBusy, answer_line, answer_lines, reading_text, is_back, show_text}
+use Rattle.acq_said.proofs.Prelude.{◌≡◌, ◌∙◌, ℕ, suc, ◌+◌, ◌-◌, ◌<◌, ◌≤◌, Bool, false, List, [], ◌∷◌, ◌++◌, length, take, get_or, refl, sym, ap, subst, arith, append_assoc, length-append, length-take-le, codes, append-nil, length-map, Assignment, Answer, Event, Plan, Language, variable_count, standing_on, IsAskedIn, Stands, knowledge_of, Session, State, Idle, Over, At, IsAnswer, Recorded, all_seen, answer_to, recorded_from, seen, seen_next, IsBusy, answer_line, answer_lines, reading_text, is_back, show_text, Opened, asked_said, saying}
 use Rattle.std.specs.Prelude.{filter}
+use Rattle.acq_said.proofs.Moved.{learned_as}
+use Rattle.acq_said.specs.declared.ask.Ask.TheVariants as ask
+use Rattle.acq_loop.specs.declared.ending.Ending.TheVariants as ending
 use Rattle.assign.specs.declared.events.Event.TheVariants as event
 
 lines_more : (l : Language) (k : ℕ) (t : List Answer) (a : Answer) → answer_lines l k (t ++ a ∷ []) ≡ answer_lines l k t ++ answer_line l (k + length t) a
@@ -45,12 +48,8 @@ asking_text l plan t q (Over network) busy asked = absurd asked
 asking_text l plan t q state busy asked = refl
 
 -- what is shown of a session is what its answers lead to
-pub shown_as : (session : Session) (l : Language) (plan : Plan) (events given : List Event) → (knowledge_of session).lang ≡ l → (knowledge_of session).plan ≡ plan → given ≡ events → Stands session (standing_on l events) →
-    show_text (knowledge_of session).lang (knowledge_of session).plan (standing_on (knowledge_of session).lang given) (length (filter is_back given)) (knowledge_of session).network.list ≡ show_text l plan (standing_on l events) (length (filter is_back events)) (learned_in (state_after l plan (standing_on l events)))
-shown_as session l plan events given lang planned same stands =
-    let k = knowledge_of session in
-    let t : List Answer = standing_on l events in
-    let there = stands_at session t stands in
-    let at : state_after l plan t ≡ At there.state = sym (λ i. state_after (lang i) (planned i) t) ∙ there.at in
-    let learned : k.network.list ≡ learned_in (state_after l plan t) = sym (ap learned_in at ∙ there.network) in
-    (λ i. show_text (lang i) (planned i) (standing_on (lang i) (same i)) (length (filter is_back (same i))) k.network.list) ∙ ap (show_text l plan t (length (filter is_back events))) learned
+pub shown_as : (o : Opened) (session : Session) (given : List Event) → (knowledge_of session).lang ≡ o.lang → (knowledge_of session).plan ≡ o.plan → given ≡ o.events → Stands session (standing_on o.lang o.events) →
+    saying (show_text (knowledge_of session).lang (knowledge_of session).plan (standing_on (knowledge_of session).lang given) (length (filter is_back given)) (knowledge_of session).network.list) ending.Done ≡ asked_said ask.Show o
+shown_as o session given lang planned same stands =
+    let learned = learned_as o session lang planned stands in
+    (λ i. saying (show_text (lang i) (planned i) (standing_on (lang i) (same i)) (length (filter is_back (same i))) (learned i)) ending.Done)

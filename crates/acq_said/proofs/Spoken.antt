@@ -1,5 +1,5 @@
 -- How a command ends by what it says.
-use Rattle.acq_said.proofs.Prelude.{◌≡◌, ◌∙◌, ◌⊎◌, ◌+◌, ◌<◌, ℕ, Bool, true, false, cond, List, [], length, drop, Option, Some, None, Result, Ok, Err, refl, sym, ap, subst, inl, inr, IfOk, nat_le, option_map, leb-false, Gathered, gathered, Gives, all_of, Put, AllFault, SFault, is_of_bytes, made_said, IsBrokenOff, SaysOfInput, Refuses, refused_said, untold, HasWritten, IsSaid, SaysSo, or_silent, silent_end, Saying, Ending, Unsaid, MatchOption, saying, MatchResult, Certificate, CertFault, Opened, IsCheck, checked_said}
+use Rattle.acq_said.proofs.Prelude.{◌≡◌, ◌∙◌, ◌⊎◌, ◌+◌, ◌<◌, ℕ, Bool, true, false, cond, List, [], length, drop, Option, Some, None, Result, Ok, Err, refl, sym, ap, subst, inl, inr, ⊎_elim, IfOk, Vec, Global, nat_le, option_map, leb-false, Gathered, gathered, Gives, all_of, Put, AllFault, SFault, is_of_bytes, made_said, IsBrokenOff, SaysOfInput, SaysRefusal, refused_said, untold, HasWritten, IsSaid, or_silent, silent_end, Saying, Ending, Unsaid, MatchOption, saying, MatchResult, Certificate, CertFault, Opened, IsCheck, checked_said}
 use Rattle.acq_io.specs.declared.streams.Put.TheVariants as put
 use Rattle.cert_check.specs.Reading.{IsRead, IsUnreadable}
 use Rattle.cert_check.specs.declared.fault.CertFault.TheVariants as form
@@ -37,11 +37,6 @@ said_so (Err e) P holds = refl
 pub said_as : {E : Type 0} (r : Result Saying E) (said : Result Saying Unsaid) (what other : Saying) → said ≡ or_silent r → what ≡ other → IfOk r (λ s. s ≡ what) → IsSaid other said
 said_as r said what other is same holds = subst (λ w. IsSaid w said) same (subst (IsSaid what) (sym is) (said_so r (λ s. s ≡ what) holds))
 
--- a fact that holds of it
-pub so_said : {E : Type 0} (r : Result Saying E) (fact : Type 0) → IfOk r (λ _. fact) → IfOk (or_silent r) (λ _. fact)
-so_said (Ok what) fact holds = holds
-so_said (Err e) fact holds = tt
-
 -- whether or not there was memory
 pub ok_any : {A E : Type 0} (said : Result A E) {fact : Type 0} → fact → IfOk said (λ _. fact)
 ok_any (Ok s) holds = holds
@@ -62,7 +57,7 @@ IsReading bytes reading = MatchResult reading (IsRead bytes) (IsUnreadable bytes
 
 -- of a session that was opened this is said; of a refusal, which one it is
 abbrev pub SaysOpening : (Opened → Saying) → Result Opened SFault → Result Saying Unsaid → Type 0
-SaysOpening says opening said = MatchResult opening (λ o. IsSaid (says o) said) (λ fault. Refuses fault said)
+SaysOpening says opening said = MatchResult opening (λ o. IsSaid (says o) said) (λ fault. SaysRefusal fault said)
 
 -- ---- what was written
 
@@ -115,28 +110,27 @@ refuses_by : (f : SFault) (o : Option Unsaid) (said : Result Saying Unsaid) (wri
 refuses_by f None said written written' end is says has = inr (told_of_bytes f is, ends_said (refused_said f) said written written' end says has)
 refuses_by f (Some why) said written written' end is says has = inl (silently why said written written' end says has)
 
-pub refuses_end : (f : SFault) (said : Result Saying Unsaid) (written written' : Option (List ℕ)) (end : Ending) → Refuses f said → HasWritten said written written' (okay end) → IsBrokenOff end ⊎ ((is_of_bytes f ≡ true) × (end ≡ ending.JournalRefused f))
+pub refuses_end : (f : SFault) (said : Result Saying Unsaid) (written written' : Option (List ℕ)) (end : Ending) → SaysRefusal f said → HasWritten said written written' (okay end) → IsBrokenOff end ⊎ ((is_of_bytes f ≡ true) × (end ≡ ending.JournalRefused f))
 refuses_end f said written written' end says has = refuses_by f (untold f) said written written' end refl says has
-
--- a command that didn't open a file
-pub closed_end : (written written' : Option (List ℕ)) (end : Ending) (f : SFault) → SaysSo (Refuses f) written written' (okay end) → IsBrokenOff end ⊎ ((is_of_bytes f ≡ true) × (end ≡ ending.JournalRefused f))
-closed_end written written' end f (said, says, has) = refuses_end f said written written' end says has
 
 -- ---- the input
 
+-- what is given of the bytes that are told
+pub record GivenOf (f : List ℕ → Gathered) (left' : Option (List ℕ)) (got : Result (List ℕ) AllFault) (bytes : List ℕ) : Type 0 where
+  pub rest : List ℕ
+  pub left : left' ≡ Some rest
+  pub gives : f bytes ≡ gathered got rest
+
+pub given_of : (f : List ℕ → Gathered) (left left' : Option (List ℕ)) (got : Result (List ℕ) AllFault) (bytes : List ℕ) → Gives f left left' got → left ≡ Some bytes → GivenOf f left' got bytes
+given_of f left left' got bytes gives told = go left' (sym (ap (option_map f) told) ∙ gives)
+  where
+    go : (now : Option (List ℕ)) → Some (f bytes) ≡ option_map (gathered got) now → GivenOf f now got bytes
+    go None e = absurd (let no : ⊥ = cc in no)
+    go (Some rest) e = record { rest = rest; left = refl; gives = (let is : f bytes ≡ gathered got rest = cc in is) }
+
 -- what was read is what the bytes give
 pub gives_got : (f : List ℕ → Gathered) (left left' : Option (List ℕ)) (got : Result (List ℕ) AllFault) (bytes : List ℕ) → Gives f left left' got → left ≡ Some bytes → (f bytes).got ≡ got
-gives_got f left left' got bytes gives told = go left' (sym (ap (option_map f) told) ∙ gives)
-  where
-    same : (a b : Gathered) → (let x : Option Gathered = Some a in x) ≡ Some b → a ≡ b
-    same a b e = cc
-
-    none : (a : Gathered) → (let x : Option Gathered = Some a in x) ≡ None → ⊥
-    none a e = cc
-
-    go : (now : Option (List ℕ)) → Some (f bytes) ≡ option_map (gathered got) now → (f bytes).got ≡ got
-    go None e = absurd (none (f bytes) e)
-    go (Some rest) e = ap (λ (x : Gathered). x.got) (same (f bytes) (gathered got rest) e)
+gives_got f left left' got bytes gives told = ap (λ (x : Gathered). x.got) (given_of f left left' got bytes gives told).gives
 
 -- it broke off, or something is said of what the bytes give
 pub input_end : (most : ℕ) (Says : Result (List ℕ) AllFault → Result Saying Unsaid → Type 0) (left left' written written' : Option (List ℕ)) (said : Result Saying Unsaid) (end : Ending) (bytes : List ℕ) →
@@ -147,6 +141,9 @@ input_end most Says left left' written written' said end bytes from (Err all.Too
     let Of : Result (List ℕ) AllFault → Type 0 = λ r. Says r said in inr (subst Of (sym (gives_got (all_of most) left left' (Err all.TooLong) bytes says.0 from)) says.1)
 input_end most Says left left' written written' said end bytes from (Err all.Fault, says) has = inl (silently unsaid.ReadFault said written written' end says has)
 input_end most Says left left' written written' said end bytes from (Err all.Memory, says) has = inl (silently unsaid.Memory said written written' end says has)
+
+abbrev pub fault_of : AllFault → Result (Vec ℕ Global) AllFault
+fault_of e = Err e
 
 abbrev pub fine : List ℕ → Result (List ℕ) AllFault
 fine bytes = Ok bytes
@@ -160,38 +157,24 @@ fine_long got e = cc
 pub same_fine : (a b : List ℕ) → fine a ≡ fine b → a ≡ b
 same_fine a b e = cc
 
--- what was read to the end is the whole
+-- what is read to the end is the whole, or there are too many bytes
+all_given : (most : ℕ) (bytes : List ℕ) → ((all_of most bytes).got ≡ fine bytes) ⊎ (((all_of most bytes).got ≡ long_one) × (most < length bytes))
+unfolding all_of
+all_given most bytes = go (nat_le (length bytes) most) refl
+  where
+    go : (b : Bool) → nat_le (length bytes) most ≡ b → ((cond b (gathered (fine bytes) []) (gathered long_one (drop (most + 1) bytes))).got ≡ fine bytes) ⊎ (((cond b (gathered (fine bytes) []) (gathered long_one (drop (most + 1) bytes))).got ≡ long_one) × (most < length bytes))
+    go true which = inl refl
+    go false which = inr (refl, leb-false (length bytes) most which)
+
 pub whole_of : (most : ℕ) (bytes got : List ℕ) → (all_of most bytes).got ≡ fine got → bytes ≡ got
-unfolding all_of
-whole_of most bytes got is = go (nat_le (length bytes) most) is
-  where
-    go : (b : Bool) → (cond b (gathered (fine bytes) []) (gathered long_one (drop (most + 1) bytes))).got ≡ fine got → bytes ≡ got
-    go true e = same_fine bytes got e
-    go false e = absurd (fine_long got (sym e))
+whole_of most bytes got is = ⊎_elim (λ whole. same_fine bytes got (sym whole ∙ is)) (λ long. absurd (fine_long got (sym is ∙ long.0))) (all_given most bytes)
 
--- or there are too many bytes
+fine_err : (bytes : List ℕ) (e : AllFault) → fine bytes ≡ Err e → ⊥
+fine_err bytes e is = cc
+
 pub too_many : (most : ℕ) (bytes : List ℕ) (e : AllFault) → (all_of most bytes).got ≡ Err e → most < length bytes
-unfolding all_of
-too_many most bytes e is = go (nat_le (length bytes) most) refl is
-  where
-    fine_err : fine bytes ≡ Err e → ⊥
-    fine_err h = cc
-
-    go : (b : Bool) → nat_le (length bytes) most ≡ b → (cond b (gathered (fine bytes) []) (gathered long_one (drop (most + 1) bytes))).got ≡ Err e → most < length bytes
-    go true which h = absurd (fine_err h)
-    go false which h = leb-false (length bytes) most which
+too_many most bytes e is = ⊎_elim (λ whole. absurd (fine_err bytes e (sym whole ∙ is))) (λ long. long.1) (all_given most bytes)
 
 -- and that is why there are none
 pub only_long : (most : ℕ) (bytes : List ℕ) (e : AllFault) → (all_of most bytes).got ≡ Err e → e ≡ all.TooLong
-unfolding all_of
-only_long most bytes e is = go (nat_le (length bytes) most) is
-  where
-    same_err : long_one ≡ Err e → e ≡ all.TooLong
-    same_err h = cc
-
-    fine_err : fine bytes ≡ Err e → ⊥
-    fine_err h = cc
-
-    go : (b : Bool) → (cond b (gathered (fine bytes) []) (gathered long_one (drop (most + 1) bytes))).got ≡ Err e → e ≡ all.TooLong
-    go true h = absurd (fine_err h)
-    go false h = same_err h
+only_long most bytes e is = ⊎_elim (λ whole. absurd (fine_err bytes e (sym whole ∙ is))) (λ long. let same : long_one ≡ Err e = sym long.0 ∙ is in cc) (all_given most bytes)

@@ -1,5 +1,5 @@
 -- The answers that have places are answers to questions of the language.
-use Rattle.acq_said.proofs.Prelude.{◌≡◌, ◌+◌, true, List, [], ◌∷◌, ◌++◌, length, refl, ap, Option, Some, None, is_some, All, list_any, All-cons, All-nil, All-weaker, Assignment, Answer, Plan, HaveValues, Language, IsLanguage, IsQuestion, IsAskable, State, Idle, Halving, Choosing, Walking, Over, At, is_just, open_question, read_on, state_after, step, then_on, some_of, IsReached}
+use Rattle.acq_said.proofs.Prelude.{◌≡◌, ◌+◌, true, List, [], ◌∷◌, ◌++◌, length, refl, ap, Option, Some, None, is_some, All, list_any, All-cons, All-nil, All-weaker, Assignment, Answer, Plan, HaveValues, Language, IsLanguage, IsQuestion, IsAskable, State, Idle, Halving, Choosing, Walking, Over, At, is_just, open_question, read_on, state_after, step, lead_on, some_of, IsReached}
 use Rattle.session_laws.proofs.Askable.{questions_have_values}
 use Rattle.session_laws.proofs.Folds.{one_answer_more, passed, same_assignment}
 
@@ -24,7 +24,7 @@ module _ (l : Language) (plan : Plan) (lawful : IsLanguage l) where
   questions_from before state (a ∷ t) final at h =
       go (step l plan before a state) refl h (λ next moved rest. questions_from (before ++ a ∷ []) next t final (one_answer_more l plan before a state next at moved) rest)
     where
-      go : (o : Option State) → step l plan before a state ≡ o → then_on (length before + 1) o (λ next. read_on l plan (before ++ a ∷ []) next t) ≡ At final →
+      go : (o : Option State) → step l plan before a state ≡ o → lead_on (length before + 1) o (λ next. read_on l plan (before ++ a ∷ []) next t) ≡ At final →
           ((next : State) → step l plan before a state ≡ Some next → read_on l plan (before ++ a ∷ []) next t ≡ At final → All (λ (b : Answer). IsAskable l b.question) t) → All (λ (b : Answer). IsAskable l b.question) (a ∷ t)
       go None e rest others = absurd (let no : ⊥ = cc in no)
       go (Some next) e rest others = All-cons (λ (b : Answer). IsAskable l b.question) a t (step_question before a state next at e) (others next e rest)

@@ -1,7 +1,9 @@
 -- What `back` says of a session, and leaves of it.
-use Rattle.acq_said.proofs.Prelude.{◌≡◌, ◌⊎◌, ◌∙◌, ℕ, zero, suc, ◌≤◌, ◌+◌, Bool, true, false, List, [], ◌∷◌, ◌++◌, Option, Some, Result, Ok, Err, refl, sym, ap, subst, inl, inr, ⊎_elim, arith, append-nil, append_cancel_left, IsSome, ForSome, ◌≢◌, codes, LeavesNow, OpensWith, JournalFull, ending_line, DiskOf, AreReadingCalls, Put, Assignment, Event, Plan, LeavesOnly, joined, weaker, AreEventCalls, IsGrown, Persists, FailsWith, both_as, calls_for, calls_of, within_more, OpensWithin, OpensWithOrWithout, bytes_told, Opened, OpensOnce, SFault, IsBrokenOff, EndsAsOpened, ended_as, HasWritten, SaysSo, Saying, saying, EndsBack, SaysOver, back_on, back_said, decimal, Ending, Unsaid, MatchResult, IsSaid, Refuses}
+use Rattle.acq_said.proofs.Prelude.{◌≡◌, ◌⊎◌, ◌∙◌, ℕ, zero, suc, ◌≤◌, ◌+◌, Bool, true, false, List, [], ◌∷◌, ◌++◌, Option, Some, None, Result, Ok, Err, refl, sym, ap, subst, inl, inr, ⊎_elim, arith, append-nil, append_cancel_left, IsSome, ForSome, ◌≢◌, LeavesNow, OpensWith, DiskOf, AreReadingCalls, Put, Assignment, Event, Plan, LeavesOnly, joined, weaker, AreEventCalls, IsGrown, Persists, FailsWith, both_as, calls_for, all_calls, within_more, OpensWithin, OpensWithOrWithout, bytes_told, Opened, OpensOnce, SFault, IsBrokenOff, EndsAsOpened, ended_as, HasWritten, SaysSo, Saying, EndsBack, SaysOver, back_on, back_said, Drove, Ending, Unsaid, MatchResult, IsSaid, SaysRefusal}
 use Rattle.acq_io.specs.declared.streams.Put.TheVariants as put
 use Rattle.assign.specs.declared.events.Event.TheVariants as event
+use Rattle.acq_loop.specs.Due.{EventKept}
+use Rattle.acq_loop.specs.declared.driving.Drove.TheVariants as drove
 use Rattle.acq_loop.specs.declared.ending.Ending.TheVariants as ending
 use Rattle.acq_said.specs.declared.said.Unsaid.TheVariants as unsaid
 use Rattle.acq_said.specs.TakingBack.{HasTakenBack}
@@ -10,29 +12,6 @@ use Rattle.acq_said.proofs.SaidOver.{SaidEnds, broken_own, is_own, opening_own, 
 use Rattle.acq_said.proofs.Spoken.{SaysOpening, said_silent, same_why, silent, silently, so_not}
 
 -- ---- what is said
-
-abbrev pub nothing_back : Saying
-nothing_back = saying (codes "refused nothing to take back" ++ 10 ∷ []) ending.NothingBack
-
-abbrev pub taken_said : ℕ → Saying
-taken_said m = saying (codes "took back answer " ++ (decimal m ++ 10 ∷ [])) ending.Done
-
-abbrev pub full_said : Saying
-full_said = saying (ending_line JournalFull 0) ending.JournalFull
-
-pub none_back : (n : ℕ) (full : Bool) → n ≡ 0 → ((back_on n full).ending ≢ ending.Done) × (nothing_back ≡ back_on n full)
-none_back zero full is = (λ e. cc, refl)
-none_back (suc n) full is = absurd (omega (arith, is))
-
-pub full_back : (n : ℕ) (full : Bool) → 1 ≤ n → full ≡ true → ((back_on n full).ending ≢ ending.Done) × (full_said ≡ back_on n full)
-full_back zero full some is = absurd (omega (arith, some))
-full_back (suc n) true some is = (λ e. cc, refl)
-full_back (suc n) false some is = absurd (let no : ⊥ = cc in no)
-
-pub one_back : (n : ℕ) (full : Bool) → 1 ≤ n → full ≡ false → ((back_on n full).ending ≡ ending.Done) × (taken_said n ≡ back_on n full)
-one_back zero full some is = absurd (omega (arith, some))
-one_back (suc n) true some is = absurd (let no : ⊥ = cc in no)
-one_back (suc n) false some is = (refl, refl)
 
 back_own_on : (n : ℕ) (full : Bool) → is_own (back_on n full).ending ≡ true
 back_own_on zero full = refl
@@ -55,11 +34,12 @@ back_same : (what : Saying) (events later : List Event) (said : Result Saying Un
 back_same what events later said (inl (is, told)) failed = absurd (so_not (λ s. s ≡ what) said unsaid.DiskFault (λ e. cc) told failed)
 back_same what events later said (inr (same, rest)) failed = same
 
--- the input isn't read
-pub back_reads : (what : Saying) (events later : List Event) (said : Result Saying Unsaid) → EndsBack what events later said → said ≡ silent unsaid.ReadFault → ⊥
-back_reads what events later said (inl (is, told)) so = so_not (λ s. s ≡ what) said unsaid.ReadFault (λ e. cc) told so
-back_reads what events later said (inr (same, inl none)) so = let no : unsaid.Memory ≡ unsaid.ReadFault = same_why unsaid.Memory unsaid.ReadFault (sym none ∙ so) in cc
-back_reads what events later said (inr (same, inr failed)) so = let no : unsaid.DiskFault ≡ unsaid.ReadFault = same_why unsaid.DiskFault unsaid.ReadFault (sym failed ∙ so) in cc
+-- by what the keeper's call answered
+pub ends_kept : (what : Saying) (events later : List Event) (kept : Option Drove) (said : Result Saying Unsaid) → EventKept event.Back events later kept → (kept ≡ None → IsSaid what said) → (kept ≡ Some drove.Memory → said ≡ Err unsaid.Memory) → (kept ≡ Some drove.DiskFault → said ≡ Err unsaid.DiskFault) →
+    EndsBack what events later said
+ends_kept what events later None said kept says wants fails = inl (kept, says refl)
+ends_kept what events later (Some end) said (inl memory, same) says wants fails = inr (same, inl (wants (ap (λ (d : Drove). Some d) memory)))
+ends_kept what events later (Some end) said (inr failed, same) says wants fails = inr (same, inr (fails (ap (λ (d : Drove). Some d) failed)))
 
 module _ {D : Type 0} (disk : DiskOf D) where
   pub record LeavesBack (plan : Plan) (voc : List ℕ) (events later : List Event) (old new : D) (said : Result Saying Unsaid) : Type 0 where
@@ -102,12 +82,12 @@ module _ {D : Type 0} (disk : DiskOf D) where
 -- ---- how often the disk was called
 
 -- the take-back alone was added, or nothing
-calls_back : (what : Saying) (events later : List Event) (said : Result Saying Unsaid) (was : Bool) → EndsBack what events later said → (grown : IsGrown events later) → calls_of was grown.more ≤ calls_for was event.Back
+calls_back : (what : Saying) (events later : List Event) (said : Result Saying Unsaid) (was : Bool) → EndsBack what events later said → (grown : IsGrown events later) → all_calls was grown.more ≤ calls_for was event.Back
 calls_back what events later said was (inl (is, told)) grown =
-    let Calls : List Event → Type 0 = λ l. calls_of was l ≤ calls_for was event.Back in
+    let Calls : List Event → Type 0 = λ l. all_calls was l ≤ calls_for was event.Back in
     subst Calls (sym (append_cancel_left events grown.more (event.Back ∷ []) (sym grown.is ∙ is))) (omega arith)
 calls_back what events later said was (inr (same, rest)) grown =
-    let Calls : List Event → Type 0 = λ l. calls_of was l ≤ calls_for was event.Back in
+    let Calls : List Event → Type 0 = λ l. all_calls was l ≤ calls_for was event.Back in
     subst Calls (sym (append_cancel_left events grown.more [] (sym grown.is ∙ same ∙ sym (append-nil events)))) (omega arith)
 
 module _ {D : Type 0} (disk : DiskOf D) where
@@ -115,7 +95,7 @@ module _ {D : Type 0} (disk : DiskOf D) where
   lost_back : (plan : Plan) (voc : List ℕ) (events later : List Event) (put : Option Assignment) (was : Bool) (old new : D) (grown : IsGrown events later) → later ≡ events →
       FailsWith disk was grown.more plan voc events later put (λ lost. lost ≡ event.Back) old new → disk.calls new ≤ disk.calls old + calls_for was event.Back
   lost_back plan voc events later put was old new grown same f =
-      let Calls : List Event → Event → Type 0 = λ l e. disk.calls new ≤ disk.calls old + calls_of was (l ++ e ∷ []) in
+      let Calls : List Event → Event → Type 0 = λ l e. disk.calls new ≤ disk.calls old + all_calls was (l ++ e ∷ []) in
       let none : grown.more ≡ [] = append_cancel_left events grown.more [] (sym grown.is ∙ same ∙ sym (append-nil events)) in
       let few : Calls [] event.Back = both_as Calls grown.more [] f.event event.Back none f.lost f.few in omega (arith, few)
 
@@ -132,7 +112,7 @@ module _ {D : Type 0} (disk : DiskOf D) where
 
 -- why nothing was taken back
 abbrev pub Untaken : Result Opened SFault → Result Saying Unsaid → Type 0
-Untaken opening told = MatchResult opening (λ o. IsSaid (back_said o) told × ((back_said o).ending ≢ ending.Done)) (λ fault. Refuses fault told)
+Untaken opening told = MatchResult opening (λ o. IsSaid (back_said o) told × ((back_said o).ending ≢ ending.Done)) (λ fault. SaysRefusal fault told)
 
 untaken_said : (opening : Result Opened SFault) (said : Result Saying Unsaid) → Untaken opening said → SaysOpening back_said opening said
 untaken_said (Ok o) said none = none.0

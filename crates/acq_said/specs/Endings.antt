@@ -1,6 +1,6 @@
 -- What was said of a session at its end, and what was done about a language.
 use Rattle.std.specs.Prelude.{◌≡◌}
-use Rattle.acq_said.specs.Prelude.{ℕ, List, Option, Some, None, Result, Ok, Err, IsErr, IfOk, OnErr, Adds, AddsFront, Put, Answer, Event, Language, standing_on, Turns, Closing, closing_of, ending_of, Drives, Assignment, Multi, State, At, Ended, IsWalked, state_after, walk_end, network_in, point_of, closing_text, Terms, Drove, Ending, MatchOption}
+use Rattle.acq_said.specs.Prelude.{ℕ, List, Option, Some, Result, Ok, Err, IsErr, IfOk, OnErr, Adds, AddsFront, Put, Answer, Event, Language, standing_on, Turns, closing_of, ending_of, Drives, Assignment, Multi, State, At, Ended, IsWalked, state_after, walk_end, network_in, point_of, closing_text, Terms, Drove, Ending, MatchOption}
 use Rattle.acq_said.specs.Breaks.{BreaksRun}
 use Rattle.acq_said.specs.Said.{IsSaid, silent_end}
 use Rattle.acq_said.specs.Saying.{Saying, saying}
@@ -18,13 +18,10 @@ SaysPart l terms t written written' how =
     MatchOption (closing_of how) ((written' ≡ written) × IsErr (ending_of how)) (λ closing. AddsFront written written' (closing_text l terms t closing))
 
 -- the last lines of a session are said, by how it ended; where there are none, nothing is
-abbrev pub SaysEndBy : Language → Terms → List Answer → Option Closing → Result Ending Put → Result Saying Unsaid → Type 0
-SaysEndBy l terms t (Some closing) (Ok end) said = IsSaid (saying (closing_text l terms t closing) end) said
-SaysEndBy l terms t (Some closing) (Err e) said = ⊥
-SaysEndBy l terms t None end said = (why : Unsaid) × (said ≡ Err why) × (end ≡ silent_end why)
-
 abbrev pub SaysEnd : Language → Terms → List Answer → Drove → Result Saying Unsaid → Type 0
-SaysEnd l terms t how said = SaysEndBy l terms t (closing_of how) (ending_of how) said
+SaysEnd l terms t how said =
+    MatchOption (closing_of how) ((why : Unsaid) × (said ≡ Err why) × (ending_of how ≡ silent_end why))
+    (λ closing. (end : Ending) × (ending_of how ≡ Ok end) × IsSaid (saying (closing_text l terms t closing) end) said)
 
 -- What was done about a language, from the events at first to those at last: the loop ended in some way, and the program as that way
 -- has it. Behind what the loop wrote stand the last lines, where there are any.

@@ -39,5 +39,5 @@ untold store.Memory = Some unsaid.Memory
 untold fault = None
 
 -- what a command without a session says of its fault: which one it is, or nothing
-abbrev pub Refuses : SFault → Result Saying Unsaid → Type 0
-Refuses fault said = MatchOption (untold fault) (IsSaid (refused_said fault) said) (λ why. said ≡ Err why)
+abbrev pub SaysRefusal : SFault → Result Saying Unsaid → Type 0
+SaysRefusal fault said = MatchOption (untold fault) (IsSaid (refused_said fault) said) (λ why. said ≡ Err why)

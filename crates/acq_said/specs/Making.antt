@@ -1,6 +1,6 @@
 -- What `new` says and does.
 use Rattle.std.specs.Prelude.{◌≡◌, ◌⊎◌, ◌≤◌, ◌+◌, ◌∷◌, ◌++◌}
-use Rattle.acq_said.specs.Prelude.{ℕ, List, [], length, Option, Some, Result, Ok, Err, IsErr, IsSome, codes, decimal, ForSome, DiskOf, all_of, AllFault, VocFault, HasNoSession, IsCreating, IsOnlyRead, LeavesOnly, Plan, Language, variable_count, candidates, OpensWith, LeavesNow, NotMade, SFault, IsVocabulary, refusal_of_vocabulary, refusal_text, MatchOption, is_of_bytes, true, MatchResult}
+use Rattle.acq_said.specs.Prelude.{ℕ, List, [], length, Option, Some, Result, Ok, Err, IsErr, IsSome, codes, decimal, ForSome, DiskOf, AllFault, VocFault, HasNoSession, IsCreating, IsOnlyRead, LeavesOnly, Plan, Language, variable_count, candidates, OpensWith, LeavesNow, NotMade, SFault, IsVocabulary, refusal_of_vocabulary, refusal_text, MatchOption, is_of_bytes, true, MatchResult}
 use Rattle.acq_said.specs.Inputs.{SaysOfRead}
 use Rattle.acq_said.specs.Journals.{refused_said, untold}
 use Rattle.acq_said.specs.Said.{IsSaid}
@@ -29,7 +29,7 @@ made_said (Err f) = refused_said f
 
 module _ {D : Type 0} (disk : DiskOf D) where
   -- The journal is made, and a crash leaves nothing else, whether or not that could be said.
-  pub record IsMade (plan : Plan) (voc : List ℕ) (old new : D) (said : Result Saying Unsaid) : Type 0 where
+  pub record IsJournalMade (plan : Plan) (voc : List ℕ) (old new : D) (said : Result Saying Unsaid) : Type 0 where
     pub free : ForSome (disk.content old) HasNoSession
     pub lang : Language
     pub read : IsVocabulary voc lang
@@ -59,7 +59,7 @@ module _ {D : Type 0} (disk : DiskOf D) where
   -- touched.
   pub record News (plan : Plan) (left left' : Option (List ℕ)) (old new : D) (said : Result Saying Unsaid) : Type 0 where
     pub read : Result (List ℕ) AllFault
-    pub says : SaysOfRead 4194304 (λ bytes told. MatchResult bytes (λ voc. IsMade plan voc old new told ⊎ IsNotMade plan voc old new told) (λ e. IsSaid (voc_refused vocs.TooLong) told)) left left' said read
+    pub says : SaysOfRead 4194304 (λ bytes told. MatchResult bytes (λ voc. IsJournalMade plan voc old new told ⊎ IsNotMade plan voc old new told) (λ e. IsSaid (voc_refused vocs.TooLong) told)) left left' said read
     pub untouched : IsErr read → new ≡ old
 
 -- ---- Exactly when

@@ -1,6 +1,6 @@
 -- What a command that only says something of a journal's session has done.
 use Rattle.std.specs.Prelude.{◌≡◌, ◌⊎◌}
-use Rattle.acq_said.specs.Prelude.{ℕ, List, Result, Ok, Err, IfOk, ForSome, AreReadingCalls, IsSynced, DiskOf, LeavesOnly, LeavesNow, OpensWith, Opened, Holds, IsSession, Opens, NotOpened, SFault, Ending, MatchResult}
+use Rattle.acq_said.specs.Prelude.{ℕ, List, Result, Ok, Err, IfOk, ForSome, AreReadingCalls, IsSynced, DiskOf, LeavesOnly, LeavesNow, OpensWith, Opened, SaysOpened, IsSession, Opens, NotOpened, SFault, Ending, MatchResult}
 use Rattle.answer_journal.specs.declared.fault.JFault.TheVariants as journal
 use Rattle.session_store.specs.declared.fault.SFault.TheVariants as store
 use Rattle.acq_said.specs.Journals.{refused_said}
@@ -22,8 +22,8 @@ module _ {D : Type 0} (disk : DiskOf D) where
   -- with; and so it was said of this. Where something was said of a session, what is true of it then is. The disk holds what it held.
   pub record SaysOver (Says : Result Opened SFault → Result Saying Unsaid → Type 0) (IsTrueOf : Opened → Type 0) (old new : D) (said : Result Saying Unsaid) : Type 0 where
     pub opening : Result Opened SFault
-    pub opens : ForSome (disk.content old) (λ bytes. MatchResult opening (Holds bytes) (NotOpened bytes))
-    pub some : (bytes : List ℕ) × MatchResult opening (Holds bytes) (NotOpened bytes)
+    pub opens : ForSome (disk.content old) (λ bytes. MatchResult opening (SaysOpened bytes) (NotOpened bytes))
+    pub some : (bytes : List ℕ) × MatchResult opening (SaysOpened bytes) (NotOpened bytes)
     pub session : IfOk opening IsSession
     pub says : Says opening said
     pub so : IfOk said (λ _. IfOk opening IsTrueOf)

@@ -1,6 +1,6 @@
 -- What a run over a journal has done, and `run`.
 use Rattle.std.specs.Prelude.{◌≡◌, ◌⊎◌, ◌+◌, ◌∷◌, ◌++◌}
-use Rattle.acq_said.specs.Prelude.{ℕ, Bool, List, [], Option, Result, Ok, IfOk, OnErr, ForSome, AreReadingCalls, DiskOf, Put, Assignment, Event, LeavesOnly, Language, calls_of, IsRaisedOn, OpensWith, OpensWithin, LeavesNow, Opened, Holds, HavePlaces, Turns, Told, IsAdded, Loses, point_of, terms_with, Ending}
+use Rattle.acq_said.specs.Prelude.{ℕ, Bool, List, [], Option, Result, Ok, IfOk, OnErr, ForSome, AreReadingCalls, DiskOf, Put, Assignment, Event, LeavesOnly, Language, all_calls, IsRaisedOn, OpensWith, OpensWithin, LeavesNow, Opened, SaysOpened, HavePlaces, Turns, Told, IsAdded, Loses, point_of, terms_with, Ending}
 use Rattle.acq_said.specs.Breaks.{BreaksRun}
 use Rattle.acq_said.specs.Endings.{Tries}
 use Rattle.acq_loop.specs.declared.ending.Ending.TheVariants as ending
@@ -11,10 +11,10 @@ module _ {D : Type 0} (disk : DiskOf D) where
   -- some bytes, and adds some. Where it tells them, a crash at any moment leaves what it might have left before, or those events and
   -- a front of the added ones. A crash at the end leaves all of them, and where the disk failed the event too whose adding failed,
   -- or not.
-  pub record GoesOn (turns : Turns) (may : Language → Assignment → Told → Type 0) (budget : ℕ) (left written left' written' : Option (List ℕ)) (old new : D) (got : Result Ending Put) : Type 0 where
+  pub record RunGoesOn (turns : Turns) (may : Language → Assignment → Told → Type 0) (budget : ℕ) (left written left' written' : Option (List ℕ)) (old new : D) (got : Result Ending Put) : Type 0 where
     pub of : Opened
-    pub opens : ForSome (disk.content old) (λ bytes. Holds bytes of)
-    pub some : (bytes : List ℕ) × Holds bytes of
+    pub opens : ForSome (disk.content old) (λ bytes. SaysOpened bytes of)
+    pub some : (bytes : List ℕ) × SaysOpened bytes of
     pub later : List Event
     pub added : IsAdded of.lang of.plan (may of.lang) of.events later
     pub tries : IfOk got (Tries turns of.lang (terms_with of.plan budget) of.events later left written left' written')
@@ -32,4 +32,4 @@ module _ {D : Type 0} (disk : DiskOf D) where
     pub raised : Bool
     pub was_raised : ForSome (disk.content old) (λ bytes. IsRaisedOn bytes raised)
     -- the disk is called to open the journal and to add an event, and not between two of them
-    pub calls : ForSome (disk.content old) (AreReadingCalls (5 + calls_of raised (added.more ++ last)) (disk.calls old) (disk.calls new))
+    pub calls : ForSome (disk.content old) (AreReadingCalls (5 + all_calls raised (added.more ++ last)) (disk.calls old) (disk.calls new))

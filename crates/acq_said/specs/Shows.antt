@@ -1,12 +1,12 @@
 -- What is shown of a session.
 use Rattle.std.specs.Prelude.{◌∷◌, ◌++◌, if◌then◌else◌}
-use Rattle.acq_said.specs.Prelude.{ℕ, zero, suc, Bool, true, false, List, [], length, codes, decimal, Answer, Event, Plan, Scopes, Quacq, Multi, Candidate, Language, question_text, network_text, Idle, Over, Reading, At, Stray, state_after}
+use Rattle.acq_said.specs.Prelude.{ℕ, zero, suc, Bool, true, false, List, [], length, codes, decimal, Answer, Event, Plan, Scopes, Quacq, Multi, Candidate, Language, question_text, network_text, Idle, Over, Course, At, Stray, state_after}
 use Rattle.assign.specs.declared.events.Event.TheVariants as event
 
-abbrev pub plan_text : Plan → List ℕ
-plan_text Scopes = codes "scopes"
-plan_text Quacq = codes "quacq"
-plan_text Multi = codes "multi"
+abbrev pub plan_words : Plan → List ℕ
+plan_words Scopes = codes "scopes"
+plan_words Quacq = codes "quacq"
+plan_words Multi = codes "multi"
 
 -- a question with its number and its answer
 abbrev pub answer_line : Language → ℕ → Answer → List ℕ
@@ -26,7 +26,7 @@ abbrev pub back_line : ℕ → List ℕ
 back_line zero = []
 back_line (suc n) = codes "taken back " ++ (decimal (suc n) ++ 10 ∷ [])
 
-abbrev pub reading_text : Reading → List ℕ
+abbrev pub reading_text : Course → List ℕ
 reading_text (Stray number) = []
 reading_text (At (Idle network end)) = codes "idle"
 reading_text (At (Over network)) = codes "collapsed"
@@ -35,5 +35,5 @@ reading_text (At state) = codes "asking"
 -- the plan, the answers that stand, and how many were taken back; and then what was learned, and where the session stands
 abbrev pub show_text : Language → Plan → List Answer → ℕ → List Candidate → List ℕ
 show_text l plan t backs network =
-    (codes "plan " ++ (plan_text plan ++ (10 ∷ (answer_lines l 1 t ++ (codes "answers " ++ (decimal (length t) ++ (10 ∷ back_line backs)))))))
+    (codes "plan " ++ (plan_words plan ++ (10 ∷ (answer_lines l 1 t ++ (codes "answers " ++ (decimal (length t) ++ (10 ∷ back_line backs)))))))
     ++ (codes "learned " ++ (decimal (length network) ++ (10 ∷ (network_text l network ++ (codes "state " ++ (reading_text (state_after l plan t) ++ 10 ∷ []))))))

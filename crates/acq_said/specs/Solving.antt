@@ -3,8 +3,8 @@ use Rattle.std.specs.Prelude.{◌≡◌}
 use Rattle.acq_said.specs.Prelude.{ℕ, List, Option, Result, Ok, Err, AllFault, Assignment, Language, model_of, model_fault_line, solution_line, ModelFault, Opened, SFault}
 use Rattle.net_cnf.specs.declared.model_fault.ModelFault.TheVariants as model
 use Rattle.acq_said.specs.Inputs.{SaysOfInput}
-use Rattle.acq_said.specs.Journals.{Refuses}
-use Rattle.acq_said.specs.Reducing.{network_of}
+use Rattle.acq_said.specs.Journals.{SaysRefusal}
+use Rattle.acq_said.specs.Reducing.{network_led_to}
 use Rattle.acq_said.specs.Said.{IsSaid}
 use Rattle.acq_said.specs.Saying.{Saying, saying}
 use Rattle.acq_loop.specs.declared.ending.Ending.TheVariants as ending
@@ -19,10 +19,10 @@ solution_said l (Err fault) = saying (model_fault_line fault) (ending.ModelRefus
 
 -- by what the input gave: the model of its bytes for the session's network, or that they are too many
 abbrev pub solved_said : Result (List ℕ) AllFault → Opened → Saying
-solved_said (Ok bytes) o = solution_said o.lang (model_of o.lang (network_of o) bytes)
+solved_said (Ok bytes) o = solution_said o.lang (model_of o.lang (network_led_to o) bytes)
 solved_said (Err e) o = solution_said o.lang (Err model.TooLong)
 
 -- where a journal isn't opened, the input isn't read
 abbrev pub Solves : (left left' : Option (List ℕ)) → Result Opened SFault → Result Saying Unsaid → Type 0
 Solves left left' (Ok o) said = SaysOfInput 4194304 (λ read. IsSaid (solved_said read o)) left left' said
-Solves left left' (Err fault) said = Refuses fault said × (left' ≡ left)
+Solves left left' (Err fault) said = SaysRefusal fault said × (left' ≡ left)

@@ -1,6 +1,6 @@
 -- What `back` says of a session, and does to it.
-use Rattle.std.specs.Prelude.{◌≡◌, ◌≢◌, ◌⊎◌, ◌<◌, ◌+◌, ◌∷◌, ◌++◌}
-use Rattle.acq_said.specs.Prelude.{ℕ, zero, suc, Bool, true, false, List, [], length, Result, Err, codes, decimal, ForSome, AreReadingCalls, DiskOf, Event, LeavesOnly, standing_on, calls_for, IsRaisedOn, LeavesNow, OpensWith, OpensWithin, OpensWithOrWithout, Opened, Holds, HavePlaces, JournalFull, is_full, ending_line}
+use Rattle.std.specs.Prelude.{◌≡◌, ◌⊎◌, ◌<◌, ◌+◌, ◌∷◌, ◌++◌}
+use Rattle.acq_said.specs.Prelude.{ℕ, zero, suc, Bool, true, false, List, [], length, Result, Err, codes, decimal, ForSome, AreReadingCalls, DiskOf, Event, LeavesOnly, standing_on, calls_for, IsRaisedOn, LeavesNow, OpensWith, OpensWithin, OpensWithOrWithout, Opened, SaysOpened, HavePlaces, JournalFull, is_full, ending_line}
 use Rattle.assign.specs.declared.events.Event.TheVariants as event
 use Rattle.acq_said.specs.Said.{IsSaid}
 use Rattle.acq_said.specs.Saying.{Saying, saying}
@@ -37,8 +37,8 @@ module _ {D : Type 0} (disk : DiskOf D) where
   -- failed the take-back too, or not.
   pub record HasTakenBack (old new : D) (said : Result Saying Unsaid) : Type 0 where
     pub of : Opened
-    pub opens : ForSome (disk.content old) (λ bytes. Holds bytes of)
-    pub some : (bytes : List ℕ) × Holds bytes of
+    pub opens : ForSome (disk.content old) (λ bytes. SaysOpened bytes of)
+    pub some : (bytes : List ℕ) × SaysOpened bytes of
     pub takes : (back_said of).ending ≡ ending.Done
     pub room : length of.events + 1 < 1000000
     pub later : List Event

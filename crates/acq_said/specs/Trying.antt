@@ -47,7 +47,7 @@ pub record IsUnbegun (left written left' written' : Option (List ℕ)) : Type 0 
 
 -- It has broken off for want of the output or of memory: nothing was begun, or a front of a refusal was written, or a run broke off.
 -- Where the input tells its bytes, that is a front of the whole text.
-pub record BreaksOff (terms : Terms) (left written left' written' : Option (List ℕ)) : Type 0 where
+pub record HasBrokenOff (terms : Terms) (left written left' written' : Option (List ℕ)) : Type 0 where
   pub text : Breaks terms left written written'
   pub step : IsUnbegun left written left' written'
       ⊎ (((fault : VocFault) × (got : Result (List ℕ) AllFault) × Gives (first_line_of 4194304) left left' got × IsRefusal fault got × AddsFront written written' (refusal_text fault))
@@ -61,14 +61,8 @@ Acquires terms left written left' written' (ending.VocRefused fault) =
 Acquires terms left written left' written' ending.ReadFault =
     Breaks terms left written written'
     × (IsUnbegun left written left' written' ⊎ ReadsVocabulary left (λ lang events rest. Tries line_turn lang terms [] events rest written left' written' ending.ReadFault))
-Acquires terms left written left' written' ending.WriteFault = BreaksOff terms left written left' written'
-Acquires terms left written left' written' ending.Memory = BreaksOff terms left written left' written'
--- else a run was closed; it ends in no other way
-Acquires terms left written left' written' (ending.Converged m) = ReadsVocabulary left (λ lang events rest. Tries line_turn lang terms [] events rest written left' written' (ending.Converged m))
-Acquires terms left written left' written' (ending.Collapsed m) = ReadsVocabulary left (λ lang events rest. Tries line_turn lang terms [] events rest written left' written' (ending.Collapsed m))
-Acquires terms left written left' written' (ending.Undecided m) = ReadsVocabulary left (λ lang events rest. Tries line_turn lang terms [] events rest written left' written' (ending.Undecided m))
-Acquires terms left written left' written' (ending.Suspended m) = ReadsVocabulary left (λ lang events rest. Tries line_turn lang terms [] events rest written left' written' (ending.Suspended m))
-Acquires terms left written left' written' ending.LineTooLong = ReadsVocabulary left (λ lang events rest. Tries line_turn lang terms [] events rest written left' written' ending.LineTooLong)
-Acquires terms left written left' written' ending.Unreadable = ReadsVocabulary left (λ lang events rest. Tries line_turn lang terms [] events rest written left' written' ending.Unreadable)
-Acquires terms left written left' written' ending.JournalFull = ReadsVocabulary left (λ lang events rest. Tries line_turn lang terms [] events rest written left' written' ending.JournalFull)
-Acquires terms left written left' written' end = ⊥
+Acquires terms left written left' written' ending.WriteFault = HasBrokenOff terms left written left' written'
+Acquires terms left written left' written' ending.Memory = HasBrokenOff terms left written left' written'
+Acquires terms left written left' written' ending.DiskFault = ⊥
+-- Else a run was closed. The program ends as its loop does, and in no other way.
+Acquires terms left written left' written' end = ReadsVocabulary left (λ lang events rest. Tries line_turn lang terms [] events rest written left' written' end)

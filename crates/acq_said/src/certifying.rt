@@ -1,25 +1,25 @@
 //! What `certify` says: a certificate for the network on which a session's answers converge.
 
-ghost use Rattle.std.specs.Prelude.{◌≡◌, ◌<◌, ◌≤◌, ◌++◌, ◌∷◌, [], All, codes, length, IfOk};
+ghost use Rattle.std.specs.Prelude.{◌≡◌, ◌<◌, ◌++◌, ◌∷◌, [], All, codes, length, IfOk};
 ghost use Rattle.std.specs.Fmt.{decimal};
 ghost use Rattle.acq_words.specs.Request.{IsBudget};
-ghost use Rattle.cert_check.specs.Making.{made};
+ghost use Rattle.cert_check.specs.Making.{certificate_made};
 ghost use Rattle.cert_check.specs.Texts.{make_fault_line};
-ghost use Rattle.language.specs.Answers.{IsCovered, IsNetwork, standing_on};
-ghost use Rattle.language.specs.Language.{IsQuestion, variable_count};
+ghost use Rattle.language.specs.Answers.{standing_on};
+ghost use Rattle.language.specs.Language.{variable_count};
 ghost use Rattle.session_core.specs.Settled.{IsSettled};
 ghost use Rattle.session_store.specs.Held.{IsWide};
 ghost use Rattle.session_store.specs.Opened.{opened_as};
 ghost use Rattle.session_store.specs.Replay.{IsAnswer, answer_in, seen, standing_numbers};
 ghost use Rattle.voc_read.specs.Vocabulary.{IsVocabulary};
-ghost use Rattle.acq_said.specs.Asks.{AsksTruly, asked_said};
+ghost use Rattle.acq_said.specs.Asks.{SaysAsked};
 ghost use Rattle.acq_said.specs.declared.ask.Ask.TheVariants.{Certify};
-ghost use Rattle.acq_said.specs.Certifying.{MakesGood, TellsEnd, certificate_said};
+ghost use Rattle.acq_said.specs.Certifying.{IsCertifiable, TellsEnd, certificate_said};
 ghost use Rattle.acq_loop.specs.Driven.{IsDone};
 ghost use Rattle.acq_loop.specs.Points.{terms_with};
-ghost use Rattle.acq_said.specs.Reducing.{network_of};
 ghost use Rattle.acq_said.specs.Saying.{saying};
 
+use crate::learned::learned_by;
 use crate::said::Said;
 use acq_loop::{Ending, Upcoming, next_of};
 use assign::Event;
@@ -128,13 +128,9 @@ fn certificate(
     net: &[Candidate],
     budget: u32,
 ) -> Result<Said, Memory>
-    requires covered { IsCovered lang.now net.now answers.now }
-    requires network { IsNetwork lang.now net.now }
-    requires questions { All (λ a. IsQuestion lang.now a.question) answers.now }
-    requires few { length answers.now ≤ 999999 }
-    requires read { IsVocabulary voc.now lang.now }
+    requires certifiable { IsCertifiable voc.now lang.now net.now answers.now }
     requires budget { IsBudget budget }
-    ensures { IfOk result (λ said. said ≡ certificate_said (made voc.now lang.now net.now answers.now budget)) }
+    ensures { IfOk result (λ said. said ≡ certificate_said (certificate_made voc.now lang.now net.now answers.now budget)) }
 {
     match make_cert(alloc, lang, voc, answers, net, budget) {
         Ok(text) => Ok(Said::new(text, Ending::Done)),
@@ -153,16 +149,15 @@ fn certify_converged<D: Disk, P: Keep<D>>(
     requires sound { P.sound keep.now }
     requires done { IsDone (P.lang keep.now) (terms_with (P.plan keep.now) budget) (standing_on (P.lang keep.now) (P.record_of keep.now)) }
     requires read { IsVocabulary voc.now (P.lang keep.now) }
+    requires voc { voc.now ≡ P.voc keep.now }
     requires budget { IsBudget budget }
-    ensures is { IfOk result (λ said. said ≡ certificate_said (made voc.now (P.lang keep.now) (network_of (opened_as (P.plan keep.now) voc.now (P.record_of keep.now) (P.lang keep.now))) (standing_on (P.lang keep.now) (P.record_of keep.now)) budget)) }
-    ensures good { IfOk result (λ _. MakesGood budget (opened_as (P.plan keep.now) voc.now (P.record_of keep.now) (P.lang keep.now))) }
+    ensures { IfOk result (SaysAsked (Certify budget) (opened_as (P.plan keep.now) (P.voc keep.now) (P.record_of keep.now) (P.lang keep.now))) }
 {
     let Ok(answers) = standing_entries::<D, P>(alloc, keep) else {
         return Err(Memory);
     };
-    let session = keep.session();
-    let network = session.network();
-    certificate(alloc, session.lang(), voc, &answers, network.list(), budget)
+    let (lang, network) = learned_by::<D, P>(keep);
+    certificate(alloc, lang, voc, &answers, network.list(), budget)
 }
 
 /// What `certify` says of a keeper's session, whose vocabulary has these bytes.
@@ -179,8 +174,7 @@ pub(crate) fn certified<R: Threads + Sync, D: Disk, P: Keep<D>, G: Gate>(
     requires read { IsVocabulary voc.now (P.lang keep.now) }
     requires voc { voc.now ≡ P.voc keep.now }
     requires budget { IsBudget budget }
-    ensures says { IfOk result (λ said. said ≡ asked_said (Certify budget) (opened_as (P.plan keep.now) (P.voc keep.now) (P.record_of keep.now) (P.lang keep.now))) }
-    ensures so { IfOk result (λ _. AsksTruly (Certify budget) (opened_as (P.plan keep.now) (P.voc keep.now) (P.record_of keep.now) (P.lang keep.now))) }
+    ensures { IfOk result (SaysAsked (Certify budget) (opened_as (P.plan keep.now) (P.voc keep.now) (P.record_of keep.now) (P.lang keep.now))) }
 {
     match has_converged::<R, D, P, G>(rt, alloc, budget, keep, gate) {
         Ok(true) => certify_converged::<D, P>(alloc, budget, voc, keep),

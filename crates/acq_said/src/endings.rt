@@ -6,7 +6,7 @@ ghost use Rattle.assign.specs.Events.{Answer};
 ghost use Rattle.language.specs.Language.{candidates};
 ghost use Rattle.language.specs.Answers.{IsNetwork};
 ghost use Rattle.network.specs.Texts.{network_text};
-ghost use Rattle.query_gen.specs.Marks.{IsMadeFor, is_open};
+ghost use Rattle.query_gen.specs.Marks.{AreMarksFor, is_open};
 ghost use Rattle.session_core.specs.Standing.{Stands, knowledge_of};
 ghost use Rattle.acq_loop.specs.Driven.{HasEnded, TellsOpen};
 ghost use Rattle.acq_said.specs.Endings.{SaysEnd};
@@ -49,7 +49,7 @@ fn collapsed(alloc: Global, m: u32) -> Result<Said, Memory>
 /// Says that the budget was too small for a session: what was learned, and the candidates that are open.
 fn undecided(alloc: Global, session: &Session, screen: &Screen, m: u32) -> Result<Said, Memory>
     requires network { IsNetwork (knowledge_of session.now).lang (knowledge_of session.now).network.list }
-    requires made { IsMadeFor (knowledge_of session.now).lang screen.now }
+    requires made { AreMarksFor (knowledge_of session.now).lang screen.now }
     ensures { let l = (knowledge_of session.now).lang in IfOk result (λ said. said ≡
         saying (ending_line Undecided m ++ (network_text l (knowledge_of session.now).network.list ++ flat_map (open_line l) (filter (is_open l screen.now) (candidates l)))) (Ending.Undecided m)) }
 {
@@ -80,7 +80,7 @@ pub fn closing(
     screen: &Screen,
     drove: Drove,
 ) -> Result<Said, Unsaid>
-    requires made { IsMadeFor (knowledge_of session.now).lang screen.now }
+    requires made { AreMarksFor (knowledge_of session.now).lang screen.now }
     requires writes { drove ≢ Drove.WriteFault }
     ensures { (budget : _) (t : List Answer) → Stands session.now t → let k = knowledge_of session.now in let terms = terms_with k.plan budget in
         HasEnded k.lang terms t drove → ((m : _) → drove ≡ Drove.Undecided m → TellsOpen k.lang terms t screen.now)

@@ -19,6 +19,7 @@ mod back;
 mod certifying;
 mod confirming;
 mod endings;
+mod learned;
 mod making;
 mod opens;
 mod over;

@@ -4,7 +4,7 @@ ghost use Rattle.std.specs.Prelude.{◌≡◌, ◌≢◌, ◌⊎◌, IfOk, Match
 ghost use Rattle.acq_io.specs.Streams.{HasCalled, TakesSome};
 ghost use Rattle.disk_model.specs.Disk.{Rose as DiskRose};
 ghost use Rattle.acq_said.specs.Journals.{untold};
-ghost use Rattle.acq_said.specs.Making.{IsMade, IsNotMade, News, made_said, voc_refused};
+ghost use Rattle.acq_said.specs.Making.{IsJournalMade, IsNotMade, News, made_said, voc_refused};
 ghost use Rattle.acq_said.specs.Said.{IsSaid};
 
 use crate::refusing::{lang_of, refused};
@@ -62,7 +62,7 @@ fn make_journal<D: Disk>(
     voc: &[u8],
     disk: &mut D,
 ) -> Result<Said, Unsaid>
-    ensures makes { IsMade D.Disk plan voc.now disk.old disk.new result ⊎ IsNotMade D.Disk plan voc.now disk.old disk.new result }
+    ensures makes { IsJournalMade D.Disk plan voc.now disk.old disk.new result ⊎ IsNotMade D.Disk plan voc.now disk.old disk.new result }
     ensures no_read { result ≢ Err Unsaid.ReadFault }
     ensures lost { result ≡ Err Unsaid.DiskFault → DiskRose (D.faults disk.old) (D.faults disk.new) }
 {

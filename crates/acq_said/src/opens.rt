@@ -4,7 +4,7 @@ ghost use Rattle.std.specs.Prelude.{◌≡◌, ◌++◌, ◌<◌, [], length, fi
 ghost use Rattle.std.specs.List.{flat_map};
 ghost use Rattle.std.specs.String.{string_bytes};
 ghost use Rattle.language.specs.Language.{IsCandidate, candidates, candidates_on};
-ghost use Rattle.query_gen.specs.Marks.{IsMadeFor, is_open};
+ghost use Rattle.query_gen.specs.Marks.{AreMarksFor, is_open};
 ghost use Rattle.acq_loop.specs.Texts.{open_line};
 
 use language::{Candidate, Language, Memory, ScopeId};
@@ -19,7 +19,7 @@ fn push_open(
     screen: &Screen,
     c: Candidate,
 ) -> Result<(), Memory>
-    requires made { IsMadeFor lang.now screen.now }
+    requires made { AreMarksFor lang.now screen.now }
     requires candidate { IsCandidate lang.now c }
     ensures { OnOk result (string_bytes text.new ≡ string_bytes text.old ++ (if is_open lang.now screen.now c then open_line lang.now c else [])) }
 {
@@ -41,7 +41,7 @@ fn push_open_on(
     screen: &Screen,
     scope: ScopeId,
 ) -> Result<(), Memory>
-    requires made { IsMadeFor lang.now screen.now }
+    requires made { AreMarksFor lang.now screen.now }
     requires scope { scope < length lang.now.scopes }
     ensures { OnOk result (string_bytes text.new ≡ string_bytes text.old ++ flat_map (open_line lang.now) (filter (is_open lang.now screen.now) (candidates_on lang.now scope))) }
 {
@@ -53,7 +53,7 @@ fn push_open_on(
 
 /// The lines of the open candidates, in candidate order.
 pub(crate) fn open_lines(alloc: Global, lang: &Language, screen: &Screen) -> Result<String, Memory>
-    requires made { IsMadeFor lang.now screen.now }
+    requires made { AreMarksFor lang.now screen.now }
     ensures { IfOk result (λ text. string_bytes text ≡ flat_map (open_line lang.now) (filter (is_open lang.now screen.now) (candidates lang.now))) }
 {
     let mut text = String::new(alloc);

@@ -6,8 +6,8 @@ ghost use Rattle.language.specs.Answers.{standing_on};
 ghost use Rattle.session_core.specs.Settled.{IsSettled};
 ghost use Rattle.session_store.specs.Opened.{opened_as};
 ghost use Rattle.voc_read.specs.Vocabulary.{IsVocabulary};
-ghost use Rattle.acq_said.specs.Asks.{AsksTruly, IsAskable, asked_said};
-ghost use Rattle.acq_said.specs.Journals.{Refuses};
+ghost use Rattle.acq_said.specs.Asks.{AsksTruly, IsBudgeted, SaysAsked, asked_said};
+ghost use Rattle.acq_said.specs.Journals.{SaysRefusal};
 ghost use Rattle.acq_said.specs.Over.{SaysOver};
 ghost use Rattle.acq_said.specs.Said.{IsSaid};
 
@@ -38,9 +38,8 @@ fn asked<R: Threads + Sync, D: Disk, P: Keep<D>, G: Gate>(
     requires settled { IsSettled (P.lang keep.now) (P.plan keep.now) (standing_on (P.lang keep.now) (P.record_of keep.now)) (P.question keep.now) }
     requires read { IsVocabulary voc.now (P.lang keep.now) }
     requires voc { voc.now ≡ P.voc keep.now }
-    requires budget { IsAskable ask }
-    ensures says { IfOk result (λ said. said ≡ asked_said ask (opened_as (P.plan keep.now) (P.voc keep.now) (P.record_of keep.now) (P.lang keep.now))) }
-    ensures so { IfOk result (λ _. AsksTruly ask (opened_as (P.plan keep.now) (P.voc keep.now) (P.record_of keep.now) (P.lang keep.now))) }
+    requires budget { IsBudgeted ask }
+    ensures { IfOk result (SaysAsked ask (opened_as (P.plan keep.now) (P.voc keep.now) (P.record_of keep.now) (P.lang keep.now))) }
 {
     match ask {
         Ask::Show => shown::<D, P>(alloc, keep),
@@ -58,8 +57,8 @@ pub fn say_over<R: Threads + Sync, D: Disk, G: Gate>(
     disk: &mut D,
     gate: &G,
 ) -> Result<Said, Unsaid>
-    requires { IsAskable ask }
-    ensures says { SaysOver D.Disk (λ opening said. MatchResult opening (λ o. IsSaid (asked_said ask o) said) (λ fault. Refuses fault said)) (AsksTruly ask) disk.old disk.new result }
+    requires { IsBudgeted ask }
+    ensures says { SaysOver D.Disk (λ opening said. MatchResult opening (λ o. IsSaid (asked_said ask o) said) (λ fault. SaysRefusal fault said)) (AsksTruly ask) disk.old disk.new result }
     ensures no_read { result ≢ Err Unsaid.ReadFault }
     ensures lost { result ≡ Err Unsaid.DiskFault → DiskRose (D.faults disk.old) (D.faults disk.new) }
 {

@@ -1,15 +1,15 @@
 //! What `reduce` says: a session's network without the items that follow from the others.
 
-ghost use Rattle.std.specs.Prelude.{◌≡◌, IfOk, IsErr};
+ghost use Rattle.std.specs.Prelude.{◌≡◌, IfOk};
 ghost use Rattle.acq_words.specs.Request.{IsBudget};
 ghost use Rattle.language.specs.Answers.{IsNetwork};
 ghost use Rattle.net_reduce.specs.Texts.{reduced_text, spent_text};
 ghost use Rattle.session_store.specs.Opened.{opened_as};
-ghost use Rattle.acq_said.specs.Asks.{AsksTruly};
+ghost use Rattle.acq_said.specs.Asks.{SaysAsked};
 ghost use Rattle.acq_said.specs.declared.ask.Ask.TheVariants.{Reduce};
-ghost use Rattle.acq_said.specs.Reducing.{reduced_said, unreduced_said};
 ghost use Rattle.acq_said.specs.Saying.{saying};
 
+use crate::learned::learned_by;
 use crate::said::Said;
 use acq_loop::Ending;
 use disk_model::Disk;
@@ -36,17 +36,6 @@ fn said_spent(alloc: Global, number: u32) -> Result<Said, Memory>
     Ok(Said::new(text, Ending::ReduceSpent(number)))
 }
 
-/// Says why a network isn't reduced.
-fn said_unreduced(alloc: Global, fault: ReduceFault) -> Result<Said, Memory>
-    ensures says { IfOk result (λ said. said ≡ unreduced_said fault) }
-    ensures silent { fault ≡ ReduceFault.Memory → IsErr result }
-{
-    match fault {
-        ReduceFault::Spent(number) => said_spent(alloc, number),
-        ReduceFault::Memory => Err(Memory),
-    }
-}
-
 /// What `reduce` says of a keeper's session, in whatever state it is.
 pub(crate) fn reduced<D: Disk, P: Keep<D>>(
     alloc: Global,
@@ -55,17 +44,15 @@ pub(crate) fn reduced<D: Disk, P: Keep<D>>(
 ) -> Result<Said, Memory>
     requires sound { P.sound keep.now }
     requires budget { IsBudget budget }
-    ensures says { IfOk result (λ said. said ≡ reduced_said budget (opened_as (P.plan keep.now) (P.voc keep.now) (P.record_of keep.now) (P.lang keep.now))) }
-    ensures so { IfOk result (λ _. AsksTruly (Reduce budget) (opened_as (P.plan keep.now) (P.voc keep.now) (P.record_of keep.now) (P.lang keep.now))) }
+    ensures { IfOk result (SaysAsked (Reduce budget) (opened_as (P.plan keep.now) (P.voc keep.now) (P.record_of keep.now) (P.lang keep.now))) }
 {
-    let session = keep.session();
-    let lang = session.lang();
-    let network = session.network();
+    let (lang, network) = learned_by::<D, P>(keep);
     let Ok(mut work) = Work::new(alloc, lang) else {
         return Err(Memory);
     };
     match reduce(alloc, &mut work, lang, network, budget) {
         Ok(part) => said_part(alloc, lang, &part, network.len()),
-        Err(fault) => said_unreduced(alloc, fault),
+        Err(ReduceFault::Spent(number)) => said_spent(alloc, number),
+        Err(ReduceFault::Memory) => Err(Memory),
     }
 }

@@ -1,8 +1,8 @@
 //! What is said of a journal that isn't opened or made.
 
-ghost use Rattle.std.specs.Prelude.{◌≡◌, ◌≢◌, IfOk, Err};
+ghost use Rattle.std.specs.Prelude.{◌≡◌, ◌≢◌, IfOk, Some, Err};
 ghost use Rattle.std.specs.String.{string_bytes};
-ghost use Rattle.acq_said.specs.Journals.{store_text, refused_said, untold, Refuses};
+ghost use Rattle.acq_said.specs.Journals.{store_text, refused_said, untold, SaysRefusal};
 
 use crate::said::{Said, Unsaid, or_silent};
 use acq_loop::Ending;
@@ -46,7 +46,9 @@ fn store_text(alloc: Global, fault: SFault) -> Result<String, AllocError>
 
 /// Why nothing is said of a fault: memory was wanting, or the disk failed.
 fn untold(fault: SFault) -> Option<Unsaid>
-    ensures { result ≡ untold fault }
+    ensures is { result ≡ untold fault }
+    ensures no_read { result ≢ Some Unsaid.ReadFault }
+    ensures lost { result ≡ Some Unsaid.DiskFault → fault ≡ SFault.Journal JFault.DiskFault }
 {
     match fault {
         SFault::Memory => Some(Unsaid::Memory),
@@ -74,7 +76,7 @@ fn refusal(alloc: Global, fault: SFault) -> Result<Said, Memory>
 
 /// Says why there is no session, but for a fault of the disk and want of memory.
 pub fn refused(alloc: Global, fault: SFault) -> Result<Said, Unsaid>
-    ensures refuses { Refuses fault result }
+    ensures refuses { SaysRefusal fault result }
     ensures no_read { result ≢ Err Unsaid.ReadFault }
     ensures lost { result ≡ Err Unsaid.DiskFault → fault ≡ SFault.Journal JFault.DiskFault }
 {

@@ -62,7 +62,9 @@ pub fn fixed(alloc: Global, text: &str, ending: Ending) -> Result<Said, Memory>
 
 /// What is said, where there was memory for it.
 pub fn or_silent(said: Result<Said, Memory>) -> Result<Said, Unsaid>
-    ensures { result ≡ or_silent said }
+    ensures is { result ≡ or_silent said }
+    ensures no_read { result ≢ Err Unsaid.ReadFault }
+    ensures no_disk { result ≢ Err Unsaid.DiskFault }
 {
     match said {
         Ok(said) => Ok(said),

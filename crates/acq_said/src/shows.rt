@@ -11,8 +11,8 @@ ghost use Rattle.session_laws.specs.Session.{state_after};
 ghost use Rattle.session_store.specs.Held.{IsWide};
 ghost use Rattle.session_store.specs.Opened.{opened_as};
 ghost use Rattle.session_store.specs.Replay.{IsAnswer, seen, answer_in, answer_to, standing_numbers};
-ghost use Rattle.acq_said.specs.Asks.{asked_said};
-ghost use Rattle.acq_said.specs.Shows.{plan_text, answer_line, answer_lines, back_line, is_back, reading_text, show_text};
+ghost use Rattle.acq_said.specs.Asks.{SaysAsked};
+ghost use Rattle.acq_said.specs.Shows.{plan_words, answer_line, answer_lines, back_line, is_back, reading_text, show_text};
 
 use crate::ask::Ask;
 use crate::said::Said;
@@ -26,7 +26,7 @@ use session_store::{Keep, standing_records};
 use std::alloc::{AllocError, Global};
 
 fn plan_word(plan: Plan) -> &'static str
-    ensures { result.now ≡ plan_text plan }
+    ensures { result.now ≡ plan_words plan }
 {
     match plan {
         Plan::Scopes => "scopes",
@@ -180,7 +180,7 @@ fn show_text(alloc: Global, session: &Session, events: &[Event]) -> Result<Strin
 pub(crate) fn shown<D: Disk, P: Keep<D>>(alloc: Global, keep: &P) -> Result<Said, Memory>
     requires sound { P.sound keep.now }
     requires settled { IsSettled (P.lang keep.now) (P.plan keep.now) (standing_on (P.lang keep.now) (P.record_of keep.now)) (P.question keep.now) }
-    ensures { IfOk result (λ said. said ≡ asked_said Ask.Show (opened_as (P.plan keep.now) (P.voc keep.now) (P.record_of keep.now) (P.lang keep.now))) }
+    ensures { IfOk result (SaysAsked Ask.Show (opened_as (P.plan keep.now) (P.voc keep.now) (P.record_of keep.now) (P.lang keep.now))) }
 {
     let session = keep.session();
     let events = keep.events();

@@ -13,6 +13,7 @@ ghost use Rattle.acq_said.specs.Said.{IsSaid};
 ghost use Rattle.acq_said.specs.Saying.{saying};
 ghost use Rattle.acq_said.specs.Solving.{Solves, solution_said, solved_said};
 
+use crate::learned::learned_by;
 use crate::refusing::refused;
 use crate::said::{Said, Unsaid, or_silent};
 use acq_io::{AllFault, Source, read_all};
@@ -65,9 +66,9 @@ fn solved<S: Source, D: Disk, P: Keep<D>>(
     ensures read { HasCalled (S.faults input.old) (S.faults input.new) (S.late input.old) (S.late input.new) (result ≡ Err Unsaid.ReadFault) }
     ensures no_disk { result ≢ Err Unsaid.DiskFault }
 {
-    let session = keep.session();
+    let (lang, network) = learned_by::<D, P>(keep);
     match read_all(alloc, input, MOST_MODEL) {
-        Ok(bytes) => or_silent(modelled(alloc, session.lang(), session.network(), &bytes)),
+        Ok(bytes) => or_silent(modelled(alloc, lang, network, &bytes)),
         Err(AllFault::TooLong) => or_silent(refused_model(alloc, ModelFault::TooLong)),
         Err(AllFault::Fault) => Err(Unsaid::ReadFault),
         Err(AllFault::Memory) => Err(Unsaid::Memory),

@@ -1,7 +1,8 @@
 -- A whole list of words with options.
-use Rattle.acq_words.proofs.Prelude.{◌≡◌, ℕ, ◌==◌, Bool, true, false, not, List, [], ◌∷◌, ◌++◌, refl, ap, ap₂, ◌∙◌, ◌||◌, ◌&&◌, sym, append-nil, append_assoc, map, codes, Some, fold, subst, if◌then◌else◌, is_some, list_all, list_any, bytes_eq, parser_of_value, check_fault, default_fault, entered_fault, settle_fault, turn_fault, use_fault, given_default_fault, Kinds, or_else, built, entered, accepts, Held, Row, Rule, Text, Walk, default_rows, finished, has_row, is_empty, nothing_held, reacted, reading_by, settled, used, walk, walk_from, walked, with_default, ListsAreParsed, positional_row, positional_rows, row_of, faults_in, line, rows_in, Name, Written, are_once, begins_bare, budget, dashed, id_of, is_accepted, is_named, number, plan, rule_named, words_of_option, words_of_options}
+use Rattle.acq_words.proofs.Prelude.{◌≡◌, ℕ, ◌==◌, Bool, true, false, not, List, [], ◌∷◌, ◌++◌, refl, ap, ap₂, ◌∙◌, ◌||◌, ◌&&◌, sym, append-nil, append_assoc, map, codes, Some, fold, subst, if◌then◌else◌, is_some, list_all, list_any, bytes_eq, parser_of_value, check_fault, default_fault, entered_fault, settle_fault, turn_fault, use_fault, given_default_fault, Kinds, or_else, built, entered, accepts, Held, Row, Rule, Text, Walk, default_rows, finished, has_row, is_empty, nothing_held, reacted, reading_by, settled, used, walk, walk_from, walked, with_default, ListsAreParsed, positional_row, positional_rows, row_of, faults_in, line, rows_in, Name, Written, are_once, begins_bare, budget, dashed, id_of, is_accepted, is_option_named, number, plan, rule_named, words_of_option, words_of_options}
 use Rattle.clap.specs.Faults.{defaults_fault, walk_fault}
 use Rattle.acq_words.proofs.Steps.{at_options, between, given, joined_step, joined_turn, name_step, name_turn, positional_step, positional_turn, row_at, rule_at, rules, top, use_fresh, used_fresh, value_step, value_turn}
+use Rattle.std.proofs.lemmas.Bool.{and_from, and_parts, not-true, or_parts}
 
 -- ---- What is held between two options
 
@@ -78,10 +79,6 @@ given_leads name x j h bare none = record {
       ∙ ap₂ (λ f w. or_else f (walk_fault top [] w rest)) (value_turn name x j h bare) (value_step name x j h bare);
 }
 
-not_true : (b : Bool) → not b ≡ true → b ≡ false
-not_true true h = cc
-not_true false h = refl
-
 one_option : (name : Name) (v : Text) (is_joined : Bool) (h : Held) (rows : List Row) → Holds h rows → has_row (id_of name) rows ≡ false → accepts_at name v ≡ true → (is_joined || begins_bare v) ≡ true →
     Moves h (words_of_option (record { name = name; value = v; is_joined = is_joined })) (rows ++ row_at name v ∷ [])
 one_option name v true h rows holds fresh passes bare = record {
@@ -92,7 +89,7 @@ one_option name v true h rows holds fresh passes bare = record {
 one_option name [] false h rows holds fresh passes bare = cc
 one_option name (x ∷ j) false h rows holds fresh passes bare = record {
   end = given name (x ∷ j) h;
-  leads = given_leads name x j h (not_true (x == 45) bare) (name_taken name h rows holds fresh);
+  leads = given_leads name x j h (not-true (x == 45) bare) (name_taken name h rows holds fresh);
   holds = given_holds name h rows holds fresh (x ∷ j) passes;
 }
 
@@ -116,35 +113,24 @@ has_one_more id (s ∷ rows) r none other = go (bytes_eq s.id id) refl (λ rest.
         cc
     go false e more = rw e (more (rw e at none))
 
-both : (a b : Bool) → (a && b) ≡ true → (a ≡ true) × (b ≡ true)
-both true b h = (refl, h)
-both false b h = cc
-
-and_true : (a b : Bool) → a ≡ true → b ≡ true → (a && b) ≡ true
-and_true a b p q = ap₂ (λ x y. x && y) p q
-
-neither : (a b : Bool) → (a || b) ≡ false → (a ≡ false) × (b ≡ false)
-neither true b h = cc
-neither false b h = (refl, h)
-
-fresh_after : (o : Written) (options : List Written) (rows : List Row) → are_fresh rows options ≡ true → list_any (is_named o.name) options ≡ false → are_fresh (rows ++ row_of o ∷ []) options ≡ true
+fresh_after : (o : Written) (options : List Written) (rows : List Row) → are_fresh rows options ≡ true → list_any (is_option_named o.name) options ≡ false → are_fresh (rows ++ row_of o ∷ []) options ≡ true
 fresh_after o [] rows fresh other = refl
 fresh_after o (p ∷ options) rows fresh other =
-    let here = both (not (has_row (id_of p.name) rows)) _ fresh in
-    let there = neither (is_named o.name p) _ other in
-    and_true _ _ (ap not (has_one_more (id_of p.name) rows (row_of o) (not_true _ here.0) there.0)) (fresh_after o options rows here.1 there.1)
+    let here = and_parts (not (has_row (id_of p.name) rows)) _ fresh in
+    let there = or_parts (is_option_named o.name p) _ other in
+    and_from _ _ (ap not (has_one_more (id_of p.name) rows (row_of o) (not-true _ here.0) there.0)) (fresh_after o options rows here.1 there.1)
 
 pub options_lead : (options : List Written) (h : Held) (rows : List Row) → Holds h rows → are_fresh rows options ≡ true → are_once options ≡ true → list_all is_accepted options ≡ true →
     (end : Held) × Leads h (words_of_options options) end × Holds end (rows ++ map row_of options)
 unfolding walk_fault
 options_lead [] h rows holds fresh once accepted = (h, record { walks = refl; taken = refl }, subst (Holds h) (sym (append-nil rows)) holds)
 options_lead (o ∷ options) h rows holds fresh once accepted =
-    let here = both (not (has_row (id_of o.name) rows)) _ fresh in
-    let first = both (not (list_any (is_named o.name) options)) _ once in
-    let passes = both (is_accepted o) _ accepted in
-    let value = both (accepts_at o.name o.value) _ passes.0 in
-    let moves = one_option o.name o.value o.is_joined h rows holds (not_true _ here.0) value.0 value.1 in
-    let rest = options_lead options moves.end (rows ++ row_of o ∷ []) moves.holds (fresh_after o options rows here.1 (not_true _ first.0)) first.1 passes.1 in (
+    let here = and_parts (not (has_row (id_of o.name) rows)) _ fresh in
+    let first = and_parts (not (list_any (is_option_named o.name) options)) _ once in
+    let passes = and_parts (is_accepted o) _ accepted in
+    let value = and_parts (accepts_at o.name o.value) _ passes.0 in
+    let moves = one_option o.name o.value o.is_joined h rows holds (not-true _ here.0) value.0 value.1 in
+    let rest = options_lead options moves.end (rows ++ row_of o ∷ []) moves.holds (fresh_after o options rows here.1 (not-true _ first.0)) first.1 passes.1 in (
       rest.0,
       record {
         walks = moves.leads.walks (words_of_options options) ∙ rest.1.walks;
@@ -183,7 +169,7 @@ no_row_yet w v number = refl
 
 all_fresh : (w v : Text) (options : List Written) → are_fresh (positional_rows w v) options ≡ true
 all_fresh w v [] = refl
-all_fresh w v (o ∷ options) = and_true _ _ (ap not (no_row_yet w v o.name)) (all_fresh w v options)
+all_fresh w v (o ∷ options) = and_from _ _ (ap not (no_row_yet w v o.name)) (all_fresh w v options)
 
 walk_of : (x : ℕ) (j : Text) (y : ℕ) (k : Text) (ws : List Text) → (x == 45) ≡ false → (y == 45) ≡ false →
     walk rules [] nothing_held ((x ∷ j) ∷ (y ∷ k) ∷ ws) ≡ fold (walked rules []) (at_options (after_both (x ∷ j) (y ∷ k))) ws
@@ -273,6 +259,6 @@ pub lists_are_parsed : ListsAreParsed
 lists_are_parsed [] command options journal_bare command_bare once accepted = cc
 lists_are_parsed (x ∷ j) [] options journal_bare command_bare once accepted = cc
 lists_are_parsed (x ∷ j) (y ∷ k) options journal_bare command_bare once accepted =
-    let bare = not_true (x == 45) journal_bare in
-    let bare' = not_true (y == 45) command_bare in
+    let bare = not-true (x == 45) journal_bare in
+    let bare' = not-true (y == 45) command_bare in
     (ap is_empty (plain_taken x j y k options bare bare' once accepted), plain_rows x j y k options bare bare' once accepted)

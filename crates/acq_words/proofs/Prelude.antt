@@ -20,6 +20,6 @@ pub use Rattle.clap.specs.declared.parser.matches.ArgMatches.{ArgMatches}
 pub use Rattle.acq_words.specs.Laws.{ExampleIsPlain, ListsAreParsed, PlainListsAreTaken, PlainListsReadOneWay, positional_row, positional_rows, row_of}
 pub use Rattle.acq_words.specs.Line.{line}
 unfoldable pub use Rattle.acq_words.specs.Line.{faults_in, rows_in}
-pub use Rattle.acq_words.specs.Numbers.{HasNumber, HaveNumbers, IsNumberIn, number_of}
-pub use Rattle.acq_words.specs.Options.{Name, Written, are_once, begins_bare, budget, dashed, id_of, is_accepted, is_named, number, plan, rule_named, words_of_option, words_of_options}
-pub use Rattle.acq_words.specs.Request.{Contents, IsAnswer, answer_in, answer_to, answer_with, asked_by, asked_in, command_named, command_of, file_named, is_memory, is_unfit, plan_named, plan_said}
+pub use Rattle.acq_words.specs.Numbers.{HasNumber, HaveNumbers, IsNumberIn, digits_number}
+pub use Rattle.acq_words.specs.Options.{Name, Written, are_once, begins_bare, budget, dashed, id_of, is_accepted, is_option_named, number, plan, rule_named, words_of_option, words_of_options}
+pub use Rattle.acq_words.specs.Request.{Contents, IsRequestOf, contents_in, request_of_words, answer_with, asked_by, asked_of_rows, command_named, command_of, file_named, is_memory, is_unfit, plan_named, plan_said}

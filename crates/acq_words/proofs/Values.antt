@@ -1,5 +1,5 @@
 -- The values that the options have in a parse that succeeds.
-use Rattle.acq_words.proofs.Prelude.{◌≡◌, ◌∙◌, ◌<◌, ◌≤◌, ◌==◌, ℕ, Bool, true, false, cond, List, [], ◌∷◌, length, drop, map, Option, Some, None, option_map, refl, sym, subst, ap, inl, inr, arith, codes, Bor, Err, Ok, Result, find, option_and_then, pos, slice_get, unwrap_or, All, list_all, slice_index_or, bytes_eq, IsNumeral, ParsesUnsigned, digits_value, starts_with_minus, without_leading_plus, cases_lt, ne_eqb, All-from_recursion, All-get_or, digit_from_value, Entry, EntryPasses, HasReading, IsParsed, PassesArg, args_of, groups_of, parser_of, parser_of_value, without_minus, found_of, Row, Rule, Text, first_of, one_of, row_text, rows_of, rule_of, app_of, Reading, ArgMatches, line, HasNumber, HaveNumbers, IsNumberIn, number_of, Name, budget, id_of, number, plan, rule_named}
+use Rattle.acq_words.proofs.Prelude.{◌≡◌, ◌∙◌, ◌<◌, ◌≤◌, ◌==◌, ℕ, Bool, true, false, cond, List, [], ◌∷◌, length, drop, map, Option, Some, None, option_map, refl, sym, subst, ap, inl, inr, arith, codes, Bor, Err, Ok, Result, find, option_and_then, pos, slice_get, unwrap_or, All, list_all, slice_index_or, bytes_eq, IsNumeral, ParsesUnsigned, digits_value, starts_with_minus, without_leading_plus, cases_lt, ne_eqb, All-from_recursion, All-get_or, digit_from_value, Entry, EntryPasses, HasReading, IsParsed, PassesArg, args_of, groups_of, parser_of, parser_of_value, without_minus, found_of, Row, Rule, Text, first_of, one_of, row_text, rows_of, rule_of, app_of, Reading, ArgMatches, line, HasNumber, HaveNumbers, IsNumberIn, digits_number, Name, budget, id_of, number, plan, rule_named}
 use Rattle.std.proofs.lemmas.Int.{ints}
 use Rattle.std.proofs.lemmas.List.{get_or-map, length-map}
 use Rattle.std.proofs.lemmas.Slice.Eq.{bytes_eq-Decides}
@@ -223,13 +223,13 @@ module _ (old : Command) (m : ArgMatches) (p : IsParsedFrom old m) (is : app_of 
 -- what the typed getter reads, where the text is a number
 pub number_read : {E : Type 0} (G : Text → Result ℕ E → Type 0) → ((u : Text) (x : Result ℕ E) → G u x → ParsesUnsigned 32 10 u x) → (f : Found) (id : Text) (r : Option ℕ)
     → (one_text f id ≡ None → r ≡ None) → ((t : Text) → one_text f id ≡ Some t → ReadsOne G t r) → ((t : Text) → one_of id (rows_of f) ≡ Some t → IsNumberIn 0 4294967295 t)
-    → r ≡ option_map number_of (one_of id (rows_of f))
+    → r ≡ option_map digits_number (one_of id (rows_of f))
 number_read {E} G parses f id r none some is_number = go (one_of id (rows_of f)) refl
   where
-    read : (t : Text) (o : Option ℕ) → ReadsOne G t o → IsNumberIn 0 4294967295 t → o ≡ Some (number_of t)
+    read : (t : Text) (o : Option ℕ) → ReadsOne G t o → IsNumberIn 0 4294967295 t → o ≡ Some (digits_number t)
     read t (Some v) h is = ap (λ n. Some n) (parses t (Ok v) h).1
     read t None h is = absurd (parses t (Err h.0) h.1 (is.0, omega (arith, is.2)))
 
-    go : (o : Option Text) → one_of id (rows_of f) ≡ o → r ≡ option_map number_of (one_of id (rows_of f))
+    go : (o : Option Text) → one_of id (rows_of f) ≡ o → r ≡ option_map digits_number (one_of id (rows_of f))
     go None e = rw e (none (one_text_is f id ∙ e))
     go (Some t) e = rw e (read t r (some t (one_text_is f id ∙ e)) (is_number t e))

@@ -8,8 +8,8 @@ use Rattle.clap.specs.declared.builder.value_parser.Reading.TheVariants.{AsWritt
 use Rattle.clap.specs.declared.parser.matches.ValueSource.TheVariants.{CommandLine}
 use Rattle.acq_words.specs.Line.{are_parsed, rows_in}
 use Rattle.acq_words.specs.Options.{Written, are_once, begins_bare, id_of, is_accepted, rule_named, words_of_options}
-use Rattle.acq_words.specs.Plain.{IsPlain, IsPlainList, Plain, answer_of, words_of}
-use Rattle.acq_words.specs.Request.{answer_to}
+use Rattle.acq_words.specs.Plain.{IsPlain, IsPlainList, Plain, answer_of, words_of_plain}
+use Rattle.acq_words.specs.Request.{request_of_words}
 
 -- what is found of an option
 abbrev pub row_of : Written → Row
@@ -31,11 +31,11 @@ ListsAreParsed = (journal command : Text) (options : List Written) → begins_ba
 
 -- a plain list is taken, and asks for what it reads as
 abbrev pub PlainListsAreTaken : Type 0
-PlainListsAreTaken = (p : Plain) → IsPlain p → answer_to (words_of p) ≡ answer_of p
+PlainListsAreTaken = (p : Plain) → IsPlain p → request_of_words (words_of_plain p) ≡ answer_of p
 
 -- the words of a plain list can be read in one way only
 abbrev pub PlainListsReadOneWay : Type 0
-PlainListsReadOneWay = (p q : Plain) → IsPlain p → IsPlain q → words_of p ≡ words_of q → answer_of p ≡ answer_of q
+PlainListsReadOneWay = (p q : Plain) → IsPlain p → IsPlain q → words_of_plain p ≡ words_of_plain q → answer_of p ≡ answer_of q
 
 -- such a list
 abbrev pub ExampleIsPlain : Type 0

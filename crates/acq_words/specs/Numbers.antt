@@ -5,11 +5,11 @@ use Rattle.clap.specs.Words.{Row, Text, one_of}
 use Rattle.acq_words.specs.Options.{Name, budget, id_of, number}
 
 -- the number that the digits of a text say
-abbrev pub number_of : Text → ℕ
-number_of text = digits_value 10 (without_leading_plus text)
+abbrev pub digits_number : Text → ℕ
+digits_number text = digits_value 10 (without_leading_plus text)
 
 abbrev pub IsNumberIn : (low high : ℕ) → Text → Type 0
-IsNumberIn low high text = IsNumeral 10 (without_leading_plus text) × (low ≤ number_of text) × (number_of text ≤ high)
+IsNumberIn low high text = IsNumeral 10 (without_leading_plus text) × (low ≤ digits_number text) × (digits_number text ≤ high)
 
 abbrev pub HasNumber : Name → (low high : ℕ) → List Row → Type 0
 HasNumber name low high rows = (text : Text) → one_of (id_of name) rows ≡ Some text → IsNumberIn low high text

@@ -46,10 +46,10 @@ begins_bare (byte ∷ bytes) = not (byte == 45)
 abbrev pub is_accepted : Written → Bool
 is_accepted o = accepts false (parser_of_value (rule_named o.name).parser) o.value && (o.is_joined || begins_bare o.value)
 
-abbrev pub is_named : Name → Written → Bool
-is_named name o = bytes_eq (id_of name) (id_of o.name)
+abbrev pub is_option_named : Name → Written → Bool
+is_option_named name o = bytes_eq (id_of name) (id_of o.name)
 
 -- each name at most once
 abbrev pub are_once : List Written → Bool
 are_once [] = true
-are_once (o ∷ options) = not (list_any (is_named o.name) options) && are_once options
+are_once (o ∷ options) = not (list_any (is_option_named o.name) options) && are_once options

@@ -19,7 +19,7 @@ pub data Setting : Type 0 where
   number_is : ℕ → Setting
 
 -- an option, and whether its value stands in its own word, after `=`, or in the next
-pub record Choice : Type 0 where
+pub record OptionForm : Type 0 where
   pub setting : Setting
   pub is_joined : Bool
 
@@ -27,7 +27,7 @@ pub record Choice : Type 0 where
 pub record Plain : Type 0 where
   pub journal : Text
   pub command : CommandName
-  pub options : List Choice
+  pub options : List OptionForm
 
 -- ---- Its words
 
@@ -55,16 +55,16 @@ name_in (plan_is p) = plan
 name_in (budget_is n) = budget
 name_in (number_is n) = number
 
-abbrev pub value_in : Setting → Text
-value_in (plan_is p) = plan_text p
-value_in (budget_is n) = decimal n
-value_in (number_is n) = decimal n
+abbrev pub setting_text : Setting → Text
+setting_text (plan_is p) = plan_text p
+setting_text (budget_is n) = decimal n
+setting_text (number_is n) = decimal n
 
-abbrev pub written_of : Choice → Written
-written_of c = record { name = name_in c.setting; value = value_in c.setting; is_joined = c.is_joined }
+abbrev pub written_of : OptionForm → Written
+written_of c = record { name = name_in c.setting; value = setting_text c.setting; is_joined = c.is_joined }
 
-abbrev pub words_of : Plain → List Text
-words_of p = p.journal ∷ command_text p.command ∷ words_of_options (map written_of p.options)
+abbrev pub words_of_plain : Plain → List Text
+words_of_plain p = p.journal ∷ command_text p.command ∷ words_of_options (map written_of p.options)
 
 -- ---- Which lists are plain
 
@@ -83,11 +83,11 @@ pub record IsPlain (p : Plain) : Type 0 where
 
 -- the words are those of a plain list
 abbrev pub IsPlainList : List Text → Type 0
-IsPlainList words = (p : Plain) × IsPlain p × (words_of p ≡ words)
+IsPlainList words = (p : Plain) × IsPlain p × (words_of_plain p ≡ words)
 
 -- ---- What it asks for
 
-abbrev pub plan_given : List Choice → Option Plan
+abbrev pub plan_given : List OptionForm → Option Plan
 plan_given [] = None
 plan_given (c ∷ options) = plan_or c.setting (plan_given options)
   where
@@ -95,7 +95,7 @@ plan_given (c ∷ options) = plan_or c.setting (plan_given options)
     plan_or (plan_is p) rest = Some p
     plan_or _ rest = rest
 
-abbrev pub budget_given : List Choice → Option ℕ
+abbrev pub budget_given : List OptionForm → Option ℕ
 budget_given [] = None
 budget_given (c ∷ options) = budget_or c.setting (budget_given options)
   where
@@ -103,7 +103,7 @@ budget_given (c ∷ options) = budget_or c.setting (budget_given options)
     budget_or (budget_is n) rest = Some n
     budget_or _ rest = rest
 
-abbrev pub number_given : List Choice → Option ℕ
+abbrev pub number_given : List OptionForm → Option ℕ
 number_given [] = None
 number_given (c ∷ options) = number_or c.setting (number_given options)
   where

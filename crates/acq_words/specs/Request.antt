@@ -6,7 +6,7 @@ use Rattle.assign.specs.declared.events.Plan.{Plan}
 use Rattle.assign.specs.declared.events.Plan.TheVariants.{Scopes, Quacq, Multi}
 use Rattle.clap.specs.Words.{Row, Text, first_of, one_of}
 use Rattle.acq_words.specs.Line.{are_parsed, rows_in}
-use Rattle.acq_words.specs.Numbers.{number_of}
+use Rattle.acq_words.specs.Numbers.{digits_number}
 use Rattle.acq_words.specs.declared.request.Command.{Command}
 use Rattle.acq_words.specs.declared.request.Command.TheVariants as command
 use Rattle.acq_words.specs.declared.request.CommandName.{CommandName}
@@ -142,47 +142,47 @@ abbrev pub asked_by : Option CommandName → Option (Option Plan) → Option ℕ
 asked_by (Some name) (Some plan) budget number = Some (record { name = name; plan = plan; budget = budget; number = number })
 asked_by _ _ budget number = None
 
-abbrev pub asked_in : List Row → Option Asked
-asked_in rows = asked_by (option_and_then command_named (first_of (codes "COMMAND") rows)) (plan_said (first_of (codes "plan") rows))
-    (option_map number_of (one_of (codes "budget") rows)) (option_map number_of (one_of (codes "number") rows))
+abbrev pub asked_of_rows : List Row → Option Asked
+asked_of_rows rows = asked_by (option_and_then command_named (first_of (codes "COMMAND") rows)) (plan_said (first_of (codes "plan") rows))
+    (option_map digits_number (one_of (codes "budget") rows)) (option_map digits_number (one_of (codes "number") rows))
 
 abbrev pub answer_with : Option Text → Option Asked → Result Contents UsageFault
 answer_with (Some journal) (Some a) = answer_by journal a
 answer_with _ _ = Err Words
 
-abbrev pub answer_in : List Row → Result Contents UsageFault
-answer_in rows = answer_with (first_of (codes "JOURNAL") rows) (asked_in rows)
+abbrev pub contents_in : List Row → Result Contents UsageFault
+contents_in rows = answer_with (first_of (codes "JOURNAL") rows) (asked_of_rows rows)
 
 -- what the words ask for, or why they are refused
-abbrev pub answer_to : List Text → Result Contents UsageFault
-answer_to words = if are_parsed words then answer_in (rows_in words) else Err Words
+abbrev pub request_of_words : List Text → Result Contents UsageFault
+request_of_words words = if are_parsed words then contents_in (rows_in words) else Err Words
 
 -- ---- The answer of a call
 
 -- this is answered, or memory ran out
-abbrev pub IsAnswer : Result Contents UsageFault → Result Request WordsFault → Type 0
-IsAnswer answer (Ok request) = answer ≡ Ok (contents_of request)
-IsAnswer answer (Err (Usage fault)) = answer ≡ Err fault
-IsAnswer answer (Err Memory) = Unit {0}
+abbrev pub IsRequestOf : Result Contents UsageFault → Result Request WordsFault → Type 0
+IsRequestOf answer (Ok request) = answer ≡ Ok (contents_of request)
+IsRequestOf answer (Err (Usage fault)) = answer ≡ Err fault
+IsRequestOf answer (Err Memory) = Unit {0}
 
 -- the budget of a command lies within its limits
 abbrev pub IsBudget : ℕ → Type 0
 IsBudget budget = (1 ≤ budget) × (budget ≤ 1000000000)
 
-abbrev pub IsWithin : Command → Type 0
-IsWithin (command.New plan) = Unit {0}
-IsWithin (command.Run budget) = IsBudget budget
-IsWithin (command.Try plan budget) = IsBudget budget
-IsWithin (command.Play budget) = IsBudget budget
-IsWithin command.Show = Unit {0}
-IsWithin command.Back = Unit {0}
-IsWithin (command.Demo number budget) = IsBudget budget
-IsWithin (command.Reduce budget) = IsBudget budget
-IsWithin command.Cnf = Unit {0}
-IsWithin command.Model = Unit {0}
-IsWithin (command.Certify budget) = IsBudget budget
-IsWithin command.Check = Unit {0}
+abbrev pub CommandIsWithin : Command → Type 0
+CommandIsWithin (command.New plan) = Unit {0}
+CommandIsWithin (command.Run budget) = IsBudget budget
+CommandIsWithin (command.Try plan budget) = IsBudget budget
+CommandIsWithin (command.Play budget) = IsBudget budget
+CommandIsWithin command.Show = Unit {0}
+CommandIsWithin command.Back = Unit {0}
+CommandIsWithin (command.Demo number budget) = IsBudget budget
+CommandIsWithin (command.Reduce budget) = IsBudget budget
+CommandIsWithin command.Cnf = Unit {0}
+CommandIsWithin command.Model = Unit {0}
+CommandIsWithin (command.Certify budget) = IsBudget budget
+CommandIsWithin command.Check = Unit {0}
 
 -- what is given lies within its limits
-pub record IsLawful (a : Asked) : Type 0 where
+pub record IsWithinLimits (a : Asked) : Type 0 where
   pub budget : IfSome a.budget IsBudget

@@ -1,5 +1,5 @@
 ghost use Rattle.std.specs.Prelude.{◌≡◌, not, IfOk, Some, None};
-ghost use Rattle.acq_words.specs.Request.{IsAnswer, IsLawful, IsWithin, answer_by, command_named, command_of, is_unfit, needs_memory, plan_named, takes_budget, takes_number, takes_plan};
+ghost use Rattle.acq_words.specs.Request.{IsRequestOf, IsWithinLimits, CommandIsWithin, answer_by, command_named, command_of, is_unfit, needs_memory, plan_named, takes_budget, takes_number, takes_plan};
 
 use assign::Plan;
 use std::alloc::Global;
@@ -177,9 +177,9 @@ impl Asked {
 
     /// The command, with the defaults for what isn't given.
     fn command(self) -> Command
-        requires { IsLawful self }
+        requires { IsWithinLimits self }
         ensures is { result ≡ command_of self }
-        ensures within { IsWithin result }
+        ensures within { CommandIsWithin result }
     {
         let plan = self.plan.unwrap_or(DEFAULT_PLAN);
         let budget = self.budget.unwrap_or(DEFAULT_BUDGET);
@@ -202,9 +202,9 @@ impl Asked {
 
 /// What a journal's word and the rest ask for.
 pub(crate) fn request_by(alloc: Global, journal: &str, asked: Asked) -> Result<Request, WordsFault>
-    requires { IsLawful asked }
-    ensures is { IsAnswer (answer_by journal.now asked) result }
-    ensures within { IfOk result (λ r. IsWithin r.command) }
+    requires { IsWithinLimits asked }
+    ensures is { IsRequestOf (answer_by journal.now asked) result }
+    ensures within { IfOk result (λ r. CommandIsWithin r.command) }
 {
     let is_in_memory = journal == ":memory:";
     if asked.is_unfit(is_in_memory) {

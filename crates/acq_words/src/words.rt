@@ -1,9 +1,9 @@
 ghost use Rattle.std.specs.Prelude.{◌≡◌, map, option_map, IfOk, IfSome, IsErrOf, Some, codes};
 ghost use Rattle.std.specs.String.{string_bytes};
 ghost use Rattle.clap.specs.Words.{first_of, found_of, one_of, rows_of};
-ghost use Rattle.acq_words.specs.Numbers.{HaveNumbers, IsNumberIn, number_of};
-ghost use Rattle.acq_words.specs.Plain.{IsPlain, IsPlainList, Plain, answer_of, words_of};
-ghost use Rattle.acq_words.specs.Request.{IsAnswer, IsLawful, IsWithin, answer_in, answer_to, asked_in, plan_said};
+ghost use Rattle.acq_words.specs.Numbers.{HaveNumbers, IsNumberIn, digits_number};
+ghost use Rattle.acq_words.specs.Plain.{IsPlain, IsPlainList, Plain, answer_of, words_of_plain};
+ghost use Rattle.acq_words.specs.Request.{IsRequestOf, IsWithinLimits, CommandIsWithin, contents_in, request_of_words, asked_of_rows, plan_said};
 
 use crate::line::matches_in;
 use crate::request::{
@@ -23,7 +23,7 @@ fn text_said<'a>(matches: &ArgMatches<'a>, id: &str) -> Option<&'a str>
 /// The number that was found under a name.
 fn number_said(matches: &ArgMatches, id: &str) -> Option<u32>
     requires { (text : _) → one_of id.now (rows_of (found_of matches.now)) ≡ Some text → IsNumberIn 0 4294967295 text }
-    ensures { result ≡ option_map number_of (one_of id.now (rows_of (found_of matches.now))) }
+    ensures { result ≡ option_map digits_number (one_of id.now (rows_of (found_of matches.now))) }
 {
     matches.get_one::<u32>(id)
 }
@@ -41,8 +41,8 @@ fn plan_said(matches: &ArgMatches) -> Option<Option<Plan>>
 /// What was found beside the journal. None where a name is none.
 fn asked_in(matches: &ArgMatches) -> Option<Asked>
     requires { HaveNumbers (rows_of (found_of matches.now)) }
-    ensures is { result ≡ asked_in (rows_of (found_of matches.now)) }
-    ensures lawful { IfSome result IsLawful }
+    ensures is { result ≡ asked_of_rows (rows_of (found_of matches.now)) }
+    ensures lawful { IfSome result IsWithinLimits }
 {
     let name = command_named(text_said(matches, "COMMAND")?)?;
     let plan = plan_said(matches)?;
@@ -57,8 +57,8 @@ fn asked_in(matches: &ArgMatches) -> Option<Asked>
 /// What `clap`'s matches ask for.
 fn request_in(alloc: Global, matches: &ArgMatches) -> Result<Request, WordsFault>
     requires { HaveNumbers (rows_of (found_of matches.now)) }
-    ensures is { IsAnswer (answer_in (rows_of (found_of matches.now))) result }
-    ensures within { IfOk result (λ r. IsWithin r.command) }
+    ensures is { IsRequestOf (contents_in (rows_of (found_of matches.now))) result }
+    ensures within { IfOk result (λ r. CommandIsWithin r.command) }
 {
     let Some(journal) = text_said(matches, "JOURNAL") else {
         return Err(WordsFault::Usage(UsageFault::Words));
@@ -72,10 +72,10 @@ fn request_in(alloc: Global, matches: &ArgMatches) -> Result<Request, WordsFault
 /// What the words after the program's own name ask for. A plain list is a journal, a command and then options, each once
 /// at most, in any order and in one of two writings: it is never refused as `Words`, and asks for what it reads as.
 pub fn read_words(alloc: Global, words: &[String]) -> Result<Request, WordsFault>
-    ensures is { IsAnswer (answer_to (map string_bytes words.now)) result }
-    ensures plain { (p : Plain) → IsPlain p → words_of p ≡ map string_bytes words.now → IsAnswer (answer_of p) result }
+    ensures is { IsRequestOf (request_of_words (map string_bytes words.now)) result }
+    ensures plain { (p : Plain) → IsPlain p → words_of_plain p ≡ map string_bytes words.now → IsRequestOf (answer_of p) result }
     ensures words { IsErrOf result (WordsFault.Usage UsageFault.Words) → ¬ (IsPlainList (map string_bytes words.now)) }
-    ensures within { IfOk result (λ r. IsWithin r.command) }
+    ensures within { IfOk result (λ r. CommandIsWithin r.command) }
 {
     let matches = matches_in(alloc, words)?;
     request_in(alloc, &matches)

@@ -31,9 +31,6 @@ head_free bytes h is (inr closed) =
 magic_first : (mid : List ℕ) → IsClosedAfter MAGIC mid → take 8 mid ≡ MAGIC
 magic_first mid c = ap (λ (l : List ℕ). take 8 l) c.is
 
-pub closed_at : (mid : List ℕ) → IsClosedAfter MAGIC mid → IsClosedAfter (take 8 mid) mid
-closed_at mid c = subst (λ (l : List ℕ). IsClosedAfter l mid) (sym (magic_first mid c)) c
-
 holds : (mid new : List ℕ) (plan : Plan) (voc rest : List ℕ) → IsStorableSession plan voc → IsClosedAfter MAGIC mid → rest ≡ session_tail plan voc ++ 0 ∷ [] → HasRecord (take 8 mid) rest new → HoldsRecords new plan voc []
 holds mid new plan voc rest session c is r =
     let there : HasRecord MAGIC (session_tail plan voc ++ 0 ∷ []) new = subst (λ (l : List ℕ). HasRecord MAGIC l new) is (subst (λ (l : List ℕ). HasRecord l rest new) (magic_first mid c) r) in

@@ -2,11 +2,6 @@
 use Rattle.std.proofs.Common.{◌≡◌, Result, Ok, Err, IfOk, IfErr, subst}
 use Rattle.std.specs.Result.{IsErrAnd}
 
--- of what was given, since nothing was
-pub none_given : {T E : Type 0} (P : T → Type 0) (Q : E → Type 0) (r : Result T E) → IsErrAnd r Q → IfOk r P
-none_given P Q (Ok x) failed = absurd failed
-none_given P Q (Err e) failed = tt
-
 -- of the error, by what is known of it
 pub refusal : {T E : Type 0} (P Q : E → Type 0) (r : Result T E) → IsErrAnd r Q → ((e : E) → Q e → P e) → IfErr r P
 refusal P Q (Ok x) failed says = tt

@@ -15,7 +15,7 @@ pub use Rattle.answer_journal.specs.Calls.{AreReadingCalls, TakesPieces}
 pub use Rattle.answer_journal.specs.End.{End, HasAdded, HasNew, HasRoom, IsOldOrAdded, IsOldOrNew, IsSame, MayBeAdded, Sits, counted_with, room_to_raise}
 pub use Rattle.answer_journal.specs.Format.{MAGIC, MOST_RECORDS, MOST_VOCABULARY, answer_payload, kind_byte, pairs_from, plan_byte, record_bytes, record_payload, said_byte, tail_bytes, valued_count, written}
 unfoldable pub use Rattle.answer_journal.specs.Format.{record_tail, session_tail}
-pub use Rattle.answer_journal.specs.Found.{BeginsWith, BreaksOff, EventsRefused, GoesOn, HasEvents, IsFar, IsProgress, IsReached, IsRead, Overflows, Refused, WereRead, gate_reached}
+pub use Rattle.answer_journal.specs.Found.{BeginsWith, BreaksOff, EventsRefused, ReachesGate, HasEvents, IsFar, IsProgress, IsReached, AreRecordsRead, HoldsTooMany, Refused, WereRead, gate_reached}
 pub use Rattle.answer_journal.specs.Heads.{IsHead}
 pub use Rattle.answer_journal.specs.Journal.{Bare, Damaged, Front, HasNextRecord, HasNoSession, HasTooManyRecords, HoldsRecords, IsClosedAfter, IsDamagedAt, IsFront, NoSession, NotAJournal, Reading, ReadsAs, Records, Session, Spells, TooManyRecords, front_bytes}
 pub use Rattle.answer_journal.specs.Making.{CreateRefused, IsCreating, StartsWith}
@@ -29,3 +29,4 @@ pub use Rattle.answer_journal.specs.declared.head.Head.{Head}
 pub use Rattle.answer_journal.specs.declared.head.Head.TheVariants.{Closed, Foreign, Open, Short}
 pub use Rattle.answer_journal.specs.declared.record.Record.{Record}
 pub use Rattle.answer_journal.specs.declared.record.Record.TheVariants.{Added, Raising}
+pub use Rattle.shared_lemmas.proofs.Read.{none_given}

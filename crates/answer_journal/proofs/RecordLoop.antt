@@ -1,5 +1,5 @@
 -- Reading records one after the other, from a piece of the bytes.
-use Rattle.answer_journal.proofs.Prelude.{◌≡◌, ◌⊎◌, ℕ, ◌+◌, ◌-◌, ◌<◌, ◌≤◌, Bool, false, List, [], ◌∷◌, ◌++◌, length, get_or, take, drop, flat_map, inl, inr, refl, sym, ◌∙◌, ap, subst, arith, append_assoc, length-append, take-append-drop, take_at, take_all, drop_at, Option, Some, None, drop_more, drop-drop, take-append-le, Event, JFault, Record, MOST_RECORDS, record_tail, record_bytes, with_record, is_raised_by, MayFollow, IsClosedAfter, IsRead, WereRead, BeginsWith, GoesOn, BreaksOff, Overflows, EventsRefused}
+use Rattle.answer_journal.proofs.Prelude.{◌≡◌, ◌⊎◌, ℕ, ◌+◌, ◌-◌, ◌<◌, ◌≤◌, Bool, false, List, [], ◌∷◌, ◌++◌, length, get_or, take, drop, flat_map, inl, inr, refl, sym, ◌∙◌, ap, subst, arith, append_assoc, length-append, take-append-drop, take_at, take_all, drop_at, Option, Some, None, drop_more, drop-drop, take-append-le, Event, JFault, Record, MOST_RECORDS, record_tail, record_bytes, with_record, is_raised_by, MayFollow, IsClosedAfter, AreRecordsRead, WereRead, BeginsWith, ReachesGate, BreaksOff, HoldsTooMany, EventsRefused}
 use Rattle.std.specs.Option.{ForSome}
 use Rattle.answer_journal.specs.declared.fault.JFault.TheVariants as faults
 use Rattle.answer_journal.proofs.RecordLists.{bytes-push, events_among-push, is_raised_after-push, AreInOrder-push, with_record-many}
@@ -27,15 +27,9 @@ pub wide_enough : (tail rest piece more : List ℕ) (n : ℕ) → IsWide n piece
 wide_enough tail rest piece more n (inl last) few some e = omega (arith, ap length e, length-append piece more, ap length last, length-append tail rest)
 wide_enough tail rest piece more n (inr wide) few some e = omega arith
 
-pub begun : (bytes : List ℕ) → 0 < length bytes → BeginsWith bytes [] bytes
-begun bytes some = record { some = some; is = refl }
-
-pub none_read : (start : ℕ) → IsRead [] start start [] false
-none_read start = record { in_order = tt; few = omega arith; are = refl; raises = refl; place = omega arith }
-
 -- one record more was read
-pub one_read : (records : List Record) (start at : ℕ) (events : List Event) (raised : Bool) (r : Record) (next : ℕ) (more : List Event) (now : Bool) → IsRead records start at events raised → MayFollow raised r
-    → more ≡ with_record events r → now ≡ is_raised_by raised r → length more < MOST_RECORDS → next ≡ at + length (record_bytes r) → IsRead (records ++ r ∷ []) start next more now
+pub one_read : (records : List Record) (start at : ℕ) (events : List Event) (raised : Bool) (r : Record) (next : ℕ) (more : List Event) (now : Bool) → AreRecordsRead records start at events raised → MayFollow raised r
+    → more ≡ with_record events r → now ≡ is_raised_by raised r → length more < MOST_RECORDS → next ≡ at + length (record_bytes r) → AreRecordsRead (records ++ r ∷ []) start next more now
 one_read records start at events raised r next more now s may events_are raised_is few next_is = record {
   in_order = AreInOrder-push false records r s.in_order (subst (λ (b : Bool). MayFollow b r) (sym s.raises) may);
   few = few;
@@ -51,7 +45,7 @@ module _ (bytes : List ℕ) (records : List Record) (rest more : List ℕ) (s : 
   pub closes : (get_or rest 0 0 ≡ 1 → ⊥) → IsClosedAfter (flat_map record_bytes records) bytes
   closes shut = record { gate = get_or rest 0 0; behind = behind_first rest ++ more; closed = shut; is = s.is ∙ ap (λ (l : List ℕ). flat_map record_bytes records ++ l) split }
 
-  pub breaks_off : (start at : ℕ) (events : List Event) (raised : Bool) → IsRead records start at events raised → get_or rest 0 0 ≡ 1 → IsWide 263 (behind_first rest) more
+  pub breaks_off : (start at : ℕ) (events : List Event) (raised : Bool) → AreRecordsRead records start at events raised → get_or rest 0 0 ≡ 1 → IsWide 263 (behind_first rest) more
       → ((r : Record) (gate : ℕ) (after : List ℕ) → MayFollow raised r → behind_first rest ≡ record_tail r ++ gate ∷ after → ⊥) → BreaksOff start at bytes
   breaks_off start at events raised read is_open wide none = record {
     records = records;
@@ -76,7 +70,7 @@ module _ (bytes : List ℕ) (records : List Record) (rest more : List ℕ) (s : 
     pub one_more : BeginsWith bytes (records ++ r ∷ []) (after ++ more)
     one_more = record { some = omega (arith, left, length-append after more); is = more_is }
 
-    pub overflows : (start at : ℕ) (events : List Event) (raised : Bool) → IsRead records start at events raised → MayFollow raised r → MOST_RECORDS ≤ length (with_record events r) → Overflows bytes
+    pub overflows : (start at : ℕ) (events : List Event) (raised : Bool) → AreRecordsRead records start at events raised → MayFollow raised r → MOST_RECORDS ≤ length (with_record events r) → HoldsTooMany bytes
     overflows start at events raised read may many = record {
       records = records ++ r ∷ [];
       in_order = AreInOrder-push false records r read.in_order (subst (λ (b : Bool). MayFollow b r) (sym read.raises) may);
@@ -87,13 +81,13 @@ module _ (bytes : List ℕ) (records : List Record) (rest more : List ℕ) (s : 
 -- From the records that were read before a piece, what is read with those of the piece in front of the rest.
 pub record Went (start : ℕ) (before : List Record) (piece rest : List ℕ) (at : ℕ) (events : List Event) (raised : Bool) : Type 0 where
   pub records : List Record
-  pub read : IsRead records start at events raised
+  pub read : AreRecordsRead records start at events raised
   pub begins : (bytes more : List ℕ) → BeginsWith bytes before (piece ++ more) → BeginsWith bytes records (rest ++ more)
 
 -- What was read up to a place, and where the disk tells, what stands there.
 pub record HasRead (start at : ℕ) (events : List Event) (raised : Bool) (content : Option (List ℕ)) : Type 0 where
   pub records : List Record
-  pub read : IsRead records start at events raised
+  pub read : AreRecordsRead records start at events raised
   pub begins : ForSome content (λ bytes. BeginsWith (drop start bytes) records (drop at bytes))
 
 -- the records are behind the start, so the rest stands at the place behind them
@@ -103,7 +97,7 @@ rest_at file start place records rest b is =
     ap (λ n. drop n file) is ∙ sym (drop-drop (length (flat_map record_bytes records)) start file) ∙ ap (λ (l : List ℕ). drop (length (flat_map record_bytes records)) l) b.is ∙ drop_at (flat_map record_bytes records) rest (length (flat_map record_bytes records)) refl in
     subst (λ (l : List ℕ). BeginsWith (drop start file) records l) (sym there) b
 
-pub has_read : (content : Option (List ℕ)) (start at : ℕ) (events : List Event) (raised : Bool) → WereRead start at events raised → ForSome content (λ bytes. GoesOn start at events raised (drop start bytes)) → HasRead start at events raised content
+pub has_read : (content : Option (List ℕ)) (start at : ℕ) (events : List Event) (raised : Bool) → WereRead start at events raised → ForSome content (λ bytes. ReachesGate start at events raised (drop start bytes)) → HasRead start at events raised content
 has_read None start at events raised (records, read) told = record { records = records; read = read; begins = λ bytes is. absurd cc }
 has_read (Some file) start at events raised were told =
     let g = told file refl in
@@ -117,10 +111,10 @@ has_read (Some file) start at events raised were told =
 
 -- ---- refusals of a record that was read
 
-pub not_noted : (start : ℕ) (bytes : List ℕ) (e : JFault) (Q : Type 0) → (e ≡ faults.Memory) ⊎ ((e ≡ faults.TooManyRecords) × Q) → (Q → Overflows bytes) → EventsRefused start bytes e
+pub not_noted : (start : ℕ) (bytes : List ℕ) (e : JFault) (Q : Type 0) → (e ≡ faults.Memory) ⊎ ((e ≡ faults.TooManyRecords) × Q) → (Q → HoldsTooMany bytes) → EventsRefused start bytes e
 not_noted start bytes e Q (inl none) over = subst (EventsRefused start bytes) (sym none) tt
 not_noted start bytes e Q (inr many) over = subst (EventsRefused start bytes) (sym many.0) (over many.1)
 
-pub not_noted_somewhere : (start : ℕ) (e : JFault) (Q : Type 0) → (e ≡ faults.Memory) ⊎ ((e ≡ faults.TooManyRecords) × Q) → (Q → (bytes : List ℕ) × Overflows bytes) → (bytes : List ℕ) × EventsRefused start bytes e
+pub not_noted_somewhere : (start : ℕ) (e : JFault) (Q : Type 0) → (e ≡ faults.Memory) ⊎ ((e ≡ faults.TooManyRecords) × Q) → (Q → (bytes : List ℕ) × HoldsTooMany bytes) → (bytes : List ℕ) × EventsRefused start bytes e
 not_noted_somewhere start e Q (inl none) over = ([], subst (EventsRefused start []) (sym none) tt)
 not_noted_somewhere start e Q (inr many) over = let o = over many.1 in (o.0, subst (EventsRefused start o.0) (sym many.0) o.1)

@@ -1,5 +1,5 @@
 -- How long the records are.
-use Rattle.answer_journal.proofs.Prelude.{◌≡◌, ℕ, ◌+◌, ◌*◌, ◌≤◌, Bool, true, false, List, [], ◌∷◌, length, flat_map, refl, ap, arith, length-append, Plan, Event, Answer, Back, Record, Added, Raising, MOST_RECORDS, session_tail, record_tail, record_bytes, pairs_from, events_among, is_raised_by, is_raised_after, MayFollow, AreInOrder, HasRoom, room_to_raise, counted_with, IsRead, pairs_size, given_few}
+use Rattle.answer_journal.proofs.Prelude.{◌≡◌, ℕ, ◌+◌, ◌*◌, ◌≤◌, Bool, true, false, List, [], ◌∷◌, length, flat_map, refl, ap, arith, length-append, Plan, Event, Answer, Back, Record, Added, Raising, MOST_RECORDS, session_tail, record_tail, record_bytes, pairs_from, events_among, is_raised_by, is_raised_after, MayFollow, AreInOrder, HasRoom, room_to_raise, counted_with, AreRecordsRead, pairs_size, given_few}
 
 pub tail_size : (raised : Bool) (r : Record) → MayFollow raised r → length (record_tail r) ≤ 263
 unfolding record_tail
@@ -27,7 +27,7 @@ records_size raised (Added e ∷ rs) o = omega (arith, tail_size raised (Added e
 records_size true (Raising ∷ rs) o = let wrong = o.0 in absurd cc
 records_size false (Raising ∷ rs) o = omega (arith, raising_size, records_size true rs o.1, length-append (record_bytes Raising) (flat_map record_bytes rs))
 
-pub read_size : (records : List Record) (start at : ℕ) (events : List Event) (raised : Bool) → IsRead records start at events raised → at + room_to_raise raised ≤ start + 264 * length events + 7
+pub read_size : (records : List Record) (start at : ℕ) (events : List Event) (raised : Bool) → AreRecordsRead records start at events raised → at + room_to_raise raised ≤ start + 264 * length events + 7
 read_size records start at events raised r = omega (arith, r.place, records_size false records r.in_order, ap length r.are, ap room_to_raise r.raises)
 
 pub session_size : (plan : Plan) (voc : List ℕ) → length (session_tail plan voc) ≡ 6 + length voc

@@ -1,5 +1,5 @@
 -- Bytes that a refusal, or a session, may be read from.
-use Rattle.answer_journal.proofs.Prelude.{◌≡◌, ℕ, ◌+◌, ◌-◌, ◌<◌, ◌≤◌, Bool, false, List, [], ◌∷◌, ◌++◌, length, get_or, take, flat_map, inl, refl, sym, ◌∙◌, ap, subst, arith, length-append, length-take, Plan, Event, Record, IsStorableSession, MOST_RECORDS, MAGIC, session_tail, record_bytes, written, events_among, with_record, is_raised_after, MayFollow, IsClosedAfter, Bare, ReadsAs, Session, Stuck, IsRead, WereRead, BreaksOff, Overflows, EventsRefused, Refused, CreateRefused, JFault}
+use Rattle.answer_journal.proofs.Prelude.{◌≡◌, ℕ, ◌+◌, ◌-◌, ◌<◌, ◌≤◌, Bool, false, List, [], ◌∷◌, ◌++◌, length, get_or, take, flat_map, inl, refl, sym, ◌∙◌, ap, subst, arith, length-append, length-take, Plan, Event, Record, IsStorableSession, MOST_RECORDS, MAGIC, session_tail, record_bytes, written, events_among, with_record, is_raised_after, MayFollow, IsClosedAfter, Bare, ReadsAs, Session, Stuck, AreRecordsRead, WereRead, BreaksOff, HoldsTooMany, EventsRefused, Refused, CreateRefused, JFault}
 use Rattle.answer_journal.specs.declared.fault.JFault.TheVariants as faults
 use Rattle.answer_journal.proofs.RecordLists.{events_among-push, AreInOrder-push, with_record-many}
 use Rattle.answer_journal.proofs.Sizes.{session_size}
@@ -11,13 +11,13 @@ use Rattle.answer_journal.proofs.WholeFile.{refused}
 bare_stuck : (raised : Bool) → Stuck raised (1 ∷ [])
 bare_stuck raised r gate behind may is = omega (arith, ap length is, length-append (record_bytes r) (gate ∷ behind))
 
-pub breaks_off_somewhere : (records : List Record) (start at : ℕ) (events : List Event) (raised : Bool) → IsRead records start at events raised → (bytes : List ℕ) × BreaksOff start at bytes
+pub breaks_off_somewhere : (records : List Record) (start at : ℕ) (events : List Event) (raised : Bool) → AreRecordsRead records start at events raised → (bytes : List ℕ) × BreaksOff start at bytes
 breaks_off_somewhere records start at events raised read = (
   flat_map record_bytes records ++ 1 ∷ [],
   record { records = records; behind = []; in_order = read.in_order; few = subst (λ (l : List Event). length l < MOST_RECORDS) (sym read.are) read.few; place = read.place; is = refl; stuck = bare_stuck (is_raised_after false records) },
 )
 
-pub overflows_somewhere : (records : List Record) (start at : ℕ) (events : List Event) (raised : Bool) (r : Record) → IsRead records start at events raised → MayFollow raised r → MOST_RECORDS ≤ length (with_record events r) → (bytes : List ℕ) × Overflows bytes
+pub overflows_somewhere : (records : List Record) (start at : ℕ) (events : List Event) (raised : Bool) (r : Record) → AreRecordsRead records start at events raised → MayFollow raised r → MOST_RECORDS ≤ length (with_record events r) → (bytes : List ℕ) × HoldsTooMany bytes
 overflows_somewhere records start at events raised r read may many = (
   flat_map record_bytes (records ++ r ∷ []) ++ 1 ∷ [],
   record {
@@ -92,9 +92,3 @@ session_there_somewhere = (MAGIC ++ 1 ∷ 0 ∷ [], (omega arith, refl, refl))
 
 pub not_made_somewhere : (bytes : List ℕ) × CreateRefused bytes faults.NotAJournal
 not_made_somewhere = foreign_somewhere
-
-pub no_memory_somewhere : (bytes : List ℕ) × CreateRefused bytes faults.Memory
-no_memory_somewhere = ([], inl (omega arith))
-
-pub no_disk_somewhere : (bytes : List ℕ) × CreateRefused bytes faults.DiskFault
-no_disk_somewhere = ([], tt)

@@ -1,5 +1,5 @@
 -- What a whole file says.
-use Rattle.answer_journal.proofs.Prelude.{◌≡◌, ℕ, ◌+◌, ◌<◌, Bool, List, [], ◌∷◌, ◌++◌, length, get_or, take, drop, flat_map, inr, refl, sym, ◌∙◌, ap, subst, arith, append_assoc, length-append, take-append-drop, drop_at, append_cancel_left, drop_more, Plan, Event, Record, IsStorableSession, MOST_RECORDS, MAGIC, session_tail, record_bytes, written, End, Sits, HoldsRecords, Spells, Bare, Records, IsDamagedAt, HasTooManyRecords, HasNoSession, written_split, HasEvents, BreaksOff, Overflows, EventsRefused, Refused, JFault}
+use Rattle.answer_journal.proofs.Prelude.{◌≡◌, ℕ, ◌+◌, ◌<◌, Bool, List, [], ◌∷◌, ◌++◌, length, get_or, take, drop, flat_map, inr, refl, sym, ◌∙◌, ap, subst, arith, append_assoc, length-append, take-append-drop, drop_at, append_cancel_left, drop_more, Plan, Event, Record, IsStorableSession, MOST_RECORDS, MAGIC, session_tail, record_bytes, written, End, Sits, HoldsRecords, Spells, Bare, Records, IsDamagedAt, HasTooManyRecords, HasNoSession, written_split, HasEvents, BreaksOff, HoldsTooMany, EventsRefused, Refused, JFault}
 use Rattle.answer_journal.specs.declared.fault.JFault.TheVariants as faults
 use Rattle.answer_journal.proofs.Append.{written-push}
 
@@ -76,7 +76,7 @@ module _ (bytes : List ℕ) (long : 9 < length bytes) (magic : take 8 bytes ≡ 
           (sym (records_are b.records (1 ∷ b.behind) b.is) ∙ n.2.is ∙ ap (λ (l : List ℕ). l ++ n.2.gate ∷ n.2.behind) (written-push plan voc b.records n.0) ∙ append_assoc (written plan voc b.records) (record_bytes n.0) (n.2.gate ∷ n.2.behind)));
     }
 
-    pub too_many : Overflows rest → HasTooManyRecords bytes
+    pub too_many : HoldsTooMany rest → HasTooManyRecords bytes
     too_many o = record { plan = plan; voc = voc; records = o.records; session = session; in_order = o.in_order; many = o.many; rest = record { gate = o.rest.gate; behind = o.rest.behind; is = records_are o.records (o.rest.gate ∷ o.rest.behind) o.rest.is } }
 
     pub refused : (start : ℕ) (e : JFault) → start ≡ 9 + length (session_tail plan voc) → EventsRefused start rest e → Refused bytes e

@@ -12,7 +12,7 @@ use Rattle.answer_journal.specs.Journal.{IsClosedAfter, HasGateBehind, ReadsAs, 
 use Rattle.answer_journal.specs.Unique.{Stuck}
 
 -- The records that were read from a start up to a place, with these events.
-pub record IsRead (records : List Record) (start at : ℕ) (events : List Event) (raised : Bool) : Type 0 where
+pub record AreRecordsRead (records : List Record) (start at : ℕ) (events : List Event) (raised : Bool) : Type 0 where
   pub in_order : AreInOrder false records
   pub few : length events < MOST_RECORDS
   pub are : events_among records ≡ events
@@ -21,7 +21,7 @@ pub record IsRead (records : List Record) (start at : ℕ) (events : List Event)
 
 -- These events were read from a start up to a place.
 abbrev pub WereRead : ℕ → ℕ → List Event → Bool → Type 0
-WereRead start at events raised = (records : List Record) × IsRead records start at events raised
+WereRead start at events raised = (records : List Record) × AreRecordsRead records start at events raised
 
 -- These records stand here, and then the rest, which begins with a gate.
 pub record BeginsWith (bytes : List ℕ) (records : List Record) (rest : List ℕ) : Type 0 where
@@ -31,14 +31,14 @@ pub record BeginsWith (bytes : List ℕ) (records : List Record) (rest : List �
 -- These events stand here up to a closed gate at this place.
 pub record HasEvents (start at : ℕ) (events : List Event) (raised : Bool) (bytes : List ℕ) : Type 0 where
   pub records : List Record
-  pub read : IsRead records start at events raised
+  pub read : AreRecordsRead records start at events raised
   pub rest : IsClosedAfter (flat_map record_bytes records) bytes
 
 -- These events stand here up to a gate at this place.
-pub record GoesOn (start at : ℕ) (events : List Event) (raised : Bool) (bytes : List ℕ) : Type 0 where
+pub record ReachesGate (start at : ℕ) (events : List Event) (raised : Bool) (bytes : List ℕ) : Type 0 where
   pub records : List Record
   pub rest : List ℕ
-  pub read : IsRead records start at events raised
+  pub read : AreRecordsRead records start at events raised
   pub begins : BeginsWith bytes records rest
 
 -- Behind some records an open gate stands at this place with no whole record behind it.
@@ -52,7 +52,7 @@ pub record BreaksOff (start at : ℕ) (bytes : List ℕ) : Type 0 where
   pub stuck : Stuck (is_raised_after false records) (1 ∷ behind)
 
 -- More events stand here than a journal may have.
-pub record Overflows (bytes : List ℕ) : Type 0 where
+pub record HoldsTooMany (bytes : List ℕ) : Type 0 where
   pub records : List Record
   pub in_order : AreInOrder false records
   pub many : length (events_among records) ≡ MOST_RECORDS
@@ -61,7 +61,7 @@ pub record Overflows (bytes : List ℕ) : Type 0 where
 -- why the events of these bytes, which begin at the place start, aren't read
 abbrev pub EventsRefused : ℕ → List ℕ → JFault → Type 0
 EventsRefused start bytes (faults.Damaged at) = BreaksOff start at bytes
-EventsRefused start bytes faults.TooManyRecords = Overflows bytes
+EventsRefused start bytes faults.TooManyRecords = HoldsTooMany bytes
 EventsRefused start bytes faults.Memory = Unit {0}
 EventsRefused start bytes faults.SessionThere = ⊥
 EventsRefused start bytes faults.NoSession = ⊥
@@ -77,7 +77,7 @@ gate_reached (Further place) = place
 -- the gate there is closed, or the bytes go on behind the events
 abbrev pub IsReached : ℕ → List Event → Bool → List ℕ → Reached → Type 0
 IsReached start events raised bytes (Closed place) = HasEvents start place events raised bytes
-IsReached start events raised bytes (Further place) = GoesOn start place events raised bytes
+IsReached start events raised bytes (Further place) = ReachesGate start place events raised bytes
 
 -- some bytes were read, if the piece was left before its end
 abbrev pub IsProgress : ℕ → Reached → Type 0

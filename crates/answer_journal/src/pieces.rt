@@ -5,7 +5,7 @@ ghost use Rattle.std.specs.Option.{ForSome};
 ghost use Rattle.disk_model.specs.Disk.{Rose};
 ghost use Rattle.disk_model.specs.Moments.{IsOnlyRead};
 ghost use Rattle.answer_journal.specs.Records.{with_record, is_raised_by};
-ghost use Rattle.answer_journal.specs.Found.{IsRead, WereRead, HasEvents, BeginsWith, EventsRefused, gate_reached, IsReached, IsProgress, IsFar};
+ghost use Rattle.answer_journal.specs.Found.{AreRecordsRead, WereRead, HasEvents, BeginsWith, EventsRefused, gate_reached, IsReached, IsProgress, IsFar};
 ghost use Rattle.answer_journal.specs.Calls.{AreReadingCalls, TakesPieces};
 
 use crate::decode::record_of;
@@ -69,8 +69,8 @@ fn events_in(
 ) -> Result<Reached, JFault>
     requires near { at < 2 ^ 63 }
     requires few { length events.old.items < 1000000 }
-    ensures read { (bytes more : List ℕ) (start : ℕ) (records : List Record) → IsRead records start at events.old.items raised.old → BeginsWith bytes records (piece.now ++ more) → (IsTrue is_last → more ≡ []) → MatchResult result (IsReached start events.new.items raised.new bytes) (EventsRefused start bytes) }
-    ensures some_bytes { (start : ℕ) (records : List Record) → IsRead records start at events.old.items raised.old → MatchResult result (λ reached. WereRead start (gate_reached reached) events.new.items raised.new) (λ e. (bytes : List ℕ) × EventsRefused start bytes e) }
+    ensures read { (bytes more : List ℕ) (start : ℕ) (records : List Record) → AreRecordsRead records start at events.old.items raised.old → BeginsWith bytes records (piece.now ++ more) → (IsTrue is_last → more ≡ []) → MatchResult result (IsReached start events.new.items raised.new bytes) (EventsRefused start bytes) }
+    ensures some_bytes { (start : ℕ) (records : List Record) → AreRecordsRead records start at events.old.items raised.old → MatchResult result (λ reached. WereRead start (gate_reached reached) events.new.items raised.new) (λ e. (bytes : List ℕ) × EventsRefused start bytes e) }
     ensures few { OnOk result (length events.new.items < 1000000) }
     ensures progress { (IsFalse is_last → 264 < length piece.now) → IfOk result (IsProgress at) }
     ensures far { IfOk result (IsFar is_last at (length piece.now)) }

@@ -4,7 +4,7 @@ ghost use Rattle.std.specs.Prelude.{◌≡◌, ◌≤◌, length};
 ghost use Rattle.language.specs.Language.{IsQuestion};
 ghost use Rattle.language.specs.Answers.{IsNetwork};
 ghost use Rattle.bias_store.specs.KeptSet.{IsMadeFor as IsKeptOf};
-ghost use Rattle.query_gen.specs.Marks.{IsMadeFor, MarksHold};
+ghost use Rattle.query_gen.specs.Marks.{AreMarksFor, MarksHold};
 
 use crate::outcomes::{outcome_by_list, prefixes, some_language};
 use crate::tally::Tally;
@@ -116,13 +116,13 @@ fn compare(
     budget: u32,
     all: &[Vec<u8>],
 ) -> Option<(Query, bool)>
-    requires screen { IsMadeFor lang.now screen.old }
+    requires screen { AreMarksFor lang.now screen.old }
     requires marks { MarksHold lang.now net.now.list budget screen.old }
     requires kept { IsKeptOf lang.now kept.now }
     requires network { IsNetwork lang.now net.now.list }
     requires some_budget { 1 ≤ budget }
     requires small_budget { budget ≤ 1000000000 }
-    ensures screen { IsMadeFor lang.now screen.new }
+    ensures screen { AreMarksFor lang.now screen.new }
     ensures marks { MarksHold lang.now net.now.list budget screen.new }
 {
     let query = next_query(work, screen, lang, kept, net, budget);
@@ -159,10 +159,10 @@ fn learn(
 
 /// Takes all answers back.
 fn take_back(screen: &mut Screen, lang: &Language, kept: &mut Kept, net: &mut Network, budget: u32)
-    requires screen { IsMadeFor lang.now screen.old }
+    requires screen { AreMarksFor lang.now screen.old }
     requires kept { IsKeptOf lang.now kept.old }
     requires room { net.old.scopes ≡ length lang.now.scopes }
-    ensures screen { IsMadeFor lang.now screen.new }
+    ensures screen { AreMarksFor lang.now screen.new }
     ensures marks { MarksHold lang.now net.new.list budget screen.new }
     ensures kept { IsKeptOf lang.now kept.new }
     ensures network { IsNetwork lang.now net.new.list }
@@ -184,12 +184,12 @@ fn change(
     budget: u32,
     query: Query,
 )
-    requires screen { IsMadeFor lang.now screen.old }
+    requires screen { AreMarksFor lang.now screen.old }
     requires marks { MarksHold lang.now net.old.list budget screen.old }
     requires kept { IsKeptOf lang.now kept.old }
     requires network { IsNetwork lang.now net.old.list }
     requires room { net.old.scopes ≡ length lang.now.scopes }
-    ensures screen { IsMadeFor lang.now screen.new }
+    ensures screen { AreMarksFor lang.now screen.new }
     ensures marks { MarksHold lang.now net.new.list budget screen.new }
     ensures kept { IsKeptOf lang.now kept.new }
     ensures network { IsNetwork lang.now net.new.list }
@@ -239,7 +239,7 @@ fn turns(
     all: &[Vec<u8>],
     tally: &mut Tally,
 ) -> Option<()>
-    requires screen { IsMadeFor lang.now screen.old }
+    requires screen { AreMarksFor lang.now screen.old }
     requires marks { MarksHold lang.now net.old.list budget screen.old }
     requires kept { IsKeptOf lang.now kept.old }
     requires network { IsNetwork lang.now net.old.list }

@@ -6,6 +6,7 @@ use lib.Pointwise.{pointwise, pointwise_decides}
 use Rattle.std.specs.Option.{option_eq}
 use Rattle.assign.proofs.Fronts.{has-numbers}
 use Rattle.std.proofs.Math.Bool.{and-false, and-true, or-false, or-true}
+use Rattle.std.proofs.lemmas.Bool.{or_parts}
 
 pub is_seen : (a : Inside) (e : Assignment) → length e ≡ a.n → ((v : ℕ) → v < a.n → value_of e v ≡ option_at a v) → seen a ≡ e
 is_seen a e size each = sym (fill_by_all (option_at a) e a.n None size each)
@@ -188,10 +189,6 @@ wiped_first a w kept gone h e f = record {
   away = λ u low no none. h.rest u low (neither (has a.valued u) (has w u) (sym (has_where kept _ u e low) ∙ no) (sym (has_where gone _ u f low) ∙ none));
   apart = λ u low member. has_where gone _ u f low ∙ not_both (has a.valued u) (has w u) (sym (has_where kept _ u e low) ∙ member);
 }
-
-or_parts : (b c : Bool) → (b || c) ≡ false → (b ≡ false) × (c ≡ false)
-or_parts true c h = cc
-or_parts false c h = (refl, h)
 
 next_from : (a : Inside) (kept rest values : List ℕ) (v : ℕ) → v < 128 → IsWiped a kept (v ∷ rest) values → IsWiped a kept rest (set values v 0)
 next_from a kept rest values v low h = record {

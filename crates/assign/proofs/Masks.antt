@@ -2,6 +2,8 @@
 use Rattle.assign.proofs.Prelude.{◌≡◌, ℕ, zero, suc, ◌+◌, ◌-◌, ◌/◌, ◌%◌, ◌<◌, ◌≤◌, ◌^◌, Bool, true, false, cond, ◌||◌, ◌&&◌, not, List, [], ◌∷◌, length, take, drop, refl, sym, ◌∙◌, ap, arith, inl, inr, ◌⊎◌, Some, nat_eq, nat_lt, add-one, pow-suc, lit≤, ◌==◌, ◌≢◌, bit_or, bit_and, min, list_all, filter, range_with_len, bit_at, bit_not, w128, ne_eqb, eq-eqb, cases_eq, cases_lt, cases_Bool, lt-ltb, le-ltb, and_parts, both_ways, eqb-true, or_from, or_left, bit_at-lt, bit_at_and, bit_at-zero, bit_at_not, bit_at_ones, bit_at_ones_above, bit_at-suc, bit_at_lowest, bit_at_above, and_le_l, numbers, has, set_where, common, minus, with_member, without, is_within, least_of, members_of, mask_of, Rises, filter_agree_from, set_where-same, is_one, is_one-or, is_one-pow, has-members_of, same_masks, mask_of-members_of, pointwise}
 use lib.Count.{ones, ones_step}
 use Rattle.std.proofs.lemmas.Slice.Eq.{bytes_eq-Decides}
+use Rattle.std.proofs.lemmas.Bool.{and_from}
+use Rattle.assign.specs.Sets.{is_same}
 use Rattle.shared_lemmas.proofs.Booleans.{both_true}
 use Rattle.std.proofs.Math.Bool.{and_self, or-false}
 
@@ -185,7 +187,7 @@ then_there true true h k = refl
 then_there true false h k = sym h
 then_there false y h k = cc
 
-not_alone : (x y : Bool) → (x ≡ true → y ≡ true) → (x && not y) ≡ false
+pub not_alone : (x y : Bool) → (x ≡ true → y ≡ true) → (x && not y) ≡ false
 not_alone false y h = refl
 not_alone true true h = refl
 not_alone true false h = sym (h refl)
@@ -268,7 +270,17 @@ pub rises_few : (a : ℕ) (xs : List ℕ) → a ≤ 128 → Rises a xs → lengt
 rises_few a [] h r = omega arith
 rises_few a (x ∷ xs) h r = let low = r.0 in let below = r.1 in let rest = rises_few (x + 1) xs (omega arith) r.2 in omega arith
 
--- ---- the same set
+-- ---- the same set, the same list
+
+pub list_same : (xs : List ℕ) → is_same xs xs ≡ true
+list_same [] = refl
+list_same (x ∷ xs) = and_from (x == x) (is_same xs xs) (eq-eqb x x refl) (list_same xs)
+
+pub same_list : (xs ys : List ℕ) → is_same xs ys ≡ true → xs ≡ ys
+same_list [] [] h = refl
+same_list [] (y ∷ ys) h = absurd (both_ways _ refl h)
+same_list (x ∷ xs) [] h = absurd (both_ways _ refl h)
+same_list (x ∷ xs) (y ∷ ys) h = let parts = and_parts _ _ h in λ i. eqb-true x y parts.0 i ∷ same_list xs ys parts.1 i
 
 pub same_mask_is : (a b : ℕ) → a < 2 ^ 128 → b < 2 ^ 128 → (a == b) ≡ pointwise nat_eq (members_of a) (members_of b)
 same_mask_is a b h k = both_true _ _

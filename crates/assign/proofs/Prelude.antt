@@ -13,5 +13,5 @@ pub use Rattle.assign.specs.Assignment.{Assignment, restrict, value_of, variable
 pub use Rattle.assign.specs.Cells.{IsCells, cells_of, cells_of-seen, is_some-cond, length-seen, made, option_at, seen, value_of-seen, variables_of-seen}
 pub use Rattle.assign.specs.SetLemmas.{filter_agree_from, has-members_of, has-set_where, is_one, is_one-or, is_one-pow, mask_of-members_of, members_of-or, same_masks, set_where-same}
 pub use Rattle.assign.specs.Sets.{Rises, common, first_half, has, is_within, least_of, mask_of, members_of, minus, numbers, union, with_member, without}
-unfoldable pub use Rattle.assign.specs.Sets.{set_where}
+unfoldable pub use Rattle.assign.specs.Sets.{ones_of, set_where}
 pub use Rattle.assign.specs.declared.assignment.Partial.TheInside.{Inside}

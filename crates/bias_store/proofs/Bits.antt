@@ -1,7 +1,6 @@
 -- The mask of the relations that accept the tuple at a place, and what a mask has without them.
-use Rattle.bias_store.proofs.Prelude.{◌≡◌, ℕ, ◌^◌, ◌<◌, ◌≤◌, false, ◌&&◌, not, List, [], length, get_or, Some, refl, sym, ◌∙◌, ap, arith, inl, inr, ◌⊎◌, ◌==◌, bit_and, bit_not, w64, filter, cases_lt, eq-eqb, bit_at_above, Assignment, numbers, has, is_one, Relation, Language, relations_on, place_on, violates, any_number, ones_of, accepting_on}
+use Rattle.bias_store.proofs.Prelude.{◌≡◌, ℕ, ◌^◌, ◌<◌, ◌≤◌, false, ◌&&◌, not, List, [], length, get_or, Some, refl, sym, ◌∙◌, ap, arith, inl, inr, ◌⊎◌, ◌==◌, bit_and, bit_not, w64, filter, cases_lt, eq-eqb, bit_at_above, Assignment, numbers, has, is_one, Relation, Language, relations_on, place_on, violates, any_number, ones_of, accepting_on, ones_of-listed, ones_of-passing, has-filter, has-ones_of, is_one-and_not}
 use Rattle.std.proofs.Math.ListN.{get_or-eq_default}
-use Rattle.bias_store.proofs.Ones.{ones_of-passing, ones_of-listed, has-ones_of, has-filter, is_one-and_not}
 use Rattle.bias_store.proofs.Members.{candidate_at}
 use Rattle.bias_store.proofs.Picked.{covered}
 use Rattle.std.proofs.Math.Bool.{and-false}

@@ -1,6 +1,5 @@
 -- The places of a row, one after the other.
-use Rattle.bias_store.proofs.Prelude.{◌≡◌, ◌≢◌, ℕ, ◌+◌, ◌-◌, ◌<◌, ◌≤◌, ◌^◌, List, [], length, get_or, Some, None, sym, ◌∙◌, ap, subst, arith, inl, inr, ◌⊎◌, bit_and, is_some, unwrap_or, bit_not, w64, cases_eq, cases_lt, and_le_l, Assignment, value_of, ones_of, violated_at, AreNoneIn, IsFirstIn}
-use Rattle.bias_store.proofs.Ones.{ones_of-zero}
+use Rattle.bias_store.proofs.Prelude.{◌≡◌, ◌≢◌, ℕ, ◌+◌, ◌-◌, ◌<◌, ◌≤◌, ◌^◌, List, [], length, get_or, Some, None, sym, ◌∙◌, ap, subst, arith, inl, inr, ◌⊎◌, bit_and, is_some, unwrap_or, bit_not, w64, cases_eq, cases_lt, and_le_l, Assignment, value_of, ones_of, violated_at, AreNoneIn, IsFirstIn, ones_of-zero}
 use Rattle.bias_store.proofs.Bits.{ones_without}
 
 module _ (q : Assignment) (relations accepting : List ℕ) (second v value violated : ℕ) (from : second ≤ v) (none : AreNoneIn q relations accepting second (v - second)) (here : value_of q v ≡ Some value)

@@ -1,5 +1,4 @@
 mod Prelude
-pub mod Ones
 pub mod Members
 pub mod Picked
 pub mod Struck
@@ -18,4 +17,3 @@ pub mod Violating
 pub mod Striking
 pub mod Within
 pub mod RowMasks
-pub mod Exits

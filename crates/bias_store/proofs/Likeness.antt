@@ -12,7 +12,7 @@ use Rattle.language.proofs.PairOrders.{in_pair}
 use Rattle.language.proofs.OneLanguage.{one_closing}
 use Rattle.language.proofs.Plain.{length-tuple_on}
 use Rattle.language.proofs.Within.{all_within, wholes_from}
-use Rattle.bias_store.specs.Made.{HasTables, AreMasksOf}
+use Rattle.bias_store.specs.Made.{HasTables, HasMasksAt}
 use Rattle.bias_store.proofs.PairPlaces.{first_below}
 
 -- a question's tuple is within the ranges
@@ -77,7 +77,7 @@ module _ (l : Language) (lawful : IsLanguage l) (s begin : ℕ) (masks : List �
   table_asked is q p fits below placed = is.within p below (asked_within q p fits (covered_at (covers q (scope_at l s)) _ p placed))
 
   -- the table of the scopes of two variables whose relations have the same tables
-  module _ (two : length (scope_at l s) ≡ 2) (tables : List ℕ) (has : HasTables l s tables) (are : AreMasksOf l tables masks begin) where
+  module _ (two : length (scope_at l s) ≡ 2) (tables : List ℕ) (has : HasTables l s tables) (are : HasMasksAt l tables masks begin) where
     agree : (pairs : List Relation) → ArePairTables l pairs → (p : ℕ) → p < places_on l s → are_in l.ranges (scope_at l s) (tuple_at l.value_count (length (scope_at l s)) p) ≡ true → (r : ℕ) → r < length tables →
         get_or (get_or pairs (get_or tables r 0) []) p false ≡ get_or (get_or (relations_on l s) r []) p false
     agree pairs are_pairs p below inside r few =

@@ -1,19 +1,11 @@
 -- The candidates of masks: filtered, counted, on one scope, all of a language.
 use Rattle.bias_store.proofs.Prelude.{◌≡◌, ℕ, zero, suc, ◌+◌, ◌<◌, ◌≤◌, Bool, true, false, cond, ◌||◌, List, [], ◌∷◌, ◌++◌, length, map, refl, sym, ◌∙◌, ap, subst, arith, length-append, ◌==◌, slice_index_or, slice_set, replicate, All, filter, list_any, flat_map, range_with_len, eq-eqb, ne_eqb, length-map, append-nil, get_or_read, filter-append, list_any-append, Candidate, any-map, nothing_passes, ones_of, candidates_at, members_from}
-use Rattle.shared_lemmas.proofs.Lists.{all_left, all_right, all_of_map}
+use Rattle.shared_lemmas.proofs.Lists.{all_left, all_right, all_of_map, filter-map}
 use Rattle.std.proofs.lemmas.Simd.{map-map}
 
 -- the candidate with a relation on a scope
 abbrev pub candidate_at : ℕ → ℕ → Candidate
 candidate_at s r = record { scope = s; rel = r }
-
-pub filter-map : {X Y : Type 0} (p : Y → Bool) (f : X → Y) (xs : List X) → filter p (map f xs) ≡ map f (filter (λ x. p (f x)) xs)
-filter-map p f [] = refl
-filter-map p f (x ∷ xs) = go (p (f x)) (filter-map p f xs)
-  where
-    go : (b : Bool) → filter p (map f xs) ≡ map f (filter (λ x. p (f x)) xs) → cond b (f x ∷ filter p (map f xs)) (filter p (map f xs)) ≡ map f (cond b (x ∷ filter (λ x. p (f x)) xs) (filter (λ x. p (f x)) xs))
-    go true rest = ap (λ ys. f x ∷ ys) rest
-    go false rest = rest
 
 -- ---- each mask is replaced by one whose relations pass
 

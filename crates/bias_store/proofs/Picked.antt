@@ -1,6 +1,5 @@
 -- What a question violates on a scope.
-use Rattle.bias_store.proofs.Prelude.{◌≡◌, ℕ, Bool, true, false, cond, ◌&&◌, not, [], Some, None, refl, sym, ◌∙◌, ap, slice_index_or, filter, Assignment, covers, tuple_on, place, holds, Language, scope_at, relations_on, relation_of, place_on, violates, ones_of}
-use Rattle.bias_store.proofs.Ones.{ones_of-zero}
+use Rattle.bias_store.proofs.Prelude.{◌≡◌, ℕ, Bool, true, false, cond, ◌&&◌, not, [], Some, None, refl, sym, ◌∙◌, ap, slice_index_or, filter, Assignment, covers, tuple_on, place, holds, Language, scope_at, relations_on, relation_of, place_on, violates, ones_of, ones_of-zero}
 use Rattle.bias_store.proofs.Members.{candidate_at}
 
 -- nothing of no relations

@@ -14,7 +14,8 @@ pub use Rattle.std.specs.Prelude.{All, Contains, bit_and, count_ones, ifâ—Œthenâ
 pub use Rattle.assign.specs.Assignment.{Assignment, covers, tuple_on, value_of}
 pub use Rattle.assign.specs.SetLemmas.{filter_agree_from, has-members_of, has-set_where_above, is_one, is_one-pow}
 pub use Rattle.assign.specs.Sets.{has, is_within, members_of, numbers}
-unfoldable pub use Rattle.assign.specs.Sets.{set_where}
+unfoldable pub use Rattle.assign.specs.Sets.{ones_of, set_where}
+pub use Rattle.assign.proofs.Ones.{has-filter, has-ones_of, is_one-and_not, length-ones_of, ones_of-listed, ones_of-passing, ones_of-zero}
 pub use Rattle.language.proofs.Lists.{nothing_passes}
 pub use Rattle.language.proofs.Members.{any-map, any_number}
 pub use Rattle.language.proofs.Placing.{below_after, value_fits}
@@ -25,8 +26,8 @@ pub use Rattle.rel_table.specs.Relation.{Relation, holds, place}
 pub use Rattle.bias_store.specs.Accepting.{Accepting, Accepts, AreAdded, AreRowsFrom, AreRunsFrom, IsAcceptingOf, IsRow, IsTableOf, accepting_on, first_of, mask_in, places_on, second_of}
 pub use Rattle.bias_store.specs.Inside.{candidates_at, members_from}
 pub use Rattle.bias_store.specs.KeptSet.{CoversOnly, IsMadeFor, KeptSet, is_struck_within, kept_relations}
-unfoldable pub use Rattle.bias_store.specs.Masks.{ones_of}
 pub use Rattle.bias_store.specs.Shown.{AreNoneIn, IsFirstIn, IsShown, violated_at}
 pub use Rattle.bias_store.specs.Violated.{AreHitsListed, AreNoneViolated, IsHit, IsViolated, violated_on}
 pub use Rattle.bias_store.specs.declared.tables.TheConstants.{NO_TABLE}
 pub use Rattle.bias_store.specs.declared.tables.Violated.{Violated}
+pub use Rattle.shared_lemmas.proofs.Read.{none_given}

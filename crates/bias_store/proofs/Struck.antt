@@ -1,8 +1,8 @@
 -- Masks that lose, one scope after another, the relations of the candidates that fail a test.
-use Rattle.bias_store.proofs.Prelude.{◌≡◌, ℕ, ◌+◌, ◌-◌, ◌<◌, ◌≤◌, ◌^◌, Bool, true, false, cond, ◌||◌, not, List, [], ◌∷◌, length, refl, sym, ◌∙◌, ap, subst, arith, inl, inr, ◌⊎◌, get_or-set_same, get_or-set_other, ◌==◌, bit_and, slice_index_or, slice_set, All, filter, list_any, bit_not, w64, cases_eq, cases_lt, eq-eqb, ne_eqb, or_parts, true_from_ne_false, length-set, All-filter, Candidate, Language, IsCandidate, nothing_passes, ones_of, IsAcceptingOf, KeptSet, IsMadeFor, members_from}
+use Rattle.bias_store.proofs.Prelude.{◌≡◌, ℕ, ◌+◌, ◌-◌, ◌<◌, ◌≤◌, ◌^◌, Bool, true, false, cond, ◌||◌, not, List, [], ◌∷◌, length, refl, sym, ◌∙◌, ap, subst, arith, inl, inr, ◌⊎◌, get_or-set_same, get_or-set_other, ◌==◌, bit_and, slice_index_or, slice_set, All, filter, list_any, bit_not, w64, cases_eq, cases_lt, eq-eqb, ne_eqb, or_parts, true_from_ne_false, length-set, All-filter, Candidate, Language, IsCandidate, nothing_passes, ones_of, IsAcceptingOf, KeptSet, IsMadeFor, members_from, ones_of-zero}
 use Rattle.std.proofs.lemmas.List.Filters.{length-filter_both}
-use Rattle.bias_store.proofs.Ones.{ones_of-zero, ones_of-and_not, no_ones}
 use Rattle.bias_store.proofs.Members.{candidate_at, length-members_set, fewer_on_one, filter_of_masks, all_pass}
+use Rattle.assign.proofs.Ones.{no_ones, ones_of-and_not}
 
 -- the scopes below s are struck, and the count is right
 pub record IsStruck (fails : Candidate → Bool) (old now : List ℕ) (s before count : ℕ) : Type 0 where

@@ -1,7 +1,7 @@
 -- Tables of masks, made one place after another and one scope after another.
 use Rattle.bias_store.proofs.Prelude.{◌≡◌, ℕ, ◌+◌, ◌*◌, ◌^◌, ◌<◌, ◌≤◌, ◌≢◌, true, false, List, [], ◌∷◌, ◌++◌, length, get_or, refl, sym, ◌∙◌, ap, subst, arith, inl, inr, ◌⊎◌, length-append, replicate, get_or-set_same, get_or-set_other, slice_set, filter, cases_eq, get_or_append_left, get_or_push, length-set, length-replicate, get_or-replicate, All-append, All-cons, All-nil, numbers, Language, IsLanguage, scope_at, is_whole, ones_of, Accepts, places_on, mask_in, AreRunsFrom, AreRowsFrom, IsAcceptingOf, AreAdded, IsTableOf, NO_TABLE}
 use Rattle.language.proofs.Alike.{whole_alike}
-use Rattle.bias_store.specs.Made.{AcceptBy, AreMasksOf, AreClasses, AreBegun, AreWider}
+use Rattle.bias_store.specs.Made.{AcceptBy, HasMasksAt, AreClasses, AreBegun, AreWider}
 use Rattle.bias_store.specs.declared.tables.Class.{Class}
 use Rattle.bias_store.proofs.Likeness.{table_whole}
 
@@ -46,7 +46,7 @@ module _ (masks wider : List ℕ) (is : AreWider masks wider) where
     within = λ p low ranged. (let inside = table.inside in ap ones_of (read begin p (omega arith))) ∙ table.within p low ranged;
   }
 
-  pub masks_wider : (l : Language) (tables : List ℕ) (begin : ℕ) → AreMasksOf l tables masks begin → AreMasksOf l tables wider begin
+  pub masks_wider : (l : Language) (tables : List ℕ) (begin : ℕ) → HasMasksAt l tables masks begin → HasMasksAt l tables wider begin
   masks_wider l tables begin are = let inside = are.inside in let longer = is.longer in record {
     inside = omega arith;
     each = λ p low pairs of. (let inside = are.inside in ap ones_of (read begin p (omega arith))) ∙ are.each p low pairs of;
@@ -63,13 +63,13 @@ module _ (masks wider : List ℕ) (is : AreWider masks wider) where
 pub table_of : (l : Language) (s : ℕ) (masks wider : List ℕ) → AreAdded (Accepts l s) masks wider (places_on l s) → IsTableOf l s wider (length masks)
 table_of l s masks wider is = let long = is.long in record { inside = omega arith; within = λ p low ranged. is.here p low }
 
-pub masks_of : (l : Language) (tables masks wider : List ℕ) → AreAdded (AcceptBy l tables) masks wider (l.value_count ^ 2) → AreMasksOf l tables wider (length masks)
+pub masks_of : (l : Language) (tables masks wider : List ℕ) → AreAdded (AcceptBy l tables) masks wider (l.value_count ^ 2) → HasMasksAt l tables wider (length masks)
 masks_of l tables masks wider is = let long = is.long in record { inside = omega arith; each = is.here }
 
-pub classes_more : (l : Language) (classes : List Class) (masks : List ℕ) (class : Class) → AreClasses l classes masks → AreMasksOf l class.tables.items masks class.begin → AreClasses l (classes ++ class ∷ []) masks
+pub classes_more : (l : Language) (classes : List Class) (masks : List ℕ) (class : Class) → AreClasses l classes masks → HasMasksAt l class.tables.items masks class.begin → AreClasses l (classes ++ class ∷ []) masks
 classes_more l classes masks class are new =
-    All-append (λ (c : Class). AreMasksOf l c.tables.items masks c.begin) classes (class ∷ []) are
-    (All-cons (λ (c : Class). AreMasksOf l c.tables.items masks c.begin) class [] new (All-nil (λ (c : Class). AreMasksOf l c.tables.items masks c.begin)))
+    All-append (λ (c : Class). HasMasksAt l c.tables.items masks c.begin) classes (class ∷ []) are
+    (All-cons (λ (c : Class). HasMasksAt l c.tables.items masks c.begin) class [] new (All-nil (λ (c : Class). HasMasksAt l c.tables.items masks c.begin)))
 
 -- ---- those of scopes whose variables have all values
 

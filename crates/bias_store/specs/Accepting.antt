@@ -2,11 +2,10 @@
 use Rattle.std.specs.Prelude.{ℕ, ◌==◌, ◌≡◌, ◌≢◌, ◌+◌, ◌<◌, ◌≤◌, ◌^◌, true, false, List, [], ◌∷◌, length, slice_index_or}
 use Rattle.std.specs.Int.{bit_at}
 use Rattle.std.specs.List.{filter}
-use Rattle.assign.specs.Sets.{numbers}
+use Rattle.assign.specs.Sets.{numbers, ones_of}
 use Rattle.rel_table.specs.Relation.{tuple_at}
 use Rattle.language.specs.Language.{Language, scope_at, relations_on}
 use Rattle.language.specs.Ranges.{are_in}
-use Rattle.bias_store.specs.Masks.{ones_of}
 use Rattle.bias_store.specs.declared.tables.TheConstants.{NO_TABLE}
 
 -- the relations on the scope of this number that accept the tuple at a place, by number, rising

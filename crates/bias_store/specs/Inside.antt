@@ -1,9 +1,9 @@
 -- The candidates that the fields stand for.
 use Rattle.std.specs.Prelude.{ℕ, ◌+◌, ◌≡◌, List, [], ◌∷◌, ◌++◌, length, map}
 use Rattle.language.specs.declared.candidates.Candidate.{Candidate}
-use Rattle.bias_store.specs.Masks.{ones_of}
 use Rattle.bias_store.specs.KeptSet.{KeptSet}
 use Rattle.bias_store.specs.declared.kept.Kept.TheInside.{Inside}
+use Rattle.assign.specs.Sets.{ones_of}
 
 -- the candidates of a scope with these relations
 abbrev pub candidates_at : ℕ → List ℕ → List Candidate
@@ -18,5 +18,5 @@ abbrev pub seen : Inside → KeptSet
 seen a = record { scopes = length a.relations.items; members = members_from 0 a.relations.items; accepting = a.tables }
 
 -- the count is that of the candidates
-abbrev pub IsCounted : Inside → Type 0
-IsCounted a = a.count ≡ length (members_from 0 a.relations.items)
+abbrev pub CountsCandidates : Inside → Type 0
+CountsCandidates a = a.count ≡ length (members_from 0 a.relations.items)

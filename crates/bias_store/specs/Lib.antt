@@ -1,4 +1,3 @@
-pub mod Masks
 pub mod Accepting
 pub mod Made
 pub mod Shown

@@ -1,11 +1,10 @@
 -- The tables of masks as they are made, one scope after another.
 use Rattle.std.specs.Prelude.{ℕ, ◌≡◌, ◌≢◌, ◌<◌, ◌≤◌, ◌+◌, ◌^◌, true, false, List, [], All, length, slice_index_or}
 use Rattle.std.specs.List.{filter}
-use Rattle.assign.specs.Sets.{numbers}
+use Rattle.assign.specs.Sets.{numbers, ones_of}
 use Rattle.rel_table.specs.Relation.{Relation}
 use Rattle.language.specs.Language.{Language, scope_at, relations_on, is_whole}
 use Rattle.language.specs.Pairs.{ArePairTables, IsPairTableOn}
-use Rattle.bias_store.specs.Masks.{ones_of}
 use Rattle.bias_store.specs.Accepting.{mask_in, IsTableOf}
 use Rattle.bias_store.specs.declared.tables.Class.{Class}
 use Rattle.bias_store.specs.declared.tables.Made.{Made}
@@ -25,13 +24,13 @@ abbrev pub AcceptBy : Language → List ℕ → ℕ → ℕ → Type 0
 AcceptBy l tables place mask = (pairs : List Relation) → ArePairTables l pairs → ones_of mask ≡ accepting_by pairs tables place
 
 -- their masks begin here
-pub record AreMasksOf (l : Language) (tables masks : List ℕ) (begin : ℕ) : Type 0 where
+pub record HasMasksAt (l : Language) (tables masks : List ℕ) (begin : ℕ) : Type 0 where
   pub inside : begin + l.value_count ^ 2 ≤ length masks
   pub each : (place : ℕ) → place < l.value_count ^ 2 → AcceptBy l tables place (mask_in masks begin place)
 
 -- those of each class begin where it says
 abbrev pub AreClasses : Language → List Class → List ℕ → Type 0
-AreClasses l classes masks = All (λ (c : Class). AreMasksOf l c.tables.items masks c.begin) classes
+AreClasses l classes masks = All (λ (c : Class). HasMasksAt l c.tables.items masks c.begin) classes
 
 -- for each number of variables the table of the scopes with so many, all of whose variables have all values, begins here, if it was made
 pub record AreBegun (l : Language) (begins masks : List ℕ) : Type 0 where
@@ -39,7 +38,7 @@ pub record AreBegun (l : Language) (begins masks : List ℕ) : Type 0 where
   pub tables : (s : ℕ) → s < length l.scopes → is_whole l s ≡ true → slice_index_or begins (length (scope_at l s)) 0 ≢ NO_TABLE → IsTableOf l s masks (slice_index_or begins (length (scope_at l s)) 0)
 
 -- what was made for some scopes is right
-pub record IsMade (l : Language) (m : Made) : Type 0 where
+pub record IsMadeOfScopes (l : Language) (m : Made) : Type 0 where
   pub classes : AreClasses l m.classes.items m.masks.items
   pub begins : AreBegun l m.begins m.masks.items
 

@@ -1,9 +1,8 @@
 -- A question's values, and what it violates in a row of scopes.
 use Rattle.std.specs.Prelude.{ℕ, ◌≡◌, ◌≢◌, ◌+◌, ◌^◌, ◌<◌, ◌≤◌, true, not, is_some, List, [], Some, None, length, slice_index_or}
 use Rattle.std.specs.List.{filter}
-use Rattle.assign.specs.Sets.{has}
+use Rattle.assign.specs.Sets.{has, ones_of}
 use Rattle.assign.specs.Assignment.{Assignment, value_of}
-use Rattle.bias_store.specs.Masks.{ones_of}
 use Rattle.bias_store.specs.declared.shown.Shown.{Shown}
 
 -- for each number up to 128 the first one from it on that has a value, and this value; or 128

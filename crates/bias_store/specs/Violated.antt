@@ -2,8 +2,8 @@
 use Rattle.std.specs.Prelude.{ℕ, ◌≡◌, ◌≢◌, ◌^◌, ◌<◌, ◌≤◌, Bool, true, List, [], length, slice_index_or}
 use Rattle.std.specs.List.{filter, list_any}
 use Rattle.assign.specs.Assignment.{Assignment}
+use Rattle.assign.specs.Sets.{ones_of}
 use Rattle.language.specs.Language.{Language, IsLanguage, scope_at, violates}
-use Rattle.bias_store.specs.Masks.{ones_of}
 use Rattle.bias_store.specs.declared.tables.Violated.{Violated}
 
 -- of the relations of a mask, those on the scope of this number that the question violates

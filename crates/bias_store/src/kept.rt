@@ -3,8 +3,7 @@
 ghost use Rattle.std.specs.Prelude.{ℕ, ◌≡◌, ◌+◌, ◌<◌, ◌≤◌, ◌↔◌, ◌==◌, IsTrue, true, List, IfOk, Contains, length, take, filter, not};
 ghost use Rattle.std.specs.List.{list_any};
 ghost use Rattle.language.specs.Language.{Language, candidates, violates, IsQuestion};
-ghost use Rattle.assign.specs.Sets.{is_within};
-ghost use Rattle.bias_store.specs.Masks.{ones_of};
+ghost use Rattle.assign.specs.Sets.{is_within, ones_of};
 ghost use Rattle.bias_store.specs.Accepting.{accepting_on, places_on};
 ghost use Rattle.bias_store.specs.KeptSet.{kept_relations, is_struck_within, CoversOnly, IsMadeFor};
 
@@ -32,11 +31,11 @@ impl Model for Kept {
 
     ghost Value = { KeptSet };
 
-    ghost use Rattle.bias_store.specs.Inside.{seen, IsCounted};
+    ghost use Rattle.bias_store.specs.Inside.{seen, CountsCandidates};
 
     ghost view = { seen };
 
-    ghost invariant = { IsCounted };
+    ghost invariant = { CountsCandidates };
 }
 
 impl Kept {

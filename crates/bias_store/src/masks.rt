@@ -1,8 +1,7 @@
 //! Sets of relations on a scope, each a mask of 64 bits.
 
 ghost use Rattle.std.specs.Prelude.{◌≡◌, ◌≢◌, ◌≤◌, ◌∷◌, length};
-ghost use Rattle.assign.specs.Sets.{numbers, has};
-ghost use Rattle.bias_store.specs.Masks.{ones_of};
+ghost use Rattle.assign.specs.Sets.{numbers, has, ones_of};
 
 /// The first so many relations.
 pub(crate) fn first_relations(count: u8) -> u64

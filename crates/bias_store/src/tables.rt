@@ -4,15 +4,14 @@ ghost use Rattle.std.specs.Prelude.{ℕ, ◌==◌, ◌≡◌, ◌≢◌, ◌+◌
 ghost use Rattle.std.specs.Int.{bit_at};
 ghost use Rattle.std.specs.List.{filter};
 ghost use Rattle.std.specs.Option.{ForSome};
-ghost use Rattle.assign.specs.Sets.{numbers};
+ghost use Rattle.assign.specs.Sets.{numbers, ones_of};
 ghost use Rattle.assign.specs.Assignment.{Assignment, value_of};
 ghost use Rattle.rel_table.specs.Relation.{tuple_at};
 ghost use Rattle.language.specs.Language.{variable_count, range_of, scope_at, place_on, IsLanguage, IsQuestion};
 ghost use Rattle.language.specs.Ranges.{is_in, are_in};
 ghost use Rattle.language.specs.Pairs.{IsPairTable};
-ghost use Rattle.bias_store.specs.Masks.{ones_of};
 ghost use Rattle.bias_store.specs.Accepting.{accepting_on, places_on, first_of, Accepts, AreRunsFrom, IsRow, AreRowsFrom, IsTableOf, IsAcceptingOf, AreAdded, AreRowsAt};
-ghost use Rattle.bias_store.specs.Made.{HasTables, AcceptBy, AreClasses, IsMade, AreWider};
+ghost use Rattle.bias_store.specs.Made.{HasTables, AcceptBy, AreClasses, IsMadeOfScopes, AreWider};
 ghost use Rattle.bias_store.specs.Shown.{IsShown};
 ghost use Rattle.bias_store.specs.Violated.{violated_on, AreNoneViolated, IsViolated, AreHitsListed};
 
@@ -354,11 +353,11 @@ impl Made {
     /// Where the table of a scope of two variables begins, if it has one. The first of a class has it made, unless there are many.
     fn pair_begin(&mut self, alloc: Global, lang: &Language, s: ScopeId) -> Result<u32, Memory>
         requires lawful { IsLanguage lang.now }
-        requires made { IsMade lang.now self.old }
+        requires made { IsMadeOfScopes lang.now self.old }
         requires scope { s < length lang.now.scopes }
         requires two { length (scope_at lang.now s) ≡ 2 }
         requires room { length self.old.masks.items ≤ 65536 * s }
-        ensures made { OnOk result (IsMade lang.now self.new) }
+        ensures made { OnOk result (IsMadeOfScopes lang.now self.new) }
         ensures wider { OnOk result (AreWider self.old.masks.items self.new.masks.items) }
         ensures room { OnOk result (length self.new.masks.items ≤ 65536 * (s + 1)) }
         ensures table { IfOk result (λ begin. begin ≢ NO_TABLE → IsTableOf lang.now s self.new.masks.items begin) }
@@ -378,10 +377,10 @@ impl Made {
     /// Where the table of a scope begins, if it has one: of its own, unless it has two variables.
     fn new_begin(&mut self, alloc: Global, lang: &Language, s: ScopeId) -> Result<u32, Memory>
         requires lawful { IsLanguage lang.now }
-        requires made { IsMade lang.now self.old }
+        requires made { IsMadeOfScopes lang.now self.old }
         requires scope { s < length lang.now.scopes }
         requires room { length self.old.masks.items ≤ 65536 * s }
-        ensures made { OnOk result (IsMade lang.now self.new) }
+        ensures made { OnOk result (IsMadeOfScopes lang.now self.new) }
         ensures wider { OnOk result (AreWider self.old.masks.items self.new.masks.items) }
         ensures room { OnOk result (length self.new.masks.items ≤ 65536 * (s + 1)) }
         ensures table { IfOk result (λ begin. begin ≢ NO_TABLE → IsTableOf lang.now s self.new.masks.items begin) }
@@ -400,10 +399,10 @@ impl Made {
     /// Where the table of a scope begins, if it has one.
     fn begin(&mut self, alloc: Global, lang: &Language, s: ScopeId) -> Result<u32, Memory>
         requires lawful { IsLanguage lang.now }
-        requires made { IsMade lang.now self.old }
+        requires made { IsMadeOfScopes lang.now self.old }
         requires scope { s < length lang.now.scopes }
         requires room { length self.old.masks.items ≤ 65536 * s }
-        ensures made { OnOk result (IsMade lang.now self.new) }
+        ensures made { OnOk result (IsMadeOfScopes lang.now self.new) }
         ensures wider { OnOk result (AreWider self.old.masks.items self.new.masks.items) }
         ensures room { OnOk result (length self.new.masks.items ≤ 65536 * (s + 1)) }
         ensures table { IfOk result (λ begin. begin ≢ NO_TABLE → IsTableOf lang.now s self.new.masks.items begin) }

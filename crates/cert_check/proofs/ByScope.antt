@@ -1,14 +1,13 @@
 -- What one answer more tells of all candidates.
-use Rattle.cert_check.proofs.Prelude.{◌≡◌, ℕ, zero, suc, ◌+◌, ◌-◌, ◌<◌, ◌≤◌, ◌^◌, Bool, true, false, cond, not, ◌&&◌, ◌||◌, List, [], ◌∷◌, length, take, get_or, Option, Some, None, refl, sym, ◌∙◌, ap, subst, arith, inl, inr, ◌⊎◌, get_or-set_same, get_or-set_other, ◌↔◌, ◌==◌, All, Contains, IfSome, bit_or, slice_set, slice_index_or, unwrap_or, filter, list_any, and_from, and_parts, both_ways, cases_eq, eq-eqb, false_from_ne_true, not-true, length-set, bit_at-zero, All-contains, list_any_at, list_any_more, list_all-from_AllPass, has, is_same, is_within, is_one, is_one-or, Assignment, covers, variables_of, Answer, Candidate, Language, IsLanguage, IsCandidate, candidates, number_of, place_on, relations_on, scope_at, scope_number, scope_of, violates, is_struck, numbered, covered_within, same_scope, filter_all, any_number, is_spared, AreSpared, IsSparedOn, is_no_about, unstruck}
+use Rattle.cert_check.proofs.Prelude.{◌≡◌, ℕ, zero, suc, ◌+◌, ◌-◌, ◌<◌, ◌≤◌, ◌^◌, Bool, true, false, cond, not, ◌&&◌, ◌||◌, List, [], ◌∷◌, length, take, get_or, Option, Some, None, refl, sym, ◌∙◌, ap, subst, arith, inl, inr, ◌⊎◌, get_or-set_same, get_or-set_other, ◌↔◌, ◌==◌, All, Contains, IfSome, bit_or, slice_set, slice_index_or, unwrap_or, filter, list_any, and_from, and_parts, both_ways, cases_eq, eq-eqb, false_from_ne_true, not-true, length-set, bit_at-zero, All-contains, list_any_at, list_any_more, list_all-from_AllPass, has, is_same, is_within, is_one, is_one-or, Assignment, covers, variables_of, Answer, Candidate, Language, IsLanguage, IsCandidate, candidates, number_of, place_on, relations_on, scope_at, scope_number, scope_of, violates, is_struck, numbered, covered_within, same_scope, filter_all, any_number, is_spared, AreSpared, IsSparedOn, is_no_about, unstruck, list_same, same_list}
 use Rattle.bias_store.specs.Accepting.{accepting_on}
-use Rattle.bias_store.specs.Masks.{ones_of}
 use Rattle.bias_store.proofs.Bits.{accepting_bit}
-use Rattle.bias_store.proofs.Ones.{has-ones_of, ones_of-first}
 use Rattle.bias_store.proofs.Picked.{bare, covered}
 use Rattle.cert_check.proofs.Finding.{all_fail}
-use Rattle.cert_check.proofs.Verdicts.{same_itself, same_list}
 use Rattle.std.proofs.lemmas.List.Elements.{filter_agree}
 use Rattle.shared_lemmas.proofs.Lists.{filter_and}
+use Rattle.assign.specs.Sets.{ones_of}
+use Rattle.assign.proofs.Ones.{has-ones_of, ones_of-first}
 
 -- ---- what a filter keeps
 
@@ -97,7 +96,7 @@ module _ (l : Language) (lawful : IsLanguage l) where
 
   pub about_found : (a : Answer) (found : Option ℕ) → a.yes ≡ false → IfSome found (λ s. scope_at l s ≡ variables_of a.question) → IfSome found (λ s. is_no_about l s a ≡ true)
   about_found a None denied there = there
-  about_found a (Some s) denied there = and_from (not a.yes) _ (ap not denied) (subst (λ (xs : List ℕ). is_same (variables_of a.question) xs ≡ true) (sym there) (same_itself (variables_of a.question)))
+  about_found a (Some s) denied there = and_from (not a.yes) _ (ap not denied) (subst (λ (xs : List ℕ). is_same (variables_of a.question) xs ≡ true) (sym there) (list_same (variables_of a.question)))
 
   pub only_scope : (a : Answer) (found : Option ℕ) → found ≡ scope_number l (variables_of a.question) → IfSome found (λ s. s < length l.scopes) → IfSome found (λ s. scope_at l s ≡ variables_of a.question) →
       (s : ℕ) → s < length l.scopes → is_no_about l s a ≡ true → found ≡ Some s

@@ -1,5 +1,5 @@
 -- Each list of bytes is read as a certificate, or is refused.
-use Rattle.cert_check.proofs.Prelude.{◌≡◌, ℕ, ◌<◌, ◌≤◌, false, List, length, Some, Result, Ok, Err, refl, sym, ◌∙◌, subst, ◌⊎◌, inl, inr, cases_lt, none-some, same_Some, Language, VocFault, IsVocabulary, refusal_of_vocabulary, not_refused, CertFault, TooLong, BadLine, Voc, Memory, Certificate, Unread, MOST_CERTIFICATE, vocabulary_in, certificate_in, IsRead, IsUnreadable, wants_memory, EachIsReadOrRefused}
+use Rattle.cert_check.proofs.Prelude.{◌≡◌, ℕ, ◌<◌, ◌≤◌, false, List, length, Some, Result, Ok, Err, refl, sym, ◌∙◌, subst, ◌⊎◌, inl, inr, cases_lt, none-some, same_Some, Language, VocFault, IsVocabulary, refusal_of_vocabulary, not_refused, CertFault, TooLong, BadLine, Voc, Memory, Certificate, Unread, MOST_CERTIFICATE, vocabulary_in, certificate_in, IsRead, IsUnreadable, wants_memory, EachCertificateIsReadOrRefused}
 use Rattle.voc_read.specs.Want.{wants_memory as voc_wants}
 use Rattle.voc_read.proofs.EachText.{each_text as each_vocabulary}
 use Rattle.cert_check.proofs.Faults.{unread_before, unread_behind, read_behind}
@@ -44,5 +44,5 @@ by_length : (bytes : List ℕ) → (MOST_CERTIFICATE < length bytes) ⊎ (length
 by_length bytes (inl long) = refused bytes TooLong long
 by_length bytes (inr short) = short_told bytes short (vocabulary_in bytes) refl
 
-pub each_text : EachIsReadOrRefused
+pub each_text : EachCertificateIsReadOrRefused
 each_text bytes = by_length bytes (cases_lt MOST_CERTIFICATE (length bytes))

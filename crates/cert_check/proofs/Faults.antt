@@ -1,5 +1,5 @@
 -- What a reading answers that isn't a certificate: a bad line, and no other fault.
-use Rattle.cert_check.proofs.Prelude.{◌≡◌, ℕ, zero, suc, ◌≤◌, ◌&&◌, Bool, true, false, cond, List, length, get_or, Option, Some, None, Result, Ok, Err, refl, sym, subst, eqb, ltb, inl, inr, ◌≢◌, IfOk, IfErr, codes, ok_or, bytes_eq, Language, MOST_VOCABULARY, IsVocabulary, CertFault, TooLong, BadLine, Voc, Memory, Certificate, Reads, ◌>>=◌, Unread, MOST_CERTIFICATE, MOST_ANSWERS, line_in, next_line, behind_line, lines_in, block_in, vocabulary_in, end_in, certificate_in, count_up_to, count_in, answer_lines, item_lines, listed_lines, IsRead, IsUnreadable}
+use Rattle.cert_check.proofs.Prelude.{◌≡◌, ℕ, zero, suc, ◌≤◌, ◌&&◌, Bool, true, false, cond, List, length, get_or, Option, Some, None, Result, Ok, Err, refl, sym, subst, eqb, ltb, inl, inr, ◌≢◌, IfOk, IfErr, codes, ok_or, bytes_eq, Language, MOST_VOCABULARY, IsVocabulary, CertFault, TooLong, BadLine, Voc, Memory, Certificate, Reads, ◌>>=◌, Unread, MOST_CERTIFICATE, MOST_ANSWERS, line_in, next_line, behind_line, lines_in, block_in, vocabulary_in, last_line_in, certificate_in, count_up_to, count_in, answers_read, item_lines, listed_lines, IsRead, IsUnreadable}
 
 -- ---- Nothing else than a bad line is told
 
@@ -53,20 +53,20 @@ vocabulary_tells bytes =
     then_tells (behind_line (codes "QUACQCERT1") (record { line = 0; bytes = bytes })) _ (behind_tells (codes "QUACQCERT1") (record { line = 0; bytes = bytes })) (λ first.
     then_tells (next_line (count_up_to MOST_VOCABULARY (codes "vocabulary")) first) _ (next_tells (count_up_to MOST_VOCABULARY (codes "vocabulary")) first) (λ size. block_tells size.0 size.1))
 
-end_tells : (unread : Unread) → TellsLine (end_in unread)
-unfolding end_in
+end_tells : (unread : Unread) → TellsLine (last_line_in unread)
+unfolding last_line_in
 end_tells unread = then_tells (behind_line (codes "end") unread) _ (behind_tells (codes "end") unread) (λ behind. cond_tells (eqb (length behind.bytes) 0) tt behind.line)
 
 certificate_tells : (l : Language) (unread : Unread) → TellsLine (certificate_in l unread)
 unfolding certificate_in
 certificate_tells l unread =
     then_tells (next_line (count_up_to MOST_ANSWERS (codes "answers")) unread) _ (next_tells _ unread) (λ m.
-    then_tells (answer_lines l m.0 m.1) _ (lines_tell _ _ 0 m.0 m.1) (λ answers.
+    then_tells (answers_read l m.0 m.1) _ (lines_tell _ _ 0 m.0 m.1) (λ answers.
     then_tells (next_line (count_in (codes "network")) answers.1) _ (next_tells _ answers.1) (λ k.
     then_tells (item_lines l k.0 k.1) _ (lines_tell _ _ 0 k.0 k.1) (λ network.
     then_tells (next_line (count_in (codes "implied")) network.1) _ (next_tells _ network.1) (λ j.
     then_tells (listed_lines l (length network.0) j.0 j.1) _ (lines_tell _ _ 0 j.0 j.1) (λ refutations.
-    then_tells (end_in refutations.1) _ (end_tells refutations.1) (λ last. tt)))))))
+    then_tells (last_line_in refutations.1) _ (end_tells refutations.1) (λ last. tt)))))))
 
 -- ---- The language is kept
 
@@ -82,12 +82,12 @@ certificate_has : (l : Language) (unread : Unread) → HasLanguage l (certificat
 unfolding certificate_in
 certificate_has l unread =
     then_has l (next_line (count_up_to MOST_ANSWERS (codes "answers")) unread) _ (λ m.
-    then_has l (answer_lines l m.0 m.1) _ (λ answers.
+    then_has l (answers_read l m.0 m.1) _ (λ answers.
     then_has l (next_line (count_in (codes "network")) answers.1) _ (λ k.
     then_has l (item_lines l k.0 k.1) _ (λ network.
     then_has l (next_line (count_in (codes "implied")) network.1) _ (λ j.
     then_has l (listed_lines l (length network.0) j.0 j.1) _ (λ refutations.
-    then_has l (end_in refutations.1) _ (λ last. refl)))))))
+    then_has l (last_line_in refutations.1) _ (λ last. refl)))))))
 
 -- ---- The whole
 

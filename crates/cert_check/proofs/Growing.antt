@@ -1,5 +1,5 @@
 -- How the writing of a tree goes on.
-use Rattle.cert_check.proofs.Prelude.{◌≡◌, ℕ, ◌+◌, ◌<◌, ◌≤◌, Bool, true, false, List, [], ◌∷◌, ◌++◌, length, refl, sym, ◌∙◌, ap, subst, arith, append_assoc, position, flat_map, append-nil, flat_map-append, lt-ltb, ltb-true, false_from_ne_true, Assignment, Candidate, Language, IsLanguage, IsCandidate, IsImplied, variable_count, violates, satisfies, plain_size, Token, Branch, Sheet, is_long, children, Adds, branches, node_of, node_at, tree_of, later, ahead, IsAt, token_text}
+use Rattle.cert_check.proofs.Prelude.{◌≡◌, ℕ, ◌+◌, ◌<◌, ◌≤◌, Bool, true, false, List, [], ◌∷◌, ◌++◌, length, refl, sym, ◌∙◌, ap, subst, arith, append_assoc, position, flat_map, append-nil, flat_map-append, lt-ltb, ltb-true, false_from_ne_true, Assignment, Candidate, Language, IsLanguage, IsCandidate, IsImplied, variable_count, violates, satisfies, plain_size, Token, Branch, Sheet, is_long, children, AddsPiece, branches, node_of, node_at, tree_of, later, ahead, IsPrefixAt, token_text}
 use Rattle.cert_check.proofs.Sheets.{adds_none, adds_more, adds_as}
 use Rattle.cert_check.proofs.Trees.{branches_both, forest, forest_step, forest_begins, branches_are_plain, branch_has_room}
 use Rattle.cert_check.proofs.Walking.{later_none}
@@ -9,13 +9,13 @@ pub record IsWritten (l : Language) (network : List Candidate) (c : Candidate) (
   pub front : List Token
   pub whole : front ++ forest l network c left ≡ tree_of l network c
   pub counted : branches front ≡ count
-  pub added : Adds old (flat_map token_text front) new
+  pub added : AddsPiece old (flat_map token_text front) new
 
 module _ (l : Language) (network : List Candidate) (c : Candidate) where
-  pub node_is : (values : List ℕ) (e : Assignment) (token : Token) → IsAt l c values e → token ≡ node_of (position (λ d. violates l d e) network) (satisfies l c e) → token ≡ node_at l network c values
+  pub node_is : (values : List ℕ) (e : Assignment) (token : Token) → IsPrefixAt l c values e → token ≡ node_of (position (λ d. violates l d e) network) (satisfies l c e) → token ≡ node_at l network c values
   node_is values e token at is = is ∙ ap (λ (x : Assignment). node_of (position (λ d. violates l d x) network) (satisfies l c x)) at.is
 
-  pub has_room : IsLanguage l → IsCandidate l c → IsImplied l network c → (values : List ℕ) (e : Assignment) (token : Token) → IsAt l c values e → token ≡ node_at l network c values → token ≡ Branch → length values < variable_count l
+  pub has_room : IsLanguage l → IsCandidate l c → IsImplied l network c → (values : List ℕ) (e : Assignment) (token : Token) → IsPrefixAt l c values e → token ≡ node_at l network c values → token ≡ Branch → length values < variable_count l
   has_room lawful is implied values e token at node branch = branch_has_room l network c lawful is implied values at.small at.ranged at.short (sym node ∙ branch)
 
   pub writing_begins : (sheet : Sheet) (values : List ℕ) → values ≡ [] → IsWritten l network c sheet sheet 0 (ahead true l c values)
@@ -45,7 +45,7 @@ module _ (l : Language) (network : List Candidate) (c : Candidate) where
       omega (arith, all, so_far)
 
   pub goes_on : (old mid new : Sheet) (count : ℕ) (is_open : Bool) (values : List ℕ) (token : Token) (next : List (List ℕ)) → is_open ≡ true → token ≡ node_at l network c values → (token ≡ Branch → length values < variable_count l) →
-      children l c values token ++ later l c values ≡ next → Adds mid (token_text token) new → IsWritten l network c old mid count (ahead is_open l c values) →
+      children l c values token ++ later l c values ≡ next → AddsPiece mid (token_text token) new → IsWritten l network c old mid count (ahead is_open l c values) →
       IsWritten l network c old new (count + branches (token ∷ [])) next
   goes_on old mid new count is_open values token next h node room follows here written = record {
     front = written.front ++ token ∷ [];
@@ -76,5 +76,5 @@ module _ (l : Language) (network : List Candidate) (c : Candidate) where
       let all : count ≡ plain_size l network c = sym w.counted ∙ ap branches (front_is old new count is_open values h w) ∙ branches_are_plain l network c lawful is in
       sym (false_from_ne_true _ (λ over. (let past = ltb-true budget (plain_size l network c) over in omega (arith, past, all, few))))
 
-  pub whole_added : (old new : Sheet) (count : ℕ) (is_open : Bool) (values : List ℕ) → is_open ≡ false → IsWritten l network c old new count (ahead is_open l c values) → Adds old (flat_map token_text (tree_of l network c)) new
+  pub whole_added : (old new : Sheet) (count : ℕ) (is_open : Bool) (values : List ℕ) → is_open ≡ false → IsWritten l network c old new count (ahead is_open l c values) → AddsPiece old (flat_map token_text (tree_of l network c)) new
   whole_added old new count is_open values h w = adds_as old new (flat_map token_text w.front) (flat_map token_text (tree_of l network c)) (ap (flat_map token_text) (front_is old new count is_open values h w)) w.added

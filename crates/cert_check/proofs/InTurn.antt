@@ -36,10 +36,6 @@ regroup : {A : Type 0} (front : List A) (x : A) (read : Result (List A × Unread
 regroup front x (Ok y) = ap (λ xs. Ok (xs, y.1)) (sym (append_assoc front (x ∷ []) y.0))
 regroup front x (Err fault) = refl
 
-pub lines_begin : {A : Type 0} (read : Result (List A × Unread) CertFault) → with_front [] read ≡ read
-lines_begin (Ok x) = refl
-lines_begin (Err fault) = refl
-
 pub lines_go_on : {A : Type 0} (form : ℕ → List ℕ → Option A) (next : A → ℕ) (front : List A) (least count i : ℕ) (unread : Unread) (x : A) (behind : Unread) (total : Result (List A × Unread) CertFault) → i < count → next_line (form least) unread ≡ Ok (x, behind)
     → with_front front (lines_in form next least (count - i) unread) ≡ total → with_front (front ++ x ∷ []) (lines_in form next (next x) (count - (i + 1)) behind) ≡ total
 unfolding lines_in
@@ -75,10 +71,6 @@ with_tokens front read = option_map (λ more. front ++ more) read
 tokens_regroup : (front : List Token) (token : Token) (read : Option (List Token)) → with_tokens front (option_map (λ more. token ∷ more) read) ≡ with_tokens (front ++ token ∷ []) read
 tokens_regroup front token (Some more) = ap Some (sym (append_assoc front (token ∷ []) more))
 tokens_regroup front token None = refl
-
-pub tokens_begin : (read : Option (List Token)) → with_tokens [] read ≡ read
-tokens_begin (Some more) = refl
-tokens_begin None = refl
 
 pub tokens_go_on : (items : ℕ) (front : List Token) (word : List ℕ) (words : List (List ℕ)) (token : Token) → token_in items word ≡ Some token → with_tokens front (tokens_in items (word ∷ words)) ≡ with_tokens (front ++ token ∷ []) (tokens_in items words)
 unfolding tokens_in

@@ -1,5 +1,5 @@
 -- The lines of items and of listed candidates are read as those.
-use Rattle.cert_check.proofs.Prelude.{◌≡◌, ℕ, ◌+◌, ◌<◌, ◌≤◌, ◌^◌, ◌&&◌, false, cond, List, [], ◌∷◌, ◌++◌, length, map, Some, refl, sym, ◌∙◌, ap, arith, append_assoc, inl, inr, All, ◌==◌, codes, decimal, flat_map, option_map, option_and_then, bytes_eq, All-nil, All-cons, All-head, All-tail, Candidate, Language, IsLanguage, IsCandidate, candidates, relations_on, count_few, Token, Branch, Holds, Item, Refutation, decimal_below, item_in, token_in, tokens_in, listed_of, listed_in, item_line, listed_line, token_text, IsNodeOver, Lacks, lacks_by, lacks_both, lacks_first, cut_found, spaced, spaced_lacks, words_joined, decimal_lacks, below_read, from_read}
+use Rattle.cert_check.proofs.Prelude.{◌≡◌, ℕ, ◌+◌, ◌<◌, ◌≤◌, ◌^◌, ◌&&◌, false, cond, List, [], ◌∷◌, ◌++◌, length, map, Some, refl, sym, ◌∙◌, ap, arith, append_assoc, inl, inr, All, ◌==◌, codes, decimal, flat_map, option_map, option_and_then, bytes_eq, All-nil, All-cons, All-head, All-tail, Candidate, Language, IsLanguage, IsCandidate, candidates, relations_on, count_few, Token, Branch, Holds, Item, Refutation, decimal_below, item_in, token_in, tokens_in, listed_of, item_listed_in, item_line, listed_line, token_text, IsNodeOver, Lacks, lacks_by, lacks_both, lacks_first, cut_found, spaced, spaced_lacks, words_joined, decimal_lacks, below_read, from_read}
 use Rattle.cert_check.proofs.LinesBack.{Says}
 
 -- ---- Items
@@ -77,7 +77,7 @@ module _ (items : ℕ) (few : items < 2 ^ 32) where
   abbrev refutation_of : ℕ → List Token → Refutation
   refutation_of c tokens = record { candidate = c; tokens = tokens }
 
-  pub listed_said : (l : Language) (least : ℕ) (r : Refutation) → IsLanguage l → least ≤ r.candidate → r.candidate < length (candidates l) → All (IsNodeOver items) r.tokens → Says (listed_in l items least) (listed_line r) r
+  pub listed_said : (l : Language) (least : ℕ) (r : Refutation) → IsLanguage l → least ≤ r.candidate → r.candidate < length (candidates l) → All (IsNodeOver items) r.tokens → Says (item_listed_in l items least) (listed_line r) r
   listed_said l least r lawful from known nodes =
       let most = count_few l (length l.scopes) lawful.few_relations in
       let few_scopes = lawful.few_scopes in

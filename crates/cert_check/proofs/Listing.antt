@@ -1,5 +1,5 @@
 -- The candidates that are listed, and the first of them whose tree is too long.
-use Rattle.cert_check.proofs.Prelude.{◌≡◌, ℕ, zero, suc, ◌+◌, ◌<◌, ◌≤◌, Bool, true, false, cond, not, ◌&&◌, List, [], ◌∷◌, ◌++◌, length, take, get_or, map, Option, Some, None, Err, refl, sym, ◌∙◌, ap, arith, inl, inr, ◌⊎◌, All, IsTrue, find, codes, filter, flat_map, append-nil, length-map, take_all, All-head, All-tail, filter_more, flat_map-map, and_parts, both_ways, not-true, Answer, Candidate, Language, IsCandidate, IsImplied, number_of, IsCovered, is_struck, has_scope, MakeFault, Long, Sheet, IsFirstLong, is_long, fitting, made_within, refutation_of, Adds, count_line, listed_line, implied_section}
+use Rattle.cert_check.proofs.Prelude.{◌≡◌, ℕ, zero, suc, ◌+◌, ◌<◌, ◌≤◌, Bool, true, false, cond, not, ◌&&◌, List, [], ◌∷◌, ◌++◌, length, take, get_or, map, Option, Some, None, Err, refl, sym, ◌∙◌, ap, arith, inl, inr, ◌⊎◌, All, IsTrue, find, codes, filter, flat_map, append-nil, length-map, take_all, All-head, All-tail, filter_more, flat_map-map, and_parts, both_ways, not-true, Answer, Candidate, Language, IsCandidate, IsImplied, number_of, IsCovered, is_struck, has_scope, MakeFault, Long, Sheet, IsFirstLong, is_long, fitting_text, made_within, refutation_of, AddsPiece, count_line, listed_line, implied_section}
 use Rattle.std.specs.Prelude.{option_map}
 use Rattle.cert_check.proofs.Sheets.{adds_as}
 
@@ -46,18 +46,11 @@ find_at p (y ∷ xs) (suc i) x low is passes before = find_first p y xs false (A
 -- ---- the section
 
 pub section_added : (l : Language) (network listed : List Candidate) (a b : Sheet) →
-    Adds a (count_line (codes "implied") (length listed) ++ flat_map (λ c. listed_line (refutation_of l network c)) listed) b → Adds a (implied_section (map (refutation_of l network) listed)) b
+    AddsPiece a (count_line (codes "implied") (length listed) ++ flat_map (λ c. listed_line (refutation_of l network c)) listed) b → AddsPiece a (implied_section (map (refutation_of l network) listed)) b
 section_added l network listed a b h = adds_as a b _ (implied_section (map (refutation_of l network) listed))
     (λ i. count_line (codes "implied") (sym (length-map listed (refutation_of l network)) i) ++ sym (flat_map-map listed_line (refutation_of l network) listed) i) h
 
 -- ---- what is made
 
-pub long_is_made : (l : Language) (network listed : List Candidate) (budget : ℕ) (text : List ℕ) (fault : MakeFault) → IsFirstLong l network listed budget fault → made_within (option_map (number_of l) (find (is_long l network budget) listed)) text ≡ Err fault
-long_is_made l network listed budget text fault h = go (find (is_long l network budget) listed) h
-  where
-    go : (o : Option Candidate) → option_map (λ c. Long (number_of l c)) o ≡ Some fault → made_within (option_map (number_of l) o) text ≡ Err fault
-    go None h = absurd (let no : ⊥ = cc in no)
-    go (Some c) h = let same : Long (number_of l c) ≡ fault = cc in ap Err same
-
-pub text_is_made : (l : Language) (network listed : List Candidate) (budget : ℕ) (text : List ℕ) → find (is_long l network budget) listed ≡ None → made_within (option_map (number_of l) (find (is_long l network budget) listed)) text ≡ fitting text
+pub text_is_made : (l : Language) (network listed : List Candidate) (budget : ℕ) (text : List ℕ) → find (is_long l network budget) listed ≡ None → made_within (option_map (number_of l) (find (is_long l network budget) listed)) text ≡ fitting_text text
 text_is_made l network listed budget text none = ap (λ o. made_within (option_map (number_of l) o) text) none

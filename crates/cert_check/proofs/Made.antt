@@ -1,8 +1,9 @@
 -- The certificate that is made is good.
-use Rattle.cert_check.proofs.Prelude.{◌≡◌, ℕ, zero, suc, ◌-◌, ◌<◌, ◌≤◌, Bool, true, false, ◌&&◌, List, [], ◌∷◌, ◌++◌, length, map, Option, Some, None, refl, sym, ◌∙◌, ap, subst, arith, inl, inr, ◌⊎◌, append_assoc, length-append, ◌==◌, All, IsTrue, position, slice_index_or, flat_map, option_map_or, append-nil, All-head, All-tail, All-nil, All-append, All-push, All-map, All-filter, filter_passes, position-Some, slice_get-get_or, and_from, not_from_false, lt-ltb, eq-eqb, numbers, Answer, Candidate, Language, IsLanguage, IsCandidate, IsImplied, variable_count, values_of, relations_on, candidates_on, candidates, number_of, violates, IsCovered, is_struck, has_scope, kept, order_of, assignment_of, satisfies, numbered, all_below, any-filter, any-map, any_candidate, Token, Branch, Holds, Item, Refutation, is_earned, has_refutation, IsGood, refutation_of, is_lawful, children, are_trees, refutes, node_of, node_at, tree_from, tree_of}
+use Rattle.cert_check.proofs.Prelude.{◌≡◌, ℕ, zero, suc, ◌-◌, ◌<◌, ◌≤◌, Bool, true, false, ◌&&◌, List, [], ◌∷◌, ◌++◌, length, map, Option, Some, None, refl, sym, ◌∙◌, ap, subst, arith, inl, inr, ◌⊎◌, append_assoc, length-append, ◌==◌, All, IsTrue, position, slice_index_or, flat_map, option_map_or, append-nil, All-head, All-tail, All-nil, All-append, All-push, All-map, All-filter, filter_passes, position-Some, slice_get-get_or, and_from, not_from_false, lt-ltb, eq-eqb, numbers, Answer, Candidate, Language, IsLanguage, IsCandidate, IsImplied, variable_count, values_of, relations_on, candidates_on, candidates, number_of, violates, IsCovered, is_struck, has_scope, kept, order_of, assignment_of, satisfies, numbered, all_below, any-filter, any-map, any_candidate, Token, Branch, Holds, Item, Refutation, is_earned, has_refutation, IsGood, refutation_of, is_lawful_node, children, are_trees, refutes, node_of, node_at, tree_from, tree_of}
 use Rattle.cert_check.proofs.Listing.{is_kept, implied_if_kept}
 use Rattle.cert_check.proofs.Trees.{branch_has_room, no_children}
 use Rattle.cert_check.proofs.Within.{IsNext, IsRanged, all_next, ranged_none, ranged_longer}
+use Rattle.language.proofs.Members.{all_candidates}
 
 -- ---- the tree of an implied candidate refutes it
 
@@ -13,10 +14,10 @@ module _ (l : Language) (network : List Candidate) (c : Candidate) (lawful : IsL
     ranged : IsRanged l c prefix
     short : length prefix ≤ variable_count l
 
-  lawful_node : (prefix : List ℕ) → Fits prefix → is_lawful l network c prefix (node_at l network c prefix) ≡ true
+  lawful_node : (prefix : List ℕ) → Fits prefix → is_lawful_node l network c prefix (node_at l network c prefix) ≡ true
   lawful_node prefix fits = go (position (λ d. violates l d (assignment_of l c prefix)) network) refl (satisfies l c (assignment_of l c prefix)) refl
     where
-      go : (o : Option ℕ) → position (λ d. violates l d (assignment_of l c prefix)) network ≡ o → (b : Bool) → satisfies l c (assignment_of l c prefix) ≡ b → is_lawful l network c prefix (node_of o b) ≡ true
+      go : (o : Option ℕ) → position (λ d. violates l d (assignment_of l c prefix)) network ≡ o → (b : Bool) → satisfies l c (assignment_of l c prefix) ≡ b → is_lawful_node l network c prefix (node_of o b) ≡ true
       go (Some i) e b s =
           let none : Candidate = record { scope = 0; rel = 0 } in
           let found = position-Some (λ d. violates l d (assignment_of l c prefix)) network i none e in
@@ -66,17 +67,8 @@ module _ (l : Language) (network : List Candidate) (c : Candidate) (lawful : IsL
 
 -- ---- what is listed
 
-pub all_flat : {X Y : Type 0} (P : Y → Type 0) (f : X → List Y) (xs : List X) → All (λ x. All P (f x)) xs → All P (flat_map f xs)
-all_flat P f [] h = All-nil P
-all_flat P f (x ∷ xs) h = All-append P (f x) (flat_map f xs) (All-head (λ y. All P (f y)) x xs h) (all_flat P f xs (All-tail (λ y. All P (f y)) x xs h))
-
-candidates_known : (l : Language) → All (IsCandidate l) (candidates l)
-candidates_known l = all_flat (IsCandidate l) (candidates_on l) (numbers (length l.scopes)) (all_below (λ s. All (IsCandidate l) (candidates_on l s)) (length l.scopes) (λ s low.
-    All-map (IsCandidate l) (λ (r : ℕ). let c : Candidate = record { scope = s; rel = r } in c) (numbers (length (relations_on l s)))
-    (all_below (λ (r : ℕ). IsCandidate l (record { scope = s; rel = r })) (length (relations_on l s)) (λ r few. record { scope = low; rel = few }))))
-
 pub all_kept : (l : Language) (t : List Answer) (network : List Candidate) (Q : Candidate → Type 0) → ((c : Candidate) → IsCandidate l c → is_kept l t network c ≡ true → Q c) → All Q (kept l t network)
-all_kept l t network Q h = λ k d low. h _ (All-filter (is_kept l t network) (IsCandidate l) (candidates l) (candidates_known l) k d low) (filter_passes (is_kept l t network) (candidates l) k d low)
+all_kept l t network Q h = λ k d low. h _ (All-filter (is_kept l t network) (IsCandidate l) (candidates l) (all_candidates l) k d low) (filter_passes (is_kept l t network) (candidates l) k d low)
 
 pub made_is_good : (l : Language) (network : List Candidate) (t : List Answer) → IsLanguage l → IsCovered l network t → IsGood l network t (map (refutation_of l network) (kept l t network))
 made_is_good l network t lawful covered = record {

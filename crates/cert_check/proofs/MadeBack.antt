@@ -1,12 +1,12 @@
 -- The text that is made for a covered network is read as the certificate that was made, and a check confirms it.
 use Rattle.cert_check.proofs.Prelude.{◌≡◌, ℕ, zero, suc, ◌+◌, ◌<◌, ◌≤◌, Bool, true, false, cond, List, [], ◌∷◌, ◌++◌, length, map, Option, Some, None, Result, Ok, Err, refl, sym, subst, arith, All, nat_lt, position, filter, flat_map, range_with_len, ltb-false, length-map, All-nil, All-cons, All-map, numbers, Candidate, Language, candidates, candidates_on, number_of, relations_on, violates, kept, assignment_of, satisfies, count, count_few, count_more, length-candidates_on, numbered, MakeFault, TooLarge, Token, Certificate, certificate_of, first_long, made_within, refutation_of, MOST_CERTIFICATE, IsRead, children, node_of, node_at, tree_from, certificate_text, IsNodeOver, MadeIsConfirmed}
 use Rattle.cert_check.proofs.Listing.{is_kept}
-use Rattle.cert_check.proofs.Made.{all_flat, all_kept, made_is_good}
+use Rattle.cert_check.proofs.Made.{all_kept, made_is_good}
 use Rattle.cert_check.proofs.Scopes.{few_items}
 use Rattle.cert_check.proofs.Verdicts.{yes_is_good}
 use Rattle.cert_check.proofs.WrittenBack.{Rise, certificate_back, number}
 use Rattle.shared_lemmas.proofs.Read.{at_first}
-use Rattle.shared_lemmas.proofs.Lists.{fewer_kept}
+use Rattle.shared_lemmas.proofs.Lists.{all_flat_map, fewer_kept}
 
 -- ---- The numbers of the listed candidates rise
 
@@ -67,7 +67,7 @@ module _ (l : Language) (network : List Candidate) (c : Candidate) where
   nodes_known (suc k) prefix =
       let here : Token = node_at l network c prefix in
       All-cons (IsNodeOver (length network)) here (flat_map (tree_from l network c k) (children l c prefix here)) (node_known prefix)
-      (all_flat (IsNodeOver (length network)) (tree_from l network c k) (children l c prefix here) (λ j d low. nodes_known k _))
+      (all_flat_map (IsNodeOver (length network)) (tree_from l network c k) (children l c prefix here) (λ j d low. nodes_known k _))
 
 -- ---- What was made
 

@@ -1,5 +1,5 @@
 -- What is violated at a prefix and not without its last value has the last variable in its scope.
-use Rattle.cert_check.proofs.Prelude.{◌≡◌, ℕ, zero, suc, ◌+◌, ◌-◌, ◌<◌, ◌≤◌, Bool, true, false, ◌&&◌, ◌||◌, List, [], ◌∷◌, ◌++◌, length, Option, Some, None, refl, sym, ◌∙◌, ap, subst, arith, inl, inr, ◌⊎◌, length-append, All, IfSome, ◌==◌, is_some, unwrap_or, slice_get, slice_index_or, slice_set, option_map_or, both_ways, eq-eqb, and_parts, false_from_ne_true, get_or-set_other, All-head, All-tail, All-nil, All-cons, All-append, All-map, get_or_from_slice_get, slice_get_within, has, Assignment, value_of, covers, tuple_on, assigned, Candidate, Language, IsLanguage, IsCandidate, IsScope, variable_count, scope_of, values_of, violates, IsNetwork, order_of, assignment_of, IsOrder, value_of_assigned, beside_none, assigned_push, orders_are_known, Token, Branch, Holds, Item, has_last, last_of, AreOnLast, children, node_of, node_at, ahead, later, IsAt}
+use Rattle.cert_check.proofs.Prelude.{◌≡◌, ℕ, zero, suc, ◌+◌, ◌-◌, ◌<◌, ◌≤◌, Bool, true, false, ◌&&◌, ◌||◌, List, [], ◌∷◌, ◌++◌, length, Option, Some, None, refl, sym, ◌∙◌, ap, subst, arith, inl, inr, ◌⊎◌, length-append, All, IfSome, ◌==◌, is_some, unwrap_or, slice_get, slice_index_or, slice_set, option_map_or, both_ways, eq-eqb, and_parts, false_from_ne_true, get_or-set_other, All-head, All-tail, All-nil, All-cons, All-append, All-map, get_or_from_slice_get, slice_get_within, has, Assignment, value_of, covers, tuple_on, assigned, Candidate, Language, IsLanguage, IsCandidate, IsScope, variable_count, scope_of, values_of, violates, IsNetwork, order_of, assignment_of, IsOrder, value_of_assigned, beside_none, assigned_push, orders_are_known, Token, Branch, Holds, Item, has_last, last_of, AreOnLast, children, node_of, node_at, ahead, later, IsPrefixAt}
 use Rattle.cert_check.proofs.Finding.{all_fail}
 use Rattle.cert_check.proofs.Walking.{later_none}
 use Rattle.cert_check.proofs.Within.{next_of}
@@ -101,7 +101,7 @@ module _ (l : Language) (network : List Candidate) (c : Candidate) where
         go true has_it = has_it
         go false out = absurd (both_ways _ (ap (violates l d) set ∙ violates_beside l d (assignment_of l c front) (next_of l c front) (Some x) out ∙ before) bad)
 
-    pub are_on_last : (order values : List ℕ) (e : Assignment) (k : ℕ) → order ≡ order_of l c → k ≡ length values → IsAt l c values e → IsClean l network c values → AreOnLast l network (last_of order k) e
+    pub are_on_last : (order values : List ℕ) (e : Assignment) (k : ℕ) → order ≡ order_of l c → k ≡ length values → IsPrefixAt l c values e → IsClean l network c values → AreOnLast l network (last_of order k) e
     are_on_last order values e k same count at (inl none) = λ i bad. absurd (nothing e i (slice_get network i) (at.is ∙ ap (assignment_of l c) none) refl bad)
     are_on_last order values e k same count at (inr behind) = λ i bad.
         let long : length values ≡ suc (length behind.front) = ap length behind.is ∙ length-append behind.front (behind.value ∷ []) ∙ (let n : length behind.front + 1 ≡ suc (length behind.front) = omega arith in n) in

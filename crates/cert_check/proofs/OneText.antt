@@ -1,5 +1,5 @@
 -- Bytes are read as one certificate, or refused for one fault.
-use Rattle.cert_check.proofs.Prelude.{◌≡◌, ℕ, ◌<◌, ◌≤◌, List, length, Some, Result, Ok, Err, refl, sym, ap, ◌∙◌, subst, arith, ◌⊎◌, inl, inr, none-some, same_Some, Language, VocFault, IsVocabulary, refusal_of_vocabulary, not_refused, CertFault, TooLong, BadLine, Voc, Memory, Certificate, Unread, MOST_CERTIFICATE, vocabulary_in, certificate_in, IsVocRefused, IsBadBehind, ReadIsNotRefused, NoTwoCertificates, NoTwoFaults}
+use Rattle.cert_check.proofs.Prelude.{◌≡◌, ℕ, ◌<◌, ◌≤◌, List, length, Some, Result, Ok, Err, refl, sym, ap, ◌∙◌, subst, arith, ◌⊎◌, inl, inr, none-some, same_Some, Language, VocFault, IsVocabulary, refusal_of_vocabulary, not_refused, CertFault, TooLong, BadLine, Voc, Memory, Certificate, Unread, MOST_CERTIFICATE, vocabulary_in, certificate_in, IsVocRefused, IsBadBehind, ReadCertificateIsNotRefused, NoTwoCertificates, NoTwoFaults}
 use Rattle.voc_read.proofs.OneReading.{one_language}
 
 abbrev done : {A : Type 0} → A → Result A CertFault
@@ -38,7 +38,7 @@ voc_taken : (bytes voc other : List ℕ) (behind further : Unread) (l : Language
 voc_taken bytes voc other behind further l fault begun again described refused =
     none-some fault (sym (not_refused voc l described) ∙ ap refusal_of_vocabulary (same_voc bytes voc other behind further begun again) ∙ refused)
 
-pub not_both : ReadIsNotRefused
+pub not_both : ReadCertificateIsNotRefused
 not_both bytes cert TooLong r u = too_long bytes r.short u
 not_both bytes cert (BadLine i) r u = go u.1
   where

@@ -23,6 +23,7 @@ pub use Rattle.assign.specs.Assignment.{Assignment, assigned, covers, tuple_on, 
 pub use Rattle.assign.specs.Events.{Answer}
 pub use Rattle.assign.specs.SetLemmas.{is_one, is_one-or}
 pub use Rattle.assign.specs.Sets.{has, is_same, is_within, numbers}
+pub use Rattle.assign.proofs.Masks.{list_same, same_list}
 pub use Rattle.bias_store.specs.KeptSet.{IsMadeFor, KeptSet}
 pub use Rattle.language.proofs.Accepts.{accepted_at}
 pub use Rattle.language.proofs.Beside.{beside_none, tuple_fits, value_of_assigned}
@@ -46,26 +47,26 @@ pub use Rattle.line_text.specs.Left.{words_left}
 pub use Rattle.line_text.specs.Words.{capped, decimal_below, decimal_in, number_from}
 pub use Rattle.voc_read.proofs.Refused.{not_refused}
 pub use Rattle.voc_read.specs.Answers.{then_on}
-pub use Rattle.voc_read.specs.Vocabulary.{IsVocabulary, MOST_VOCABULARY, Parts, json_of, parts_in, refusal_of_vocabulary}
-unfoldable pub use Rattle.voc_read.specs.Vocabulary.{parts_of}
+pub use Rattle.voc_read.specs.Vocabulary.{IsVocabulary, MOST_VOCABULARY, Parts, parts_in, refusal_of_vocabulary}
+unfoldable pub use Rattle.voc_read.specs.Vocabulary.{vocabulary_parts}
 pub use Rattle.voc_read.specs.declared.fault.VocFault.{VocFault}
 pub use Rattle.voc_read.specs.declared.fault.VocFault.TheVariants.{NotJson}
 pub use Rattle.cert_check.specs.ByVariable.{AreOnLast, by_variable, has_last, has_variable, items_on, last_of}
 pub use Rattle.cert_check.specs.Certificate.{Certificate, Refutation}
 pub use Rattle.cert_check.specs.Checking.{first_flaw, flaw_before_list, has_other, has_own_no, is_no_on, is_other, is_rival, is_spared, is_uncovered, is_unearned, repeats_scope, verdict, verdict_of}
 pub use Rattle.cert_check.specs.Good.{IsGood, candidate_at, has_refutation, is_earned}
-pub use Rattle.cert_check.specs.Making.{IsFirstLong, Makes, certificate_of, first_long, fitting, is_long, made_within, refutation_of}
+pub use Rattle.cert_check.specs.Making.{IsFirstLong, Makes, certificate_of, first_long, fitting_text, is_long, made_within, refutation_of}
 pub use Rattle.cert_check.specs.Read.{AreFew, Reads, unread}
-pub use Rattle.cert_check.specs.Reading.{IsBadBehind, IsRead, IsUnreadable, IsVocRefused, MOST_ANSWERS, MOST_CERTIFICATE, Unread, answer_in, answer_lines, count_in, count_up_to, item_in, item_lines, line_in, listed_in, listed_lines, listed_of, pair_in, question_in, reply_in, token_in, value_in, ◌>>=◌}
-unfoldable pub use Rattle.cert_check.specs.Reading.{behind_line, block_in, certificate_in, end_in, lines_in, next_line, tokens_in, vocabulary_in, with_pairs}
-pub use Rattle.cert_check.specs.ReadingLaws.{EachIsReadOrRefused, NoTwoCertificates, NoTwoFaults, ReadIsNotRefused, wants_memory}
-pub use Rattle.cert_check.specs.Refuting.{children, is_lawful, refutes, violates_item}
+pub use Rattle.cert_check.specs.Reading.{IsBadBehind, IsRead, IsUnreadable, IsVocRefused, MOST_ANSWERS, MOST_CERTIFICATE, Unread, answer_line_in, answers_read, count_in, count_up_to, item_in, item_lines, line_in, item_listed_in, listed_lines, listed_of, pair_in, question_in, reply_in, token_in, value_in, ◌>>=◌}
+unfoldable pub use Rattle.cert_check.specs.Reading.{behind_line, block_in, certificate_in, last_line_in, lines_in, next_line, tokens_in, vocabulary_in, with_pairs}
+pub use Rattle.cert_check.specs.ReadingLaws.{EachCertificateIsReadOrRefused, NoTwoCertificates, NoTwoFaults, ReadCertificateIsNotRefused, wants_memory}
+pub use Rattle.cert_check.specs.Refuting.{children, is_lawful_node, refutes, violates_item}
 unfoldable pub use Rattle.cert_check.specs.Refuting.{are_trees}
-pub use Rattle.cert_check.specs.Sheets.{Adds, IsSheetOf, Stands}
-pub use Rattle.cert_check.specs.Told.{AreSpared, IsSparedOn, IsTold, is_no_about, unstruck}
+pub use Rattle.cert_check.specs.Sheets.{AddsPiece, IsSheetOf, IsTextSoFar}
+pub use Rattle.cert_check.specs.Told.{AreSpared, IsSparedOn, IsToldBy, is_no_about, unstruck}
 pub use Rattle.cert_check.specs.Trees.{branches, is_branch, node_at, node_of, tree_of}
 unfoldable pub use Rattle.cert_check.specs.Trees.{tree_from}
-pub use Rattle.cert_check.specs.Walking.{IsAt, ahead, last_behind, later}
+pub use Rattle.cert_check.specs.Walking.{IsPrefixAt, ahead, last_behind, later}
 unfoldable pub use Rattle.cert_check.specs.Walking.{later_from}
 pub use Rattle.cert_check.specs.WritingLaws.{HaveValues, IsNodeOver, MadeIsConfirmed, WrittenIsRead}
 pub use Rattle.cert_check.specs.Written.{answers_section, certificate_text, count_line, end_line, entry_line, implied_section, item_line, listed_line, network_section, numbered_value, reply_text, token_text, vocabulary_section}
@@ -77,3 +78,4 @@ pub use Rattle.cert_check.specs.declared.sheet.Sheet.{Sheet}
 pub use Rattle.cert_check.specs.declared.token.Token.{Token}
 pub use Rattle.cert_check.specs.declared.token.Token.TheVariants.{Branch, Holds, Item}
 pub use Rattle.cert_check.specs.declared.verdict.Verdict.TheVariants.{No, Yes}
+pub use Rattle.rel_formula.specs.Json.{json_of}

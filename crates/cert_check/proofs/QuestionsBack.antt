@@ -1,5 +1,5 @@
 -- The line of an answer is read as that answer.
-use Rattle.cert_check.proofs.Prelude.{◌≡◌, ℕ, zero, suc, ◌+◌, ◌<◌, ◌≤◌, not, Bool, true, false, List, [], ◌∷◌, ◌++◌, length, replicate, set, Option, Some, None, is_some, refl, sym, ◌∙◌, ap, subst, arith, append_assoc, inl, inr, ◌⊎◌, All, ◌==◌, codes, decimal, flat_map, list_all, list_any, range_with_len, option_map, option_and_then, both_ways, cases_eq, cases_lt, same_Some, ext_get_or, get_or-set_same, get_or-set_other, length-replicate, length-set, All-nil, All-cons, All-head, All-tail, Assignment, value_of, Answer, ValueRange, range_in, Language, IsLanguage, IsQuestion, variable_count, range_of, is_ranged, number_from, value_in, pair_in, with_pairs, question_in, reply_in, answer_in, entry_line, numbered_value, reply_text, Lacks, lacks_by, lacks_both, lacks_first, cut_found, spaced, spaced_lacks, words_joined, IsNoDigit, decimal_lacks, from_read}
+use Rattle.cert_check.proofs.Prelude.{◌≡◌, ℕ, zero, suc, ◌+◌, ◌<◌, ◌≤◌, not, Bool, true, false, List, [], ◌∷◌, ◌++◌, length, replicate, set, Option, Some, None, is_some, refl, sym, ◌∙◌, ap, subst, arith, append_assoc, inl, inr, ◌⊎◌, All, ◌==◌, codes, decimal, flat_map, list_all, list_any, range_with_len, option_map, option_and_then, both_ways, cases_eq, cases_lt, same_Some, ext_get_or, get_or-set_same, get_or-set_other, length-replicate, length-set, All-nil, All-cons, All-head, All-tail, Assignment, value_of, Answer, ValueRange, range_in, Language, IsLanguage, IsQuestion, variable_count, range_of, is_ranged, number_from, value_in, pair_in, with_pairs, question_in, reply_in, answer_line_in, entry_line, numbered_value, reply_text, Lacks, lacks_by, lacks_both, lacks_first, cut_found, spaced, spaced_lacks, words_joined, IsNoDigit, decimal_lacks, from_read}
 use Rattle.cert_check.proofs.InTurn.{pairs_go_on, pairs_done}
 use Rattle.cert_check.proofs.LinesBack.{Says}
 use Rattle.cert_check.proofs.Within.{bounds}
@@ -147,7 +147,7 @@ module _ (l : Language) (a : Answer) (lawful : IsLanguage l) (asked : IsQuestion
       ∙ ap (λ n. with_pairs l.ranges 0 (blank_of n) all_words) (sym asked.size)
       ∙ all_back l.ranges a.question shown
 
-  answer_back : (words : List (List ℕ)) → all_words ≡ words → answer_in l (reply_text a.yes ++ spaced words) ≡ Some a
+  answer_back : (words : List (List ℕ)) → all_words ≡ words → answer_line_in l (reply_text a.yes ++ spaced words) ≡ Some a
   answer_back [] none =
       let empty : blank_of (length a.question) ≡ a.question = same_Some (blank_of (length a.question)) a.question
       (sym (pairs_done l.ranges 0 (blank_of (length a.question))) ∙ ap (with_pairs l.ranges 0 (blank_of (length a.question))) (sym none) ∙ all_back l.ranges a.question shown) in
@@ -158,7 +158,7 @@ module _ (l : Language) (a : Answer) (lawful : IsLanguage l) (asked : IsQuestion
       ∙ ap (option_and_then (λ (reply : Bool). option_map (answer_of reply) (question_in l (word ++ spaced words)))) (reply_back a.yes)
       ∙ ap (option_map (answer_of a.yes)) (question_back word words is)
 
-  pub entry_said : Says (answer_in l) (entry_line a) a
+  pub entry_said : Says (answer_line_in l) (entry_line a) a
   entry_said = record {
     text = reply_text a.yes ++ spaced all_words;
     is = ap (λ values. reply_text a.yes ++ (values ++ 10 ∷ [])) (values_spaced a.question 0 (length a.question)) ∙ sym (append_assoc (reply_text a.yes) (spaced all_words) (10 ∷ []));

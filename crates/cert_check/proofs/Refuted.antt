@@ -1,5 +1,5 @@
 -- What trees of tokens say: no complete assignment that goes on from a prefix is accepted and violates the candidate.
-use Rattle.cert_check.proofs.Prelude.{◌≡◌, ℕ, ◌<◌, Bool, true, false, ◌&&◌, not, List, [], ◌∷◌, ◌++◌, length, Option, Some, None, refl, sym, ◌∙◌, ap, subst, arith, append_assoc, length-append, All, slice_get, option_map_or, All-head, All-nil, All-cons, get_or_from_slice_get, slice_get_within, and_parts, both_ways, ltb-true, false_from_ne_true, Assignment, tuple_on, covers, Candidate, is_in, Language, IsLanguage, IsCandidate, IsImplied, variable_count, range_of, scope_of, violates, accepts, order_of, assignment_of, are_ranged, accepted_at, tuple_fits, HasMore, assigned_more, violates_more, satisfies_more, ranged_from, order_small, whole_prefix, covers_all, length-tuple_on, scope_small, long_order, Token, Branch, Holds, Item, violates_item, is_lawful, children, are_trees, refutes}
+use Rattle.cert_check.proofs.Prelude.{◌≡◌, ℕ, ◌<◌, Bool, true, false, ◌&&◌, not, List, [], ◌∷◌, ◌++◌, length, Option, Some, None, refl, sym, ◌∙◌, ap, subst, arith, append_assoc, length-append, All, slice_get, option_map_or, All-head, All-nil, All-cons, get_or_from_slice_get, slice_get_within, and_parts, both_ways, ltb-true, false_from_ne_true, Assignment, tuple_on, covers, Candidate, is_in, Language, IsLanguage, IsCandidate, IsImplied, variable_count, range_of, scope_of, violates, accepts, order_of, assignment_of, are_ranged, accepted_at, tuple_fits, HasMore, assigned_more, violates_more, satisfies_more, ranged_from, order_small, whole_prefix, covers_all, length-tuple_on, scope_small, long_order, Token, Branch, Holds, Item, violates_item, is_lawful_node, children, are_trees, refutes}
 use Rattle.cert_check.proofs.Within.{IsRanged, next_of, ranged_front, ranged_last, all_among}
 use Rattle.shared_lemmas.proofs.Lists.{all_left, all_right}
 
@@ -26,7 +26,7 @@ module _ (l : Language) (network : List Candidate) (c : Candidate) (lawful : IsL
       both_ways _ (ap (λ (b : Candidate). violates l b (assignment_of l c whole)) (sym (get_or_from_slice_get network i d d e)) ∙ accepted_at l network (assignment_of l c whole) accepted i d (slice_get_within network i d e))
       (violates_more l d _ _ (more_at prefix rest is) there)
 
-  closed_by : (prefix : List ℕ) (token : Token) → is_lawful l network c prefix token ≡ true → All (IsClosed whole) (children l c prefix token) → IsClosed whole prefix
+  closed_by : (prefix : List ℕ) (token : Token) → is_lawful_node l network c prefix token ≡ true → All (IsClosed whole) (children l c prefix token) → IsClosed whole prefix
   closed_by prefix Holds h below rest is = not_both (covers (assignment_of l c whole) (scope_of l c)) _ (satisfies_more l c _ _ (more_at prefix rest is) h) bad
   closed_by prefix (Item i) h below rest is = closed_by_item prefix (slice_get network i) i refl h rest is
   closed_by prefix Branch h below [] is = absurd (let short = ltb-true (length prefix) (variable_count l) h in let all = ap length is in let e = length-append prefix [] in omega (arith, short, all, e, long))
@@ -42,7 +42,7 @@ module _ (l : Language) (network : List Candidate) (c : Candidate) (lawful : IsL
   closed [] (prefix ∷ later) h = let no : ⊥ = cc in absurd no
   closed (token ∷ tokens) [] h = All-nil (IsClosed whole)
   closed (token ∷ tokens) (prefix ∷ later) h =
-      let parts = and_parts (is_lawful l network c prefix token) _ h in
+      let parts = and_parts (is_lawful_node l network c prefix token) _ h in
       let rest = closed tokens (children l c prefix token ++ later) parts.1 in
       All-cons (IsClosed whole) prefix later
       (closed_by prefix token parts.0 (all_left (IsClosed whole) (children l c prefix token) later rest))

@@ -1,48 +1,30 @@
 -- Text that is written piece by piece.
-use Rattle.cert_check.proofs.Prelude.{OnOk, Result, Ok, Err, ◌≡◌, ℕ, ◌+◌, ◌<◌, ◌≤◌, Bool, true, false, List, [], ◌∷◌, ◌++◌, length, take, get_or, sym, ◌∙◌, ap, subst, arith, append_assoc, length-append, nat_lt, flat_map, append-nil, take_more, take_all, length-range_with_len, get_or-range_with_len, flat_map-append, ltb-true, ltb-false, numbers, MOST_CERTIFICATE, Stands, IsSheetOf, Adds, Sheet}
-
--- what is too long stays so
-pub stands_full : (full : Bool) (text whole piece : List ℕ) → full ≡ true → Stands full text whole → Stands full text (whole ++ piece)
-stands_full true text whole piece e h = let long = length-append whole piece in omega (arith, h, long)
-stands_full false text whole piece e h = absurd (let no : ⊥ = cc in no)
-
--- a piece is written, and then it is seen whether all is too long
-pub stands_more : (full more : Bool) (text longer whole piece : List ℕ) → full ≡ false → longer ≡ text ++ piece → more ≡ nat_lt MOST_CERTIFICATE (length longer) → Stands full text whole → Stands more longer (whole ++ piece)
-stands_more true more text longer whole piece e put over h = absurd (let no : ⊥ = cc in no)
-stands_more false true text longer whole piece e put over h =
-    let past = ltb-true MOST_CERTIFICATE (length longer) (sym over) in
-    let same = ap length (put ∙ ap (λ t. t ++ piece) h.0) in
-    omega (arith, past, same)
-stands_more false false text longer whole piece e put over h =
-    let within = ltb-false MOST_CERTIFICATE (length longer) (sym over) in
-    let same : longer ≡ whole ++ piece = put ∙ ap (λ t. t ++ piece) h.0 in
-    let long = ap length same in
-    (same, omega (arith, within, long))
+use Rattle.cert_check.proofs.Prelude.{OnOk, Result, Ok, Err, ◌≡◌, ℕ, ◌+◌, ◌<◌, ◌≤◌, Bool, true, false, List, [], ◌∷◌, ◌++◌, length, take, get_or, sym, ◌∙◌, ap, subst, arith, append_assoc, length-append, nat_lt, flat_map, append-nil, take_more, take_all, length-range_with_len, get_or-range_with_len, flat_map-append, ltb-true, ltb-false, numbers, MOST_CERTIFICATE, IsTextSoFar, IsSheetOf, AddsPiece, Sheet}
 
 -- ---- one piece after another
 
-pub adds_none : (a : Sheet) → Adds a [] a
+pub adds_none : (a : Sheet) → AddsPiece a [] a
 adds_none a = λ whole h. subst (IsSheetOf a) (sym (append-nil whole)) h
 
-pub adds_more : (a b c : Sheet) (p q : List ℕ) → Adds a p b → Adds b q c → Adds a (p ++ q) c
+pub adds_more : (a b c : Sheet) (p q : List ℕ) → AddsPiece a p b → AddsPiece b q c → AddsPiece a (p ++ q) c
 adds_more a b c p q first next = λ whole h. subst (IsSheetOf c) (append_assoc whole p q) (next (whole ++ p) (first whole h))
 
-pub adds_as : (a b : Sheet) (p q : List ℕ) → p ≡ q → Adds a p b → Adds a q b
-adds_as a b p q e h = subst (λ (r : List ℕ). Adds a r b) e h
+pub adds_as : (a b : Sheet) (p q : List ℕ) → p ≡ q → AddsPiece a p b → AddsPiece a q b
+adds_as a b p q e h = subst (λ (r : List ℕ). AddsPiece a r b) e h
 
 -- a piece for each member of a list
-pub adds_next : {X : Type 0} (f : X → List ℕ) (xs : List X) (i : ℕ) (x : X) (a b c : Sheet) → i < length xs → x ≡ get_or xs i x → Adds a (flat_map f (take i xs)) b → Adds b (f x) c → Adds a (flat_map f (take (i + 1) xs)) c
+pub adds_next : {X : Type 0} (f : X → List ℕ) (xs : List X) (i : ℕ) (x : X) (a b c : Sheet) → i < length xs → x ≡ get_or xs i x → AddsPiece a (flat_map f (take i xs)) b → AddsPiece b (f x) c → AddsPiece a (flat_map f (take (i + 1) xs)) c
 adds_next f xs i x a b c low is before here = adds_as a c (flat_map f (take i xs) ++ f x) (flat_map f (take (i + 1) xs))
     (ap (λ r. flat_map f (take i xs) ++ r) (ap f is ∙ sym (append-nil (f (get_or xs i x))))
     ∙ sym (flat_map-append f (take i xs) (get_or xs i x ∷ []))
     ∙ ap (flat_map f) (sym (take_more xs i x low)))
     (adds_more a b c (flat_map f (take i xs)) (f x) before here)
 
-pub adds_all : {X : Type 0} (f : X → List ℕ) (xs : List X) (i : ℕ) (a b : Sheet) → length xs ≤ i → Adds a (flat_map f (take i xs)) b → Adds a (flat_map f xs) b
+pub adds_all : {X : Type 0} (f : X → List ℕ) (xs : List X) (i : ℕ) (a b : Sheet) → length xs ≤ i → AddsPiece a (flat_map f (take i xs)) b → AddsPiece a (flat_map f xs) b
 adds_all f xs i a b all h = adds_as a b (flat_map f (take i xs)) (flat_map f xs) (ap (flat_map f) (take_all i xs all)) h
 
 -- a piece for each number below an end
-pub adds_next_number : (f : ℕ → List ℕ) (n v : ℕ) (a b c : Sheet) → v < n → Adds a (flat_map f (take v (numbers n))) b → Adds b (f v) c → Adds a (flat_map f (take (v + 1) (numbers n))) c
+pub adds_next_number : (f : ℕ → List ℕ) (n v : ℕ) (a b c : Sheet) → v < n → AddsPiece a (flat_map f (take v (numbers n))) b → AddsPiece b (f v) c → AddsPiece a (flat_map f (take (v + 1) (numbers n))) c
 adds_next_number f n v a b c low before here =
     let long = length-range_with_len 0 n in
     let at : v ≡ get_or (numbers n) v v = sym (get_or-range_with_len 0 n v v low ∙ (let e : 0 + v ≡ v = omega arith in e)) in

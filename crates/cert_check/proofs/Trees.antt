@@ -1,9 +1,10 @@
 -- The tree of a candidate that the network implies.
 use Rattle.cert_check.proofs.Prelude.{◌≡◌, ℕ, zero, suc, ◌+◌, ◌-◌, ◌<◌, ◌≤◌, Bool, true, false, cond, ◌&&◌, not, List, [], ◌∷◌, ◌++◌, length, map, Option, Some, None, refl, sym, ◌∙◌, ap, subst, arith, inl, inr, ◌⊎◌, append_assoc, length-append, All, position, slice_index_or, filter, flat_map, append-nil, length-map, flat_map-append, All-head, All-tail, All-nil, All-append, All-push, All-weaker, filter-append, position-Some, list_all-from_AllPass, and_parts, both_ways, false_from_ne_true, not_from_false, cases_lt, numbers, Assignment, Candidate, is_in, Language, IsLanguage, IsCandidate, IsImplied, variable_count, range_of, values_of, violates, accepts, order_of, prefixes, assignment_of, satisfies, are_ranged, is_plain, plain_size, accepted_at, question_there, size_of, plain_fronts, orders_are_known, complete_there, violated_there, Token, Branch, Holds, Item, children, node_of, node_at, tree_from, tree_of, is_branch, branches}
-use Rattle.language.proofs.Preorder.{filter_map_of, none_passes, prefixes_small}
+use Rattle.language.proofs.Preorder.{none_passes, prefixes_small}
 use Rattle.cert_check.proofs.Finding.{all_fail}
 use Rattle.cert_check.proofs.Within.{IsNext, IsRanged, all_next, next_of, ranged_none, ranged_front, ranged_longer, ranged_last}
 use Rattle.std.proofs.Math.Bool.{and-false}
+use Rattle.shared_lemmas.proofs.Lists.{filter-map}
 
 pub branches_both : (xs ys : List Token) → branches (xs ++ ys) ≡ branches xs + branches ys
 branches_both xs ys = ap length (filter-append is_branch xs ys) ∙ length-append (filter is_branch xs) (filter is_branch ys)
@@ -84,7 +85,7 @@ module _ (l : Language) (network : List Candidate) (c : Candidate) where
       All-head (λ y. branches (tree_from l network c k (p ++ y ∷ [])) ≡ length (filter (plain_below (p ++ y ∷ [])) ps)) x xs each
       ∙ (λ i. length (filter (λ q. is_plain l network c (append_assoc p (x ∷ []) q i)) ps))
       ∙ sym (length-map (filter (λ q. plain_below p (x ∷ q)) ps) (λ q. x ∷ q))
-      ∙ ap length (sym (filter_map_of (plain_below p) (λ q. x ∷ q) ps)) in
+      ∙ ap length (sym (filter-map (plain_below p) (λ q. x ∷ q) ps)) in
       branches_both (tree_from l network c k (p ++ x ∷ [])) (flat_map (tree_from l network c k) (map (λ y. p ++ y ∷ []) xs))
       ∙ (λ i. here i + each_count k p xs (All-tail (λ y. branches (tree_from l network c k (p ++ y ∷ [])) ≡ length (filter (plain_below (p ++ y ∷ [])) ps)) x xs each) i)
       ∙ sym (length-append (filter (plain_below p) (map (λ q. x ∷ q) ps)) (filter (plain_below p) (flat_map (λ y. map (λ q. y ∷ q) ps) xs)))
@@ -119,7 +120,7 @@ module _ (l : Language) (network : List Candidate) (c : Candidate) where
     -- no plain prefix goes on with a value outside the range
     outside : (k : ℕ) (p : List ℕ) (x : ℕ) → length p < variable_count l → is_in (range_of l (next_of l c p)) x ≡ false → filter (plain_below p) (map (λ q. x ∷ q) (prefixes l.value_count k)) ≡ []
     outside k p x room out =
-        filter_map_of (plain_below p) (λ q. x ∷ q) (prefixes l.value_count k)
+        filter-map (plain_below p) (λ q. x ∷ q) (prefixes l.value_count k)
         ∙ ap (λ (qs : List (List ℕ)). map (λ q. x ∷ q) qs) (none_passes (All (λ y. y < l.value_count)) (λ q. plain_below p (x ∷ q)) (prefixes l.value_count k) (prefixes_small l.value_count k) (λ q fits. false_from_ne_true _ (λ at.
         both_ways _ out (ranged_last l lawful c is p x room (ranged_front l c (p ++ x ∷ []) q
         (subst (IsRanged l c) (sym (append_assoc p (x ∷ []) q)) (and_parts (are_ranged l (assignment_of l c (p ++ x ∷ q))) _ at).0))))))

@@ -1,33 +1,17 @@
 -- No flaw is found exactly where the certificate is good.
-use Rattle.cert_check.proofs.Prelude.{◌≡◌, ℕ, ◌+◌, ◌<◌, Bool, true, false, not, ◌&&◌, List, [], ◌∷◌, length, take, Option, Some, None, refl, sym, ◌∙◌, ap, subst, arith, inl, inr, ◌⊎◌, All, Any, AllPairs, IsTrue, position, slice_index_or, ◌==◌, ◌↔◌, option_or, flat_map, get_or-take, length-take, All-head, All-tail, All-nil, All-append, All-map, Any-from_list_any, list_any-from_Any, list_any_at, list_all-from_AllPass, AllPass-from_list_all, length-range_with_len, get_or-range_with_len, both_ways, not-true, not-false, and_parts, and_from, and_left, and_right, not_from_true, not_from_false, false_from_ne_true, eqb-true, eq-eqb, ne_eqb, numbers, is_same, variables_of, Answer, Candidate, Language, IsCandidate, candidates, candidates_on, relations_on, number_of, scope_of, violates, accepts, is_struck, has_scope, IsNoOn, numbered, all_below, Yes, Refutation, has_refutation, IsGood, is_other, repeats_scope, is_no_on, has_own_no, has_other, is_spared, is_rival, is_uncovered, is_unearned, flaw_before_list, first_flaw, verdict_of}
+use Rattle.cert_check.proofs.Prelude.{◌≡◌, ℕ, ◌+◌, ◌<◌, Bool, true, false, not, ◌&&◌, List, [], ◌∷◌, length, take, Option, Some, None, refl, sym, ◌∙◌, ap, subst, arith, inl, inr, ◌⊎◌, All, Any, AllPairs, IsTrue, position, slice_index_or, ◌==◌, ◌↔◌, option_or, flat_map, get_or-take, length-take, All-head, All-tail, All-nil, All-append, All-map, Any-from_list_any, list_any-from_Any, list_any_at, list_all-from_AllPass, AllPass-from_list_all, length-range_with_len, get_or-range_with_len, both_ways, not-true, not-false, and_parts, and_from, and_left, and_right, not_from_true, not_from_false, false_from_ne_true, eqb-true, eq-eqb, ne_eqb, numbers, is_same, variables_of, Answer, Candidate, Language, IsCandidate, candidates, candidates_on, relations_on, number_of, scope_of, violates, accepts, is_struck, has_scope, IsNoOn, numbered, all_below, Yes, Refutation, has_refutation, IsGood, is_other, repeats_scope, is_no_on, has_own_no, has_other, is_spared, is_rival, is_uncovered, is_unearned, flaw_before_list, first_flaw, verdict_of, list_same, same_list}
 use Rattle.std.specs.Prelude.{option_map}
 use Rattle.std.specs.Bool.{beq}
 use Rattle.cert_check.specs.declared.verdict.Flaw.{Flaw}
 use Rattle.cert_check.specs.declared.verdict.Flaw.TheVariants as flaw
 use Rattle.cert_check.specs.declared.verdict.Verdict.{Verdict}
 use Rattle.cert_check.proofs.Finding.{none_found, all_fail, no_number, within}
+use Rattle.language.proofs.Members.{all_candidates}
+use Rattle.shared_lemmas.proofs.Read.{map_none, or_none}
 
 -- ---- none of several
 
-left_none : {X : Type 0} (a b : Option X) → option_or a b ≡ None → (a ≡ None) × (b ≡ None)
-left_none None b h = (refl, h)
-left_none (Some x) b h = absurd (let no : ⊥ = cc in no)
-
-unmapped : {X Y : Type 0} (f : X → Y) (o : Option X) → option_map f o ≡ None → o ≡ None
-unmapped f None h = refl
-unmapped f (Some x) h = absurd (let no : ⊥ = cc in no)
-
 -- ---- tests and what they mean
-
-pub same_list : (xs ys : List ℕ) → is_same xs ys ≡ true → xs ≡ ys
-same_list [] [] h = refl
-same_list [] (y ∷ ys) h = absurd (let no : ⊥ = cc in no)
-same_list (x ∷ xs) [] h = absurd (let no : ⊥ = cc in no)
-same_list (x ∷ xs) (y ∷ ys) h = let both = and_parts (x == y) (is_same xs ys) h in (λ i. eqb-true x y both.0 i ∷ same_list xs ys both.1 i)
-
-pub same_itself : (xs : List ℕ) → is_same xs xs ≡ true
-same_itself [] = refl
-same_itself (x ∷ xs) = and_from (x == x) (is_same xs xs) (eq-eqb x x refl) (same_itself xs)
 
 no_on : (l : Language) (c : Candidate) (a : Answer) → is_no_on l c a ≡ true → IsNoOn l c a
 no_on l c a h = let both = and_parts (not a.yes) (is_same (variables_of a.question) (scope_of l c)) h in
@@ -35,7 +19,7 @@ no_on l c a h = let both = and_parts (not a.yes) (is_same (variables_of a.questi
 
 is_on : (l : Language) (c : Candidate) (a : Answer) → IsNoOn l c a → is_no_on l c a ≡ true
 is_on l c a h = and_from (not a.yes) (is_same (variables_of a.question) (scope_of l c)) (not_from_false a.yes h.no)
-    (subst (λ (vs : List ℕ). is_same (variables_of a.question) vs ≡ true) h.exact (same_itself (variables_of a.question)))
+    (subst (λ (vs : List ℕ). is_same (variables_of a.question) vs ≡ true) h.exact (list_same (variables_of a.question)))
 
 -- a no about a scope is one about the scope of each candidate there
 no_beside : (l : Language) (c d : Candidate) (a : Answer) → d.scope ≡ c.scope → IsNoOn l d a → IsNoOn l c a
@@ -45,15 +29,6 @@ any_as : {X : Type 0} (P Q : X → Type 0) (xs : List X) → ((x : X) → P x �
 any_as P Q xs h some = (some.0, some.1, some.2, some.3, h some.1 some.4)
 
 -- ---- the candidates
-
-all_flat : {X Y : Type 0} (P : Y → Type 0) (Q : X → Type 0) (f : X → List Y) (xs : List X) → ((x : X) → Q x → All P (f x)) → All Q xs → All P (flat_map f xs)
-all_flat P Q f [] h all = All-nil P
-all_flat P Q f (x ∷ xs) h all = All-append P (f x) (flat_map f xs) (h x (All-head Q x xs all)) (all_flat P Q f xs h (All-tail Q x xs all))
-
-all_candidates : (l : Language) → All (IsCandidate l) (candidates l)
-all_candidates l = all_flat (IsCandidate l) (λ s. s < length l.scopes) (candidates_on l) (numbers (length l.scopes))
-    (λ s low. All-map (IsCandidate l) (λ r. record { scope = s; rel = r }) (numbers (length (relations_on l s))) (all_below (λ r. IsCandidate l (record { scope = s; rel = r })) (length (relations_on l s)) (λ r fits. record { scope = low; rel = fits })))
-    (all_below (λ s. s < length l.scopes) (length l.scopes) (λ s low. low))
 
 -- what fails at each of them fails at each candidate
 fails_there : (l : Language) (p : Candidate → Bool) → All (λ c. p c ≡ false) (candidates l) → (c : Candidate) → IsCandidate l c → p c ≡ false
@@ -76,7 +51,7 @@ module _ (l : Language) (network : List Candidate) (t : List Answer) (refutation
   -- ---- from no flaw
 
   first_part : first_flaw l network t refutations ≡ None → flaw_before_list l network t refutations ≡ None
-  first_part h = (left_none (flaw_before_list l network t refutations) _ h).0
+  first_part h = (or_none (flaw_before_list l network t refutations) _ h).0
 
   one_each : All (λ k. repeats_scope network k ≡ false) (numbers (length network)) → AllPairs (λ c d. (c.scope ≡ d.scope) → ⊥) network
   one_each all i j d before low same =
@@ -114,19 +89,19 @@ module _ (l : Language) (network : List Candidate) (t : List Answer) (refutation
 
   pub good_without_flaw : first_flaw l network t refutations ≡ None → IsGood l network t refutations
   good_without_flaw h =
-      let whole = left_none (flaw_before_list l network t refutations) (option_map flaw.Refutation (position (is_unearned l network) refutations)) h in
-      let a = left_none (option_map flaw.Answer (position (is_other l network) t)) _ whole.0 in
-      let b = left_none (option_map flaw.ScopeTwice (position (repeats_scope network) (numbers (length network)))) _ a.1 in
-      let c = left_none (option_map flaw.NoOwnNo (position (λ c. not (has_own_no l t c)) network)) _ b.1 in
-      let d = left_none (option_map flaw.Rival (position (is_rival l network t) (candidates l))) _ c.1 in
+      let whole = or_none (flaw_before_list l network t refutations) (option_map flaw.Refutation (position (is_unearned l network) refutations)) h in
+      let a = or_none (option_map flaw.Answer (position (is_other l network) t)) _ whole.0 in
+      let b = or_none (option_map flaw.ScopeTwice (position (repeats_scope network) (numbers (length network)))) _ a.1 in
+      let c = or_none (option_map flaw.NoOwnNo (position (λ c. not (has_own_no l t c)) network)) _ b.1 in
+      let d = or_none (option_map flaw.Rival (position (is_rival l network t) (candidates l))) _ c.1 in
       record {
-        agreeing = list_all-from_AllPass (λ a. beq (accepts l network a.question) a.yes) t (λ k e low. not-false _ (all_fail (is_other l network) t (unmapped flaw.Answer _ a.0) k e low));
-        one_a_scope = one_each (all_fail (repeats_scope network) (numbers (length network)) (unmapped flaw.ScopeTwice _ b.0));
+        agreeing = list_all-from_AllPass (λ a. beq (accepts l network a.question) a.yes) t (λ k e low. not-false _ (all_fail (is_other l network) t (map_none flaw.Answer _ a.0) k e low));
+        one_a_scope = one_each (all_fail (repeats_scope network) (numbers (length network)) (map_none flaw.ScopeTwice _ b.0));
         begun = λ k e low. any_as (λ a. is_no_on l (slice_index_or network k e) a ≡ true) (IsNoOn l (slice_index_or network k e)) t (no_on l (slice_index_or network k e))
-            (Any-from_list_any (is_no_on l (slice_index_or network k e)) t (not-false _ (all_fail (λ c. not (has_own_no l t c)) network (unmapped flaw.NoOwnNo _ c.0) k e low)));
-        told = told_each (all_fail (is_rival l network t) (candidates l) (unmapped flaw.Rival _ d.0));
-        earned = λ k e low. not-false _ (all_fail (is_unearned l network) refutations (unmapped flaw.Refutation _ whole.1) k e low);
-        rest = covered_each (all_fail (is_uncovered l network t refutations) (candidates l) (unmapped flaw.Uncovered _ d.1));
+            (Any-from_list_any (is_no_on l (slice_index_or network k e)) t (not-false _ (all_fail (λ c. not (has_own_no l t c)) network (map_none flaw.NoOwnNo _ c.0) k e low)));
+        told = told_each (all_fail (is_rival l network t) (candidates l) (map_none flaw.Rival _ d.0));
+        earned = λ k e low. not-false _ (all_fail (is_unearned l network) refutations (map_none flaw.Refutation _ whole.1) k e low);
+        rest = covered_each (all_fail (is_uncovered l network t refutations) (candidates l) (map_none flaw.Uncovered _ d.1));
       }
 
   -- ---- to no flaw

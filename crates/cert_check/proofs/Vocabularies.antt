@@ -1,5 +1,5 @@
 -- The bytes of a vocabulary are text.
-use Rattle.cert_check.proofs.Prelude.{◌≡◌, ℕ, Bool, true, false, cond, List, length, Option, None, Result, Ok, Err, sym, ◌∙◌, ap, refl, nat_lt, ok_or, is_utf8, IsUtf8, Language, then_on, MOST_VOCABULARY, Parts, json_of, parts_in, parts_of, IsVocabulary, VocFault, NotJson}
+use Rattle.cert_check.proofs.Prelude.{◌≡◌, ℕ, Bool, true, false, cond, List, length, Option, None, Result, Ok, Err, sym, ◌∙◌, ap, refl, nat_lt, ok_or, is_utf8, IsUtf8, Language, then_on, MOST_VOCABULARY, Parts, json_of, parts_in, vocabulary_parts, IsVocabulary, VocFault, NotJson}
 use Rattle.std.proofs.lemmas.Str.{IsUtf8-from_is_utf8}
 use Rattle.voc_read.specs.declared.fault.VocFault.TheVariants.{TooLong}
 
@@ -9,7 +9,7 @@ none_read true o f parts none h = cc
 none_read false o f parts none h = let no : Err NotJson ≡ Ok parts = sym (ap (λ p. then_on (ok_or p NotJson) f) none) ∙ h in cc
 
 pub vocabulary_is_text : (bytes : List ℕ) (l : Language) → IsVocabulary bytes l → IsUtf8 bytes
-unfolding parts_of
+unfolding vocabulary_parts
 vocabulary_is_text bytes l is = IsUtf8-from_is_utf8 bytes (go (is_utf8 bytes) refl)
   where
     go : (b : Bool) → is_utf8 bytes ≡ b → is_utf8 bytes ≡ true

@@ -1,5 +1,5 @@
 -- How the prefixes at which nodes are still to stand go on.
-use Rattle.cert_check.proofs.Prelude.{◌≡◌, ℕ, suc, ◌+◌, ◌-◌, ◌<◌, ◌≤◌, Bool, true, false, not, ◌&&◌, List, [], ◌∷◌, ◌++◌, length, map, replicate, Some, None, refl, sym, ◌∙◌, ap, subst, arith, append_assoc, length-append, slice_index_or, slice_set, range_with_len, append-nil, All-push, Assignment, Candidate, Language, IsLanguage, IsCandidate, IsQuestion, variable_count, range_of, values_of, order_of, assignment_of, assigned_blank, assigned_push, assigned_pop, question_there, next_known, size_of, orders_are_known, Token, is_lawful, children, are_trees, refutes, last_behind, later_from, later, ahead, IsAt}
+use Rattle.cert_check.proofs.Prelude.{◌≡◌, ℕ, suc, ◌+◌, ◌-◌, ◌<◌, ◌≤◌, Bool, true, false, not, ◌&&◌, List, [], ◌∷◌, ◌++◌, length, map, replicate, Some, None, refl, sym, ◌∙◌, ap, subst, arith, append_assoc, length-append, slice_index_or, slice_set, range_with_len, append-nil, All-push, Assignment, Candidate, Language, IsLanguage, IsCandidate, IsQuestion, variable_count, range_of, values_of, order_of, assignment_of, assigned_blank, assigned_push, assigned_pop, question_there, next_known, size_of, orders_are_known, Token, is_lawful_node, children, are_trees, refutes, last_behind, later_from, later, ahead, IsPrefixAt}
 use Rattle.cert_check.proofs.Within.{IsNext, IsRanged, bounds, next_of, next_range, next_values, ranged_none, ranged_front, ranged_longer, ranged_last}
 use Rattle.shared_lemmas.proofs.Lists.{all_left}
 use Rattle.language.proofs.PairOrders.{within_range}
@@ -48,10 +48,10 @@ module _ (l : Language) (c : Candidate) where
 -- ---- the assignment
 
 module _ (l : Language) (lawful : IsLanguage l) (c : Candidate) (is : IsCandidate l c) where
-  pub at_begin : (e : Assignment) → e ≡ assignment_of l c [] → IsAt l c [] e
+  pub at_begin : (e : Assignment) → e ≡ assignment_of l c [] → IsPrefixAt l c [] e
   at_begin e h = record { short = omega arith; small = λ k d low. absurd (omega arith); ranged = ranged_none l c; is = h }
 
-  pub at_push : (p : List ℕ) (e : Assignment) (x : ℕ) → IsAt l c p e → length p < variable_count l → IsNext l lawful c is p x → IsAt l c (p ++ x ∷ []) (slice_set e (slice_index_or (order_of l c) (length p) 0) (Some x))
+  pub at_push : (p : List ℕ) (e : Assignment) (x : ℕ) → IsPrefixAt l c p e → length p < variable_count l → IsNext l lawful c is p x → IsPrefixAt l c (p ++ x ∷ []) (slice_set e (slice_index_or (order_of l c) (length p) 0) (Some x))
   at_push p e x at room next = record {
     short = omega (arith, length-append p (x ∷ []));
     small = All-push (λ y. y < l.value_count) p x at.small next.fits;
@@ -59,7 +59,7 @@ module _ (l : Language) (lawful : IsLanguage l) (c : Candidate) (is : IsCandidat
     is = ap (λ (f : Assignment). slice_set f (slice_index_or (order_of l c) (length p) 0) (Some x)) at.is ∙ assigned_push (variable_count l) (order_of l c) (orders_are_known l c lawful is) p x room;
   }
 
-  pub at_pop : (p : List ℕ) (e : Assignment) (x : ℕ) → IsAt l c (p ++ x ∷ []) e → IsAt l c p (slice_set e (slice_index_or (order_of l c) (length p) 0) None)
+  pub at_pop : (p : List ℕ) (e : Assignment) (x : ℕ) → IsPrefixAt l c (p ++ x ∷ []) e → IsPrefixAt l c p (slice_set e (slice_index_or (order_of l c) (length p) 0) None)
   at_pop p e x at = record {
     short = let h = at.short in omega (arith, length-append p (x ∷ []), h);
     small = all_left (λ y. y < l.value_count) p (x ∷ []) at.small;
@@ -68,11 +68,11 @@ module _ (l : Language) (lawful : IsLanguage l) (c : Candidate) (is : IsCandidat
         ∙ assigned_pop (variable_count l) (order_of l c) (orders_are_known l c lawful is) p x (let h = at.short in omega (arith, length-append p (x ∷ []), h));
   }
 
-  pub at_question : (p : List ℕ) (e : Assignment) → IsAt l c p e → IsQuestion l e
+  pub at_question : (p : List ℕ) (e : Assignment) → IsPrefixAt l c p e → IsQuestion l e
   at_question p e at = subst (IsQuestion l) (sym at.is) (question_there l (order_of l c) p at.small at.ranged)
 
   -- the next variable is one of the language's
-  pub next_in : (order p : List ℕ) (e : Assignment) (k : ℕ) → order ≡ order_of l c → k ≡ length p → IsAt l c p e → length p < variable_count l → (k < length order) × (slice_index_or order k 0 < length e)
+  pub next_in : (order p : List ℕ) (e : Assignment) (k : ℕ) → order ≡ order_of l c → k ≡ length p → IsPrefixAt l c p e → length p < variable_count l → (k < length order) × (slice_index_or order k 0 < length e)
   next_in order p e k same at_k at room =
       let ordered = orders_are_known l c lawful is in
       let long : length order ≡ variable_count l = ap length same ∙ ordered.size in
@@ -81,21 +81,21 @@ module _ (l : Language) (lawful : IsLanguage l) (c : Candidate) (is : IsCandidat
       let size : length e ≡ variable_count l = ap length at.is ∙ size_of (variable_count l) (order_of l c) ordered p in
       (omega (arith, long, at_k, room), omega (arith, next, size))
 
-  pub pushed : (order p q : List ℕ) (e f : Assignment) (x k : ℕ) → order ≡ order_of l c → k ≡ length p → q ≡ p ++ x ∷ [] → f ≡ slice_set e (slice_index_or order k 0) (Some x) → IsAt l c p e → length p < variable_count l → IsNext l lawful c is p x → IsAt l c q f
+  pub pushed : (order p q : List ℕ) (e f : Assignment) (x k : ℕ) → order ≡ order_of l c → k ≡ length p → q ≡ p ++ x ∷ [] → f ≡ slice_set e (slice_index_or order k 0) (Some x) → IsPrefixAt l c p e → length p < variable_count l → IsNext l lawful c is p x → IsPrefixAt l c q f
   pushed order p q e f x k same at_k items set at room next =
-      subst (IsAt l c q) (sym (set ∙ (λ i. slice_set e (slice_index_or (same i) (at_k i) 0) (Some x))))
-      (subst (λ (r : List ℕ). IsAt l c r (slice_set e (slice_index_or (order_of l c) (length p) 0) (Some x))) (sym items) (at_push p e x at room next))
+      subst (IsPrefixAt l c q) (sym (set ∙ (λ i. slice_set e (slice_index_or (same i) (at_k i) 0) (Some x))))
+      (subst (λ (r : List ℕ). IsPrefixAt l c r (slice_set e (slice_index_or (order_of l c) (length p) 0) (Some x))) (sym items) (at_push p e x at room next))
 
-  pub popped : (order p q : List ℕ) (e f : Assignment) (x k : ℕ) → order ≡ order_of l c → k ≡ length q → p ≡ q ++ x ∷ [] → f ≡ slice_set e (slice_index_or order k 0) None → IsAt l c p e → IsAt l c q f
+  pub popped : (order p q : List ℕ) (e f : Assignment) (x k : ℕ) → order ≡ order_of l c → k ≡ length q → p ≡ q ++ x ∷ [] → f ≡ slice_set e (slice_index_or order k 0) None → IsPrefixAt l c p e → IsPrefixAt l c q f
   popped order p q e f x k same at_k items set at =
-      subst (IsAt l c q) (sym (set ∙ (λ i. slice_set e (slice_index_or (same i) (at_k i) 0) None)))
-      (at_pop q e x (subst (λ (r : List ℕ). IsAt l c r e) items at))
+      subst (IsPrefixAt l c q) (sym (set ∙ (λ i. slice_set e (slice_index_or (same i) (at_k i) 0) None)))
+      (at_pop q e x (subst (λ (r : List ℕ). IsPrefixAt l c r e) items at))
 
   -- a popped value, and the place that it leaves
-  pub last_fits : (p q : List ℕ) (e : Assignment) (x : ℕ) → p ≡ q ++ x ∷ [] → IsAt l c p e → length q < variable_count l
+  pub last_fits : (p q : List ℕ) (e : Assignment) (x : ℕ) → p ≡ q ++ x ∷ [] → IsPrefixAt l c p e → length q < variable_count l
   last_fits p q e x items at = let short = at.short in let long = ap length items in omega (arith, short, long, length-append q (x ∷ []))
 
-  pub last_from : (p q : List ℕ) (e : Assignment) (x : ℕ) → p ≡ q ++ x ∷ [] → IsAt l c p e → (range_of l (next_of l c q)).first ≤ x
+  pub last_from : (p q : List ℕ) (e : Assignment) (x : ℕ) → p ≡ q ++ x ∷ [] → IsPrefixAt l c p e → (range_of l (next_of l c q)).first ≤ x
   last_from p q e x items at = (bounds (range_of l (next_of l c q)) x (ranged_last l lawful c is q x (last_fits p q e x items at) (subst (IsRanged l c) items at.ranged))).0
 
   -- a value that may follow: it isn't below the one that was popped, and not above the last
@@ -109,7 +109,7 @@ module _ (l : Language) (lawful : IsLanguage l) (c : Candidate) (is : IsCandidat
   pub at_next : (order p : List ℕ) (k : ℕ) → order ≡ order_of l c → k ≡ length p → slice_index_or order k 0 ≡ next_of l c p
   at_next order p k same at_k = λ i. slice_index_or (same i) (at_k i) 0
 
-  pub place_in : (order p q : List ℕ) (e : Assignment) (x k : ℕ) → order ≡ order_of l c → k ≡ length q → p ≡ q ++ x ∷ [] → IsAt l c p e → (k < length order) × (slice_index_or order k 0 < length e)
+  pub place_in : (order p q : List ℕ) (e : Assignment) (x k : ℕ) → order ≡ order_of l c → k ≡ length q → p ≡ q ++ x ∷ [] → IsPrefixAt l c p e → (k < length order) × (slice_index_or order k 0 < length e)
   place_in order p q e x k same at_k items at =
       let ordered = orders_are_known l c lawful is in
       let room : length q < variable_count l = last_fits p q e x items at in
@@ -119,8 +119,8 @@ module _ (l : Language) (lawful : IsLanguage l) (c : Candidate) (is : IsCandidat
       let size : length e ≡ variable_count l = ap length at.is ∙ size_of (variable_count l) (order_of l c) ordered p in
       (omega (arith, long, at_k, room), omega (arith, next, size))
 
-  pub at_blank : (values : List ℕ) (e : Assignment) (n : ℕ) → values ≡ [] → n ≡ variable_count l → e ≡ replicate n None → IsAt l c values e
-  at_blank values e n none count blank = subst (λ (vs : List ℕ). IsAt l c vs e) (sym none)
+  pub at_blank : (values : List ℕ) (e : Assignment) (n : ℕ) → values ≡ [] → n ≡ variable_count l → e ≡ replicate n None → IsPrefixAt l c values e
+  at_blank values e n none count blank = subst (λ (vs : List ℕ). IsPrefixAt l c vs e) (sym none)
       (at_begin e (blank ∙ ap (λ (k : ℕ). replicate k None) count ∙ assigned_blank (variable_count l) (order_of l c) (orders_are_known l c lawful is)))
 
 -- ---- the tokens that are left
@@ -139,18 +139,14 @@ module _ (l : Language) (network : List Candidate) (c : Candidate) where
   tree_shut true values token tokens h = absurd (let no : ⊥ = cc in no)
   tree_shut false values token tokens h = refl
 
-  pub tree_unlawful : (is_open : Bool) (values : List ℕ) (token : Token) (tokens : List Token) → is_lawful l network c values token ≡ false → are_trees l network c (ahead is_open l c values) (token ∷ tokens) ≡ false
+  pub tree_unlawful : (is_open : Bool) (values : List ℕ) (token : Token) (tokens : List Token) → is_lawful_node l network c values token ≡ false → are_trees l network c (ahead is_open l c values) (token ∷ tokens) ≡ false
   unfolding are_trees
   tree_unlawful true values token tokens h = ap (λ b. b && are_trees l network c (children l c values token ++ later l c values) tokens) h
   tree_unlawful false values token tokens h = refl
 
-  pub tree_step : (is_open : Bool) (values : List ℕ) (token : Token) (tokens : List Token) (below : List (List ℕ)) → is_open ≡ true → is_lawful l network c values token ≡ true →
+  pub tree_step : (is_open : Bool) (values : List ℕ) (token : Token) (tokens : List Token) (below : List (List ℕ)) → is_open ≡ true → is_lawful_node l network c values token ≡ true →
       children l c values token ++ later l c values ≡ below → are_trees l network c (ahead is_open l c values) (token ∷ tokens) ≡ are_trees l network c below tokens
   unfolding are_trees
   tree_step true values token tokens below h lawful next =
       ap (λ b. b && are_trees l network c (children l c values token ++ later l c values) tokens) lawful ∙ ap (λ (ps : List (List ℕ)). are_trees l network c ps tokens) next
   tree_step false values token tokens below h lawful next = absurd (let no : ⊥ = cc in no)
-
-pub no_items : (xs : List ℕ) → length xs ≡ 0 → xs ≡ []
-no_items [] e = refl
-no_items (x ∷ xs) e = absurd (omega arith)

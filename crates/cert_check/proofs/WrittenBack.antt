@@ -1,5 +1,5 @@
 -- The text of a certificate is read as that certificate.
-use Rattle.cert_check.proofs.Prelude.{◌≡◌, ℕ, suc, ◌+◌, ◌<◌, ◌≤◌, ◌^◌, Bool, true, false, cond, List, [], ◌∷◌, ◌++◌, length, map, is_some, Option, Result, Ok, Err, refl, sym, ◌∙◌, ap, subst, arith, append_assoc, All, ◌==◌, nat_lt, codes, slice_index, flat_map, list_any, ok_or, ltb-false, All-head, All-tail, Answer, Candidate, Language, IsLanguage, IsCandidate, IsQuestion, candidates, IsNetwork, then_on, MOST_VOCABULARY, json_of, parts_in, parts_of, IsVocabulary, NotJson, CertFault, BadLine, Certificate, Refutation, ◌>>=◌, Unread, MOST_ANSWERS, MOST_CERTIFICATE, answer_in, item_in, listed_in, count_in, count_up_to, next_line, behind_line, lines_in, vocabulary_in, end_in, certificate_in, IsRead, answers_section, certificate_text, count_line, end_line, entry_line, implied_section, item_line, listed_line, network_section, HaveValues, IsNodeOver, WrittenIsRead, lacks_by}
+use Rattle.cert_check.proofs.Prelude.{◌≡◌, ℕ, suc, ◌+◌, ◌<◌, ◌≤◌, ◌^◌, Bool, true, false, cond, List, [], ◌∷◌, ◌++◌, length, map, is_some, Option, Result, Ok, Err, refl, sym, ◌∙◌, ap, subst, arith, append_assoc, All, ◌==◌, nat_lt, codes, slice_index, flat_map, list_any, ok_or, ltb-false, All-head, All-tail, Answer, Candidate, Language, IsLanguage, IsCandidate, IsQuestion, candidates, IsNetwork, then_on, MOST_VOCABULARY, json_of, parts_in, vocabulary_parts, IsVocabulary, NotJson, CertFault, BadLine, Certificate, Refutation, ◌>>=◌, Unread, MOST_ANSWERS, MOST_CERTIFICATE, answer_line_in, item_in, item_listed_in, count_in, count_up_to, next_line, behind_line, lines_in, vocabulary_in, last_line_in, certificate_in, IsRead, answers_section, certificate_text, count_line, end_line, entry_line, implied_section, item_line, listed_line, network_section, HaveValues, IsNodeOver, WrittenIsRead, lacks_by}
 use Rattle.std.specs.List.Sorted.{IsStrictlyIncreasing}
 use Rattle.voc_read.specs.declared.fault.VocFault.TheVariants.{TooLong}
 use Rattle.cert_check.proofs.LinesBack.{AreSaid, Says, block_back, count_said, count_up_to_said, from, known_back, lines_back, said_back}
@@ -8,7 +8,7 @@ use Rattle.cert_check.proofs.QuestionsBack.{entry_said}
 
 -- ---- The members of a section
 
-answers_said : (l : Language) (t : List Answer) → IsLanguage l → All (λ a. IsQuestion l a.question) t → HaveValues t → AreSaid (λ _. answer_in l) (λ _. 0) entry_line 0 t
+answers_said : (l : Language) (t : List Answer) → IsLanguage l → All (λ a. IsQuestion l a.question) t → HaveValues t → AreSaid (λ _. answer_line_in l) (λ _. 0) entry_line 0 t
 answers_said l [] lawful asked valued = tt
 answers_said l (a ∷ t) lawful asked valued = (
   entry_said l a lawful (All-head (λ b. IsQuestion l b.question) a t asked) (All-head (λ b. list_any is_some b.question ≡ true) a t valued),
@@ -36,7 +36,7 @@ abbrev pub number : Refutation → ℕ
 number r = r.candidate
 
 listed_all_said : (l : Language) (items least : ℕ) (refutations : List Refutation) → IsLanguage l → items < 2 ^ 32 → Rise least (map number refutations) → All (λ r. r.candidate < length (candidates l)) refutations →
-    All (λ r. All (IsNodeOver items) r.tokens) refutations → AreSaid (listed_in l items) (λ (r : Refutation). r.candidate + 1) listed_line least refutations
+    All (λ r. All (IsNodeOver items) r.tokens) refutations → AreSaid (item_listed_in l items) (λ (r : Refutation). r.candidate + 1) listed_line least refutations
 listed_all_said l items least [] lawful few rising known nodes = tt
 listed_all_said l items least (r ∷ rs) lawful few rising known nodes = (
   listed_said items few l least r lawful rising.0 (All-head (λ s. s.candidate < length (candidates l)) r rs known) (All-head (λ s. All (IsNodeOver items) s.tokens) r rs nodes),
@@ -57,12 +57,12 @@ section_back counted form next line head n xs rest more y count said done =
     ∙ then_ok (next_line counted (from n (head ++ (flat_map line xs ++ rest)))) (λ m. lines_in form next 0 m.0 m.1 >>= more) (length xs, from (n + 1) (flat_map line xs ++ rest)) y (said_back counted n head (flat_map line xs ++ rest) (length xs) count)
     (then_ok (lines_in form next 0 (length xs) (from (n + 1) (flat_map line xs ++ rest))) more (xs, from ((n + 1) + length xs) rest) y (lines_back form next line 0 (n + 1) xs rest said) done)
 
-end_back : (n : ℕ) → end_in (from n end_line) ≡ Ok tt
-unfolding end_in
+end_back : (n : ℕ) → last_line_in (from n end_line) ≡ Ok tt
+unfolding last_line_in
 end_back n = ap (λ r. r >>= λ behind. cond (length behind.bytes == 0) (Ok tt) (Err (BadLine behind.line))) (known_back (codes "end") n [] (lacks_by 10 (codes "end") refl) refl)
 
 voc_short : (voc : List ℕ) (l : Language) → IsVocabulary voc l → length voc ≤ MOST_VOCABULARY
-unfolding parts_of
+unfolding vocabulary_parts
 voc_short voc l is = go (nat_lt MOST_VOCABULARY (length voc)) refl
   where
     go : (b : Bool) → nat_lt MOST_VOCABULARY (length voc) ≡ b → length voc ≤ MOST_VOCABULARY
@@ -116,16 +116,16 @@ module _ (voc : List ℕ) (cert : Certificate) (told : IsTold voc cert) where
       let few = told.few_answers in
       let few_items = told.few_items in
       let few_refutations = told.few_refutations in
-      section_back (count_up_to MOST_ANSWERS (codes "answers")) (λ _. answer_in l) (λ _. 0) entry_line (count_line (codes "answers") (length cert.answers)) 3 cert.answers (network_section cert.network ++ (implied_section cert.refutations ++ end_line)) _ cert
+      section_back (count_up_to MOST_ANSWERS (codes "answers")) (λ _. answer_line_in l) (λ _. 0) entry_line (count_line (codes "answers") (length cert.answers)) 3 cert.answers (network_section cert.network ++ (implied_section cert.refutations ++ end_line)) _ cert
       (count_up_to_said MOST_ANSWERS (codes "answers") (length cert.answers) (lacks_by 10 (codes "answers") refl) (lacks_by 32 (codes "answers") refl) refl (omega (arith, few)) few)
       (answers_said l cert.answers told.lawful told.asked told.valued)
       (section_back (count_in (codes "network")) (λ _. item_in l) (λ _. 0) item_line (count_line (codes "network") (length cert.network)) m cert.network (implied_section cert.refutations ++ end_line) _ cert
       (count_said (codes "network") (length cert.network) (lacks_by 10 (codes "network") refl) (lacks_by 32 (codes "network") refl) refl (omega (arith, few_items)))
       (items_said l cert.network told.lawful told.network)
-      (section_back (count_in (codes "implied")) (listed_in l (length cert.network)) (λ (r : Refutation). r.candidate + 1) listed_line (count_line (codes "implied") (length cert.refutations)) k cert.refutations end_line _ cert
+      (section_back (count_in (codes "implied")) (item_listed_in l (length cert.network)) (λ (r : Refutation). r.candidate + 1) listed_line (count_line (codes "implied") (length cert.refutations)) k cert.refutations end_line _ cert
       (count_said (codes "implied") (length cert.refutations) (lacks_by 10 (codes "implied") refl) (lacks_by 32 (codes "implied") refl) refl (omega (arith, few_refutations)))
       (listed_all_said l (length cert.network) 0 cert.refutations told.lawful few_items told.rising told.known told.nodes)
-      (then_ok (end_in (from ((k + 1) + length cert.refutations) end_line)) _ tt cert (end_back ((k + 1) + length cert.refutations)) refl)))
+      (then_ok (last_line_in (from ((k + 1) + length cert.refutations) end_line)) _ tt cert (end_back ((k + 1) + length cert.refutations)) refl)))
 
   pub certificate_back : IsRead (certificate_text voc cert) cert
   certificate_back = record {

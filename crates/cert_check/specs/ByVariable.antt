@@ -23,8 +23,8 @@ abbrev pub by_variable : Language → List Candidate → List (List ℕ)
 by_variable l network = map (items_on l network) (numbers (variable_count l))
 
 -- the rows that the fields stand for
-abbrev pub rows_in : Inside → List (List ℕ)
-rows_in a = map (λ (row : Vec ℕ Global). row.items) a.rows.items
+abbrev pub rows_of_fields : Inside → List (List ℕ)
+rows_of_fields a = map (λ (row : Vec ℕ Global). row.items) a.rows.items
 
 -- the variable that has its value last, where the first k of an order have one
 abbrev pub last_of : List ℕ → ℕ → Option ℕ

@@ -34,17 +34,17 @@ abbrev pub IsFirstLong : Language → List Candidate → List Candidate → ℕ 
 IsFirstLong l network listed budget fault = option_map (λ c. Long (number_of l c)) (find (is_long l network budget) listed) ≡ Some fault
 
 -- a text, where it isn't too long
-abbrev pub fitting : List ℕ → Result (List ℕ) MakeFault
-fitting text = if nat_lt MOST_CERTIFICATE (length text) then Err TooLarge else Ok text
+abbrev pub fitting_text : List ℕ → Result (List ℕ) MakeFault
+fitting_text text = if nat_lt MOST_CERTIFICATE (length text) then Err TooLarge else Ok text
 
 -- the same, where no candidate has too many plain prefixes, which is told before the text
 abbrev pub made_within : Option ℕ → List ℕ → Result (List ℕ) MakeFault
 made_within (Some number) text = Err (Long number)
-made_within None text = fitting text
+made_within None text = fitting_text text
 
 -- the certificate's text under a budget
-abbrev pub made : List ℕ → Language → List Candidate → List Answer → ℕ → Result (List ℕ) MakeFault
-made voc l network t budget = made_within (first_long l network t budget) (certificate_text voc (certificate_of l network t))
+abbrev pub certificate_made : List ℕ → Language → List Candidate → List Answer → ℕ → Result (List ℕ) MakeFault
+certificate_made voc l network t budget = made_within (first_long l network t budget) (certificate_text voc (certificate_of l network t))
 
 -- the answer, seen as it is stated, is the stated one, want of memory aside
 abbrev pub Makes : {A B : Type 0} → (A → B) → Result B MakeFault → Result A MakeFault → Type 0

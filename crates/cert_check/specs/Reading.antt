@@ -56,8 +56,8 @@ abbrev pub reply_in : List ℕ → Option Bool
 reply_in word = if bytes_eq word (codes "yes") then Some true else (if bytes_eq word (codes "no") then Some false else None)
 
 -- a reply, and one value or more: `yes 0:0 1:1`
-abbrev pub answer_in : Language → List ℕ → Option Answer
-answer_in l line = option_and_then (λ parts. option_and_then (λ yes. option_map (λ q. record { question = q; yes = yes }) (question_in l parts.1)) (reply_in parts.0)) (cut_at 32 line)
+abbrev pub answer_line_in : Language → List ℕ → Option Answer
+answer_line_in l line = option_and_then (λ parts. option_and_then (λ yes. option_map (λ q. record { question = q; yes = yes }) (question_in l parts.1)) (reply_in parts.0)) (cut_at 32 line)
 
 -- the numbers of a scope and of a relation on it: `0 1`
 abbrev pub item_in : Language → List ℕ → Option Candidate
@@ -76,8 +76,8 @@ listed_of l items least [] = None
 listed_of l items least (number ∷ words) = option_and_then (λ c. option_map (λ tokens. record { candidate = c; tokens = tokens }) (tokens_in items words)) (number_from least (length (candidates l)) number)
 
 -- a candidate's number, from the least on, and its tokens: `0 b c 1`
-abbrev pub listed_in : Language → ℕ → ℕ → List ℕ → Option Refutation
-listed_in l items least line = listed_of l items least (words_in line)
+abbrev pub item_listed_in : Language → ℕ → ℕ → List ℕ → Option Refutation
+item_listed_in l items least line = listed_of l items least (words_in line)
 
 -- ---- Lines, one after the other
 
@@ -124,15 +124,15 @@ block_in size unread =
     then Ok (take size unread.bytes, record { line = unread.line + 1; bytes = drop (size + 1) unread.bytes })
     else Err (BadLine unread.line)
 
-abbrev pub answer_lines : Language → ℕ → Unread → Result (List Answer × Unread) CertFault
-answer_lines l = lines_in (λ _. answer_in l) (λ _. 0) 0
+abbrev pub answers_read : Language → ℕ → Unread → Result (List Answer × Unread) CertFault
+answers_read l = lines_in (λ _. answer_line_in l) (λ _. 0) 0
 
 abbrev pub item_lines : Language → ℕ → Unread → Result (List Candidate × Unread) CertFault
 item_lines l = lines_in (λ _. item_in l) (λ _. 0) 0
 
 -- candidates' numbers rise
 abbrev pub listed_lines : Language → ℕ → ℕ → Unread → Result (List Refutation × Unread) CertFault
-listed_lines l items = lines_in (listed_in l items) (λ (r : Refutation). r.candidate + 1) 0
+listed_lines l items = lines_in (item_listed_in l items) (λ (r : Refutation). r.candidate + 1) 0
 
 -- ---- The whole
 
@@ -144,8 +144,8 @@ vocabulary_in bytes = do
   block_in size.0 size.1
 
 -- the last line, and nothing behind it
-unfoldable pub end_in : Unread → Result (Unit {0}) CertFault
-end_in unread = do
+unfoldable pub last_line_in : Unread → Result (Unit {0}) CertFault
+last_line_in unread = do
   behind ← behind_line (codes "end") unread
   if length behind.bytes == 0 then Ok tt else Err (BadLine behind.line)
 
@@ -153,12 +153,12 @@ end_in unread = do
 unfoldable pub certificate_in : Language → Unread → Result Certificate CertFault
 certificate_in l unread = do
   m ← next_line (count_up_to MOST_ANSWERS (codes "answers")) unread
-  answers ← answer_lines l m.0 m.1
+  answers ← answers_read l m.0 m.1
   k ← next_line (count_in (codes "network")) answers.1
   network ← item_lines l k.0 k.1
   j ← next_line (count_in (codes "implied")) network.1
   refutations ← listed_lines l (length network.0) j.0 j.1
-  last ← end_in refutations.1
+  last ← last_line_in refutations.1
   Ok (record { language = l; answers = answers.0; network = network.0; refutations = refutations.0 })
 
 -- The bytes are read as this certificate.

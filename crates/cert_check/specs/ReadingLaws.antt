@@ -7,8 +7,8 @@ use Rattle.cert_check.specs.Certificate.{Certificate}
 use Rattle.cert_check.specs.Reading.{IsRead, IsUnreadable}
 
 -- no bytes are read and refused
-abbrev pub ReadIsNotRefused : Type 0
-ReadIsNotRefused = (bytes : List ℕ) (cert : Certificate) (fault : CertFault) → IsRead bytes cert → IsUnreadable bytes fault → ⊥
+abbrev pub ReadCertificateIsNotRefused : Type 0
+ReadCertificateIsNotRefused = (bytes : List ℕ) (cert : Certificate) (fault : CertFault) → IsRead bytes cert → IsUnreadable bytes fault → ⊥
 
 -- no bytes are read as two certificates
 abbrev pub NoTwoCertificates : Type 0
@@ -25,5 +25,5 @@ wants_memory (Voc fault) = voc_wants fault
 wants_memory other = false
 
 -- each list of bytes is read, or refused, and not for want of memory
-abbrev pub EachIsReadOrRefused : Type 0
-EachIsReadOrRefused = (bytes : List ℕ) → ((cert : Certificate) × IsRead bytes cert) ⊎ ((fault : CertFault) × (wants_memory fault ≡ false) × IsUnreadable bytes fault)
+abbrev pub EachCertificateIsReadOrRefused : Type 0
+EachCertificateIsReadOrRefused = (bytes : List ℕ) → ((cert : Certificate) × IsRead bytes cert) ⊎ ((fault : CertFault) × (wants_memory fault ≡ false) × IsUnreadable bytes fault)

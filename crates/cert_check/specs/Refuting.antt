@@ -14,10 +14,10 @@ violates_item l network e i = option_map_or (λ c. violates l c e) (slice_get ne
 
 -- Whether a node of a candidate's tree is lawful at a prefix. A branch is so where a variable has no value yet. A leaf is
 -- so where the prefix satisfies the candidate, or violates the item that it names.
-abbrev pub is_lawful : Language → List Candidate → Candidate → List ℕ → Token → Bool
-is_lawful l network c prefix Branch = nat_lt (length prefix) (variable_count l)
-is_lawful l network c prefix Holds = satisfies l c (assignment_of l c prefix)
-is_lawful l network c prefix (Item i) = violates_item l network (assignment_of l c prefix) i
+abbrev pub is_lawful_node : Language → List Candidate → Candidate → List ℕ → Token → Bool
+is_lawful_node l network c prefix Branch = nat_lt (length prefix) (variable_count l)
+is_lawful_node l network c prefix Holds = satisfies l c (assignment_of l c prefix)
+is_lawful_node l network c prefix (Item i) = violates_item l network (assignment_of l c prefix) i
 
 -- the prefixes at which a node's children stand: those of a branch have each value of the next variable, rising
 abbrev pub children : Language → Candidate → List ℕ → Token → List (List ℕ)
@@ -31,7 +31,7 @@ are_trees l network c [] [] = true
 are_trees l network c (prefix ∷ later) [] = false
 are_trees l network c [] (token ∷ tokens) = false
 are_trees l network c (prefix ∷ later) (token ∷ tokens) =
-    is_lawful l network c prefix token && are_trees l network c (children l c prefix token ++ later) tokens
+    is_lawful_node l network c prefix token && are_trees l network c (children l c prefix token ++ later) tokens
 
 -- whether the tokens are the lawful nodes of one tree, which stands at the empty prefix
 abbrev pub refutes : Language → List Candidate → Candidate → List Token → Bool

@@ -4,13 +4,13 @@ use Rattle.cert_check.specs.declared.sheet.Sheet.{Sheet}
 use Rattle.cert_check.specs.Reading.{MOST_CERTIFICATE}
 
 -- The pieces so far are the text, or there are too many bytes of them.
-abbrev pub Stands : Bool → List ℕ → List ℕ → Type 0
-Stands true text whole = MOST_CERTIFICATE < length whole
-Stands false text whole = (text ≡ whole) × (length whole ≤ MOST_CERTIFICATE)
+abbrev pub IsTextSoFar : Bool → List ℕ → List ℕ → Type 0
+IsTextSoFar true text whole = MOST_CERTIFICATE < length whole
+IsTextSoFar false text whole = (text ≡ whole) × (length whole ≤ MOST_CERTIFICATE)
 
 abbrev pub IsSheetOf : Sheet → List ℕ → Type 0
-IsSheetOf sheet whole = Stands sheet.is_full (string_bytes sheet.text) whole
+IsSheetOf sheet whole = IsTextSoFar sheet.is_full (string_bytes sheet.text) whole
 
 -- a piece more
-abbrev pub Adds : Sheet → List ℕ → Sheet → Type 0
-Adds old piece new = (whole : List ℕ) → IsSheetOf old whole → IsSheetOf new (whole ++ piece)
+abbrev pub AddsPiece : Sheet → List ℕ → Sheet → Type 0
+AddsPiece old piece new = (whole : List ℕ) → IsSheetOf old whole → IsSheetOf new (whole ++ piece)

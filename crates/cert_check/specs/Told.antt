@@ -35,7 +35,7 @@ pub record AreSpared (l : Language) (t : List Answer) (list : List (Option ℕ))
   pub each : (s : ℕ) → s < length l.scopes → IsSparedOn l t s (slice_index_or list s None)
 
 -- what the answers tell
-pub record IsTold (l : Language) (t : List Answer) (told : Told) : Type 0 where
+pub record IsToldBy (l : Language) (t : List Answer) (told : Told) : Type 0 where
   pub made : IsMadeFor l told.unstruck
   pub unstruck : told.unstruck.members ≡ unstruck l t
   pub spared : AreSpared l t told.spared.items

@@ -24,7 +24,7 @@ ahead true l c p = p ∷ later l c p
 ahead false l c p = []
 
 -- values for the first variables of a candidate's order, each one of its variable's, and the assignment that gives them
-pub record IsAt (l : Language) (c : Candidate) (values : List ℕ) (e : Assignment) : Type 0 where
+pub record IsPrefixAt (l : Language) (c : Candidate) (values : List ℕ) (e : Assignment) : Type 0 where
   pub short : length values ≤ variable_count l
   pub small : All (λ x. x < l.value_count) values
   pub ranged : IsTrue (are_ranged l (assignment_of l c values))

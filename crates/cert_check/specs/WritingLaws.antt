@@ -12,7 +12,7 @@ use Rattle.cert_check.specs.declared.token.Token.TheVariants.{Branch, Holds, Ite
 use Rattle.cert_check.specs.declared.verdict.Verdict.TheVariants.{Yes}
 use Rattle.cert_check.specs.Certificate.{Certificate, Refutation}
 use Rattle.cert_check.specs.Checking.{verdict}
-use Rattle.cert_check.specs.Making.{certificate_of, made}
+use Rattle.cert_check.specs.Making.{certificate_of, certificate_made}
 use Rattle.cert_check.specs.Reading.{MOST_ANSWERS, MOST_CERTIFICATE, IsRead}
 use Rattle.cert_check.specs.Sound.{IsSound}
 use Rattle.cert_check.specs.Written.{certificate_text}
@@ -52,4 +52,4 @@ MadeIsConfirmed =
     (voc : List ℕ) (l : Language) (network : List Candidate) (t : List Answer) (budget : ℕ) (text : List ℕ) →
     IsLanguage l → IsVocabulary voc l → IsNetwork l network → IsCovered l network t →
     All (λ a. IsQuestion l a.question) t → HaveValues t → length t ≤ MOST_ANSWERS →
-    made voc l network t budget ≡ Ok text → IsConfirmed text (certificate_of l network t)
+    certificate_made voc l network t budget ≡ Ok text → IsConfirmed text (certificate_of l network t)

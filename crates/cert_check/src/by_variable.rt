@@ -20,9 +20,9 @@ impl Model for ByVariable {
 
     ghost Value = { List (List ℕ) };
 
-    ghost use Rattle.cert_check.specs.ByVariable.{rows_in};
+    ghost use Rattle.cert_check.specs.ByVariable.{rows_of_fields};
 
-    ghost view = { rows_in };
+    ghost view = { rows_of_fields };
 }
 
 /// Whether there is an item of this number, and its scope has the variable.

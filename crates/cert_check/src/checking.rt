@@ -3,7 +3,7 @@ ghost use Rattle.language.specs.Language.{IsLanguage, IsQuestion, candidates};
 ghost use Rattle.language.specs.Answers.{IsConverged, IsNetwork};
 ghost use Rattle.cert_check.specs.declared.verdict.Verdict.TheVariants.{Yes};
 ghost use Rattle.cert_check.specs.Checking.{flaw_before_list, is_other, is_unearned, verdict};
-ghost use Rattle.cert_check.specs.Told.{IsTold, flaw_told};
+ghost use Rattle.cert_check.specs.Told.{IsToldBy, flaw_told};
 ghost use Rattle.assign.specs.Events.{Answer};
 ghost use Rattle.cert_check.specs.Good.{IsGood, is_earned};
 
@@ -44,7 +44,7 @@ fn first_answer(
 fn flaw_told(lang: &Language, net: &[Candidate], told: &Told, items: &[Listed]) -> Option<Flaw>
     requires network { IsNetwork lang.now net.now }
     requires few_items { length net.now < 2 ^ 32 }
-    ensures { (t : List Answer) → IsTold lang.now t told.now → result ≡ flaw_told lang.now net.now t items.now }
+    ensures { (t : List Answer) → IsToldBy lang.now t told.now → result ≡ flaw_told lang.now net.now t items.now }
 {
     if let Some(i) = first_without_no(lang, net, told) {
         return Some(Flaw::NoOwnNo(i));

@@ -1,7 +1,7 @@
 //! Laws of the definitions, as contracts of functions that do nothing.
 
 ghost use Rattle.cert_check.specs.Laws.{GoodIsConverged, GoodIsCovered, MadeIsGood, RefutedIsImplied};
-ghost use Rattle.cert_check.specs.ReadingLaws.{EachIsReadOrRefused, NoTwoCertificates, NoTwoFaults, ReadIsNotRefused};
+ghost use Rattle.cert_check.specs.ReadingLaws.{EachCertificateIsReadOrRefused, NoTwoCertificates, NoTwoFaults, ReadCertificateIsNotRefused};
 ghost use Rattle.cert_check.specs.WritingLaws.{MadeIsConfirmed, WrittenIsRead};
 
 /// A candidate that tokens refute is implied by the network.
@@ -26,7 +26,7 @@ pub fn made_is_good()
 
 /// No bytes are read and refused.
 pub fn read_is_not_refused()
-    ensures { ReadIsNotRefused }
+    ensures { ReadCertificateIsNotRefused }
 {}
 
 /// No bytes are read as two certificates.
@@ -41,7 +41,7 @@ pub fn no_two_faults()
 
 /// Each list of bytes is read as a certificate, or is refused, and not for want of memory.
 pub fn each_is_read_or_refused()
-    ensures { EachIsReadOrRefused }
+    ensures { EachCertificateIsReadOrRefused }
 {}
 
 /// The text of a certificate is read as that certificate.

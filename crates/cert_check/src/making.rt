@@ -8,9 +8,9 @@ ghost use Rattle.language.specs.Language.{IsCandidate, IsImplied, IsQuestion, La
 ghost use Rattle.language.specs.Answers.{IsCovered, IsNetwork, has_scope, is_struck, kept};
 ghost use Rattle.voc_read.specs.Vocabulary.{IsVocabulary};
 ghost use Rattle.cert_check.specs.ByVariable.{by_variable};
-ghost use Rattle.cert_check.specs.Making.{IsFirstLong, Makes, is_long, made, refutation_of};
+ghost use Rattle.cert_check.specs.Making.{IsFirstLong, Makes, is_long, certificate_made, refutation_of};
 ghost use Rattle.cert_check.specs.Reading.{MOST_ANSWERS};
-ghost use Rattle.cert_check.specs.Sheets.{Adds};
+ghost use Rattle.cert_check.specs.Sheets.{AddsPiece};
 ghost use Rattle.cert_check.specs.Told.{unstruck};
 ghost use Rattle.cert_check.specs.Written.{answers_section, count_line, entry_line, implied_section, item_line, listed_line, network_section, numbered_value, numbered_values, reply_text, vocabulary_section};
 
@@ -63,7 +63,7 @@ fn kept(
 
 /// Adds a line with a word and how many lines or bytes follow: `answers 2`.
 fn add_count(sheet: &mut Sheet, word: &str, count: usize) -> Result<(), AllocError>
-    ensures { OnOk result (Adds sheet.old (count_line word.now count) sheet.new) }
+    ensures { OnOk result (AddsPiece sheet.old (count_line word.now count) sheet.new) }
 {
     sheet.add(word)?;
     sheet.add(" ")?;
@@ -73,7 +73,7 @@ fn add_count(sheet: &mut Sheet, word: &str, count: usize) -> Result<(), AllocErr
 
 /// Adds what a question gives a variable: ` 0:1`, or nothing.
 fn add_value(sheet: &mut Sheet, q: &Partial, v: u8) -> Result<(), AllocError>
-    ensures { OnOk result (Adds sheet.old (numbered_value v (value_of q.now v)) sheet.new) }
+    ensures { OnOk result (AddsPiece sheet.old (numbered_value v (value_of q.now v)) sheet.new) }
 {
     let Some(x) = q.get(v) else {
         return Ok(());
@@ -86,7 +86,7 @@ fn add_value(sheet: &mut Sheet, q: &Partial, v: u8) -> Result<(), AllocError>
 
 /// Adds what a question gives its variables.
 fn add_values(sheet: &mut Sheet, q: &Partial) -> Result<(), AllocError>
-    ensures { OnOk result (Adds sheet.old (numbered_values q.now) sheet.new) }
+    ensures { OnOk result (AddsPiece sheet.old (numbered_values q.now) sheet.new) }
 {
     for v in 0..q.len() {
         add_value(sheet, q, v)?;
@@ -95,7 +95,7 @@ fn add_values(sheet: &mut Sheet, q: &Partial) -> Result<(), AllocError>
 }
 
 fn add_reply(sheet: &mut Sheet, yes: bool) -> Result<(), AllocError>
-    ensures { OnOk result (Adds sheet.old (reply_text yes) sheet.new) }
+    ensures { OnOk result (AddsPiece sheet.old (reply_text yes) sheet.new) }
 {
     if yes {
         sheet.add("yes")
@@ -106,7 +106,7 @@ fn add_reply(sheet: &mut Sheet, yes: bool) -> Result<(), AllocError>
 
 /// Adds an answer: `yes 0:0 1:1`.
 fn add_entry(sheet: &mut Sheet, entry: &Entry) -> Result<(), AllocError>
-    ensures { OnOk result (Adds sheet.old (entry_line entry.now) sheet.new) }
+    ensures { OnOk result (AddsPiece sheet.old (entry_line entry.now) sheet.new) }
 {
     add_reply(sheet, entry.yes)?;
     add_values(sheet, &entry.question)?;
@@ -115,7 +115,7 @@ fn add_entry(sheet: &mut Sheet, entry: &Entry) -> Result<(), AllocError>
 
 /// Adds an item of the network: `0 1`.
 fn add_item(sheet: &mut Sheet, c: Candidate) -> Result<(), AllocError>
-    ensures { OnOk result (Adds sheet.old (item_line c) sheet.new) }
+    ensures { OnOk result (AddsPiece sheet.old (item_line c) sheet.new) }
 {
     sheet.add_number(u64::from(c.scope))?;
     sheet.add(" ")?;
@@ -139,7 +139,7 @@ fn add_listed(
     requires implied { IsImplied lang.now net.now c }
     requires small_budget { budget ≤ 1000000000 }
     ensures long { IfOk result (λ long. long ≡ is_long lang.now net.now budget c) }
-    ensures added { IfOk result (λ long. long ≡ false → Adds sheet.old (listed_line (refutation_of lang.now net.now c)) sheet.new) }
+    ensures added { IfOk result (λ long. long ≡ false → AddsPiece sheet.old (listed_line (refutation_of lang.now net.now c)) sheet.new) }
 {
     sheet.add_number(u64::from(lang.number_of(c)))?;
     if add_tree(sheet, lang, net, by, c, budget)? {
@@ -154,7 +154,7 @@ fn add_listed(
 /// Adds the first line and the vocabulary.
 fn add_vocabulary(sheet: &mut Sheet, voc: &[u8]) -> Result<(), AllocError>
     requires { IsUtf8 voc.now }
-    ensures { OnOk result (Adds sheet.old (vocabulary_section voc.now) sheet.new) }
+    ensures { OnOk result (AddsPiece sheet.old (vocabulary_section voc.now) sheet.new) }
 {
     let Ok(text) = std::str::from_utf8(voc) else {
         unreachable!();
@@ -166,7 +166,7 @@ fn add_vocabulary(sheet: &mut Sheet, voc: &[u8]) -> Result<(), AllocError>
 }
 
 fn add_answers(sheet: &mut Sheet, answers: &[Entry]) -> Result<(), AllocError>
-    ensures { OnOk result (Adds sheet.old (answers_section answers.now) sheet.new) }
+    ensures { OnOk result (AddsPiece sheet.old (answers_section answers.now) sheet.new) }
 {
     add_count(sheet, "answers", answers.len())?;
     for entry in answers {
@@ -176,7 +176,7 @@ fn add_answers(sheet: &mut Sheet, answers: &[Entry]) -> Result<(), AllocError>
 }
 
 fn add_network(sheet: &mut Sheet, net: &[Candidate]) -> Result<(), AllocError>
-    ensures { OnOk result (Adds sheet.old (network_section net.now) sheet.new) }
+    ensures { OnOk result (AddsPiece sheet.old (network_section net.now) sheet.new) }
 {
     add_count(sheet, "network", net.len())?;
     for c in net {
@@ -200,7 +200,7 @@ fn add_implied(
     requires implied { All (IsImplied lang.now net.now) listed.now }
     requires small_budget { budget ≤ 1000000000 }
     ensures within { OnOk result (find (is_long lang.now net.now budget) listed.now ≡ None) }
-    ensures added { OnOk result (Adds sheet.old (implied_section (map (refutation_of lang.now net.now) listed.now)) sheet.new) }
+    ensures added { OnOk result (AddsPiece sheet.old (implied_section (map (refutation_of lang.now net.now) listed.now)) sheet.new) }
     ensures long { IfErr result (λ fault. fault ≢ MakeFault.Memory → IsFirstLong lang.now net.now listed.now budget fault) }
 {
     add_count(sheet, "implied", listed.len())?;
@@ -234,7 +234,7 @@ pub fn make_cert(
     requires read { IsVocabulary voc.now lang.now }
     requires some_budget { 1 ≤ budget }
     requires small_budget { budget ≤ 1000000000 }
-    ensures { Makes string_bytes (made voc.now lang.now net.now answers.now budget) result }
+    ensures { Makes string_bytes (certificate_made voc.now lang.now net.now answers.now budget) result }
 {
     let listed = kept(alloc, lang, answers, net)?;
     let mut sheet = Sheet::new(alloc);

@@ -2,7 +2,7 @@
 
 ghost use Rattle.std.specs.Prelude.{◌≡◌, ◌≢◌, ◌≤◌, length, IfOk, IfErr};
 ghost use Rattle.language.specs.Language.{IsLanguage};
-ghost use Rattle.cert_check.specs.Reading.{IsRead, IsUnreadable, certificate_in, end_in, vocabulary_in};
+ghost use Rattle.cert_check.specs.Reading.{IsRead, IsUnreadable, certificate_in, last_line_in, vocabulary_in};
 ghost use Rattle.cert_check.specs.Read.{AreFew, Reads, unread};
 ghost use Rattle.cert_check.specs.Sound.{IsSound};
 
@@ -35,11 +35,11 @@ fn vocabulary_in(bytes: &[u8]) -> Result<(&[u8], Lines<'_>), CertFault>
     block_in(size, rest)
 }
 
-#[tactic(auto, unfolding(crate::specs::Reading::end_in))]
+#[tactic(auto, unfolding(crate::specs::Reading::last_line_in))]
 /// Finds the last line, and nothing behind it.
 fn end_in(lines: Lines<'_>) -> Result<(), CertFault>
     requires { AreFew lines }
-    ensures { Reads (λ x. x) (end_in (unread lines.entry)) result }
+    ensures { Reads (λ x. x) (last_line_in (unread lines.entry)) result }
 {
     let behind = behind_line(b"end".as_slice(), lines)?;
     if behind.bytes.is_empty() {

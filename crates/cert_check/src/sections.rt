@@ -5,7 +5,7 @@ ghost use Rattle.std.specs.Option.{ok_or, option_map};
 ghost use Rattle.language.specs.Language.{IsCandidate, IsQuestion, candidates, range_of};
 ghost use Rattle.language.specs.Ranges.{is_in};
 ghost use Rattle.language.specs.Answers.{IsNetwork};
-ghost use Rattle.cert_check.specs.Reading.{answer_in, answer_lines, item_in, item_lines, listed_in, listed_lines, next_line, pair_in, question_in, reply_in, token_in, tokens_in, value_in};
+ghost use Rattle.cert_check.specs.Reading.{answer_line_in, answers_read, item_in, item_lines, item_listed_in, listed_lines, next_line, pair_in, question_in, reply_in, token_in, tokens_in, value_in};
 ghost use Rattle.line_text.specs.Left.{words_left};
 ghost use Rattle.cert_check.specs.Read.{AreFew, Reads, unread};
 
@@ -76,7 +76,7 @@ fn reply_in(word: &[u8]) -> Option<bool>
 
 /// The answer that a line says.
 fn answer_in(lang: &Language, line: &[u8]) -> Option<Entry>
-    ensures is { result ≡ answer_in lang.now line.now }
+    ensures is { result ≡ answer_line_in lang.now line.now }
     ensures question { IfSome result (λ a. IsQuestion lang.now a.question) }
 {
     let (reply, pairs) = cut_at(line, b' ')?;
@@ -93,7 +93,7 @@ pub(crate) fn answer_lines<'a>(
     lines: Lines<'a>,
 ) -> Result<(Vec<Entry>, Lines<'a>), CertFault>
     requires few { AreFew lines }
-    ensures is { Reads (λ x. (x.0.items, unread x.1)) (answer_lines lang.now count (unread lines.entry)) result }
+    ensures is { Reads (λ x. (x.0.items, unread x.1)) (answers_read lang.now count (unread lines.entry)) result }
     ensures few { IfOk result (λ x. AreFew x.1) }
     ensures questions { IfOk result (λ x. All (λ a. IsQuestion lang.now a.question) x.0.items) }
     ensures long { IfOk result (λ x. vec_len x.0 ≡ count) }
@@ -199,7 +199,7 @@ fn listed_in(
     line: u32,
     text: &[u8],
 ) -> Result<Listed, CertFault>
-    ensures is { Reads (λ r. r) (ok_or (listed_in lang.now items least text.now) (CertFault.BadLine line)) result }
+    ensures is { Reads (λ r. r) (ok_or (item_listed_in lang.now items least text.now) (CertFault.BadLine line)) result }
     ensures known { IfOk result (λ r. r.candidate < length (candidates lang.now)) }
     ensures low { IfOk result (λ r. r.candidate < 4294967295) }
 {
@@ -219,7 +219,7 @@ fn next_listed<'a>(
     lines: Lines<'a>,
 ) -> Result<(Listed, Lines<'a>), CertFault>
     requires few { AreFew lines }
-    ensures is { Reads (λ x. (x.0, unread x.1)) (next_line (listed_in lang.now items least) (unread lines.entry)) result }
+    ensures is { Reads (λ x. (x.0, unread x.1)) (next_line (item_listed_in lang.now items least) (unread lines.entry)) result }
     ensures few { IfOk result (λ x. AreFew x.1) }
     ensures known { IfOk result (λ x. x.0.candidate < length (candidates lang.now)) }
     ensures low { IfOk result (λ x. x.0.candidate < 4294967295) }

@@ -2,8 +2,8 @@
 
 ghost use Rattle.std.specs.Prelude.{ℕ, List, [], OnOk, string_bytes};
 ghost use Rattle.std.specs.Fmt.{decimal};
-ghost use Rattle.cert_check.specs.Making.{Makes, fitting};
-ghost use Rattle.cert_check.specs.Sheets.{Adds, IsSheetOf};
+ghost use Rattle.cert_check.specs.Making.{Makes, fitting_text};
+ghost use Rattle.cert_check.specs.Sheets.{AddsPiece, IsSheetOf};
 
 use crate::fault::MakeFault;
 use std::alloc::{AllocError, Global};
@@ -31,7 +31,7 @@ impl Sheet {
     }
 
     pub(crate) fn add(&mut self, piece: &str) -> Result<(), AllocError>
-        ensures { OnOk result (Adds self.old piece.now self.new) }
+        ensures { OnOk result (AddsPiece self.old piece.now self.new) }
     {
         if self.is_full {
             return Ok(());
@@ -43,7 +43,7 @@ impl Sheet {
 
     /// Adds a number in decimal.
     pub(crate) fn add_number(&mut self, number: u64) -> Result<(), AllocError>
-        ensures { OnOk result (Adds self.old (decimal number) self.new) }
+        ensures { OnOk result (AddsPiece self.old (decimal number) self.new) }
     {
         if self.is_full {
             return Ok(());
@@ -55,7 +55,7 @@ impl Sheet {
 
     /// The whole text. `TooLarge` where it is too long.
     pub(crate) fn finish(self) -> Result<String, MakeFault>
-        ensures { (whole : List ℕ) → IsSheetOf self whole → Makes string_bytes (fitting whole) result }
+        ensures { (whole : List ℕ) → IsSheetOf self whole → Makes string_bytes (fitting_text whole) result }
     {
         if self.is_full {
             return Err(MakeFault::TooLarge);

@@ -8,7 +8,7 @@ ghost use Rattle.language.specs.Language.{IsCandidate, IsLanguage, IsQuestion, a
 ghost use Rattle.language.specs.Answers.{IsNetwork, has_scope};
 ghost use Rattle.cert_check.specs.Checking.{has_other, has_own_no, is_other, is_rival, is_uncovered, repeats_scope};
 ghost use Rattle.cert_check.specs.Good.{has_refutation};
-ghost use Rattle.cert_check.specs.Told.{IsTold};
+ghost use Rattle.cert_check.specs.Told.{IsToldBy};
 
 use crate::cert::Listed;
 use crate::entry::Entry;
@@ -91,7 +91,7 @@ fn has_other(net: &[Candidate], c: Candidate) -> bool
 
 /// Whether the answers don't tell the candidate from another item on its scope.
 fn is_rival(net: &[Candidate], told: &Told, c: Candidate) -> bool
-    ensures { (l : Lang) (t : List Answer) → IsTold l t told.now → IsCandidate l c → result ≡ is_rival l net.now t c }
+    ensures { (l : Lang) (t : List Answer) → IsToldBy l t told.now → IsCandidate l c → result ≡ is_rival l net.now t c }
 {
     !told.is_struck(c) && !told.is_spared(c) && has_other(net, c)
 }
@@ -117,7 +117,7 @@ fn is_uncovered(
     c: Candidate,
 ) -> bool
     requires { IsCandidate lang.now c }
-    ensures { (t : List Answer) → IsTold lang.now t told.now → result ≡ is_uncovered lang.now net.now t items.now c }
+    ensures { (t : List Answer) → IsToldBy lang.now t told.now → result ≡ is_uncovered lang.now net.now t items.now c }
 {
     !told.is_struck(c) && !has_scope(net, c.scope) && !has_refutation(items, lang.number_of(c))
 }
@@ -163,7 +163,7 @@ pub(crate) fn first_repeated(net: &[Candidate]) -> Option<u32>
 pub(crate) fn first_without_no(lang: &Language, net: &[Candidate], told: &Told) -> Option<u32>
     requires network { IsNetwork lang.now net.now }
     requires few { length net.now < 2 ^ 32 }
-    ensures { (t : List Answer) → IsTold lang.now t told.now → result ≡ position (λ c. not (has_own_no lang.now t c)) net.now }
+    ensures { (t : List Answer) → IsToldBy lang.now t told.now → result ≡ position (λ c. not (has_own_no lang.now t c)) net.now }
 {
     for i in 0..net.len() {
         if !told.has_own_no(net[i]) {
@@ -175,7 +175,7 @@ pub(crate) fn first_without_no(lang: &Language, net: &[Candidate], told: &Told) 
 
 /// The first candidate that the answers don't tell from the learned one on its scope.
 pub(crate) fn first_rival(lang: &Language, net: &[Candidate], told: &Told) -> Option<u32>
-    ensures { (t : List Answer) → IsTold lang.now t told.now → result ≡ position (is_rival lang.now net.now t) (candidates lang.now) }
+    ensures { (t : List Answer) → IsToldBy lang.now t told.now → result ≡ position (is_rival lang.now net.now t) (candidates lang.now) }
 {
     for number in 0..lang.candidates() {
         if is_rival(net, told, lang.candidate(number)) {
@@ -192,7 +192,7 @@ pub(crate) fn first_uncovered(
     told: &Told,
     items: &[Listed],
 ) -> Option<u32>
-    ensures { (t : List Answer) → IsTold lang.now t told.now → result ≡ position (is_uncovered lang.now net.now t items.now) (candidates lang.now) }
+    ensures { (t : List Answer) → IsToldBy lang.now t told.now → result ≡ position (is_uncovered lang.now net.now t items.now) (candidates lang.now) }
 {
     for number in 0..lang.candidates() {
         if is_uncovered(lang, net, told, items, lang.candidate(number)) {

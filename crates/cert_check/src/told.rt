@@ -8,7 +8,7 @@ ghost use Rattle.bias_store.specs.KeptSet.{IsMadeFor};
 ghost use Rattle.language.specs.Language.{IsCandidate, IsLanguage, IsQuestion, candidates, relations_on, violates, Language as Lang};
 ghost use Rattle.language.specs.Answers.{is_struck};
 ghost use Rattle.cert_check.specs.Checking.{has_own_no, is_spared};
-ghost use Rattle.cert_check.specs.Told.{AreSpared, IsTold, is_no_about, unstruck};
+ghost use Rattle.cert_check.specs.Told.{AreSpared, IsToldBy, is_no_about, unstruck};
 
 use crate::entry::Entry;
 use assign::Partial;
@@ -99,7 +99,7 @@ impl Told {
     /// What these answers tell.
     pub(crate) fn of(alloc: Global, lang: &Language, answers: &[Entry]) -> Result<Told, Memory>
         requires { All (λ a. IsQuestion lang.now a.question) answers.now }
-        ensures { IfOk result (λ told. IsTold lang.now answers.now told) }
+        ensures { IfOk result (λ told. IsToldBy lang.now answers.now told) }
     {
         let unstruck = unstruck(alloc, lang, answers)?;
         let spared = spared(alloc, lang, &unstruck, answers)?;
@@ -108,14 +108,14 @@ impl Told {
 
     /// Whether a yes violates the candidate.
     pub(crate) fn is_struck(&self, c: Candidate) -> bool
-        ensures { (l : Lang) (t : List Answer) → IsTold l t self.now → IsCandidate l c → result ≡ is_struck l t c }
+        ensures { (l : Lang) (t : List Answer) → IsToldBy l t self.now → IsCandidate l c → result ≡ is_struck l t c }
     {
         !self.unstruck.is_kept(c)
     }
 
     /// Whether a no is about exactly the candidate's scope.
     pub(crate) fn has_own_no(&self, c: Candidate) -> bool
-        ensures { (l : Lang) (t : List Answer) → IsTold l t self.now → IsCandidate l c → result ≡ has_own_no l t c }
+        ensures { (l : Lang) (t : List Answer) → IsToldBy l t self.now → IsCandidate l c → result ≡ has_own_no l t c }
     {
         match self.spared.get(usize::from(c.scope)) {
             Some(Some(_)) => true,
@@ -125,7 +125,7 @@ impl Told {
 
     /// Whether a no about exactly its scope doesn't exclude the candidate.
     pub(crate) fn is_spared(&self, c: Candidate) -> bool
-        ensures { (l : Lang) (t : List Answer) → IsTold l t self.now → IsCandidate l c → result ≡ is_spared l t c }
+        ensures { (l : Lang) (t : List Answer) → IsToldBy l t self.now → IsCandidate l c → result ≡ is_spared l t c }
     {
         match self.spared.get(usize::from(c.scope)) {
             Some(Some(relations)) => c.rel < 64 && (*relations >> c.rel) & 1 == 1,

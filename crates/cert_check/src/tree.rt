@@ -8,14 +8,14 @@ ghost use Rattle.language.specs.Search.{satisfies};
 ghost use Rattle.cert_check.specs.ByVariable.{AreOnLast, by_variable, last_of};
 ghost use Rattle.cert_check.specs.Making.{is_long};
 ghost use Rattle.cert_check.specs.Refuting.{violates_item};
-ghost use Rattle.cert_check.specs.Sheets.{Adds};
+ghost use Rattle.cert_check.specs.Sheets.{AddsPiece};
 ghost use Rattle.cert_check.specs.Trees.{branches, node_of, tree_of};
 ghost use Rattle.cert_check.specs.Written.{token_text};
 
 use crate::by_variable::ByVariable;
 use crate::sheet::Sheet;
 use crate::token::Token;
-use crate::walk::{Values, order_of, satisfies, step, violates_item};
+use crate::walk::{Values, satisfies, step, violates_item};
 use assign::Partial;
 use language::{Candidate, Language};
 use std::alloc::AllocError;
@@ -90,7 +90,7 @@ fn node(
 
 /// Adds a token, with a space before it.
 fn add_token(sheet: &mut Sheet, token: Token) -> Result<(), AllocError>
-    ensures { OnOk result (Adds sheet.old (token_text token) sheet.new) }
+    ensures { OnOk result (AddsPiece sheet.old (token_text token) sheet.new) }
 {
     match token {
         Token::Branch => sheet.add(" b"),
@@ -128,9 +128,9 @@ pub(crate) fn add_tree(
     requires implied { IsImplied lang.now net.now c }
     requires small_budget { budget ≤ 1000000000 }
     ensures long { IfOk result (λ long. long ≡ is_long lang.now net.now budget c) }
-    ensures added { IfOk result (λ long. long ≡ false → Adds sheet.old (flat_map token_text (tree_of lang.now net.now c)) sheet.new) }
+    ensures added { IfOk result (λ long. long ≡ false → AddsPiece sheet.old (flat_map token_text (tree_of lang.now net.now c)) sheet.new) }
 {
-    let order = order_of(lang, c);
+    let order = lang.order_of(c);
     let mut values = Values::new();
     let mut e = Partial::blank(lang.n());
     let mut count = 0;

@@ -3,41 +3,18 @@
 ghost use Rattle.std.specs.Prelude.{◌≡◌, ◌<◌, ◌++◌, length};
 ghost use Rattle.language.specs.Language.{IsCandidate, IsLanguage, IsQuestion, variable_count};
 ghost use Rattle.language.specs.Answers.{IsNetwork};
-ghost use Rattle.language.specs.Search.{IsOrder, order_of, satisfies};
+ghost use Rattle.language.specs.Search.{order_of, satisfies};
 ghost use Rattle.cert_check.specs.declared.token.Token.TheVariants.{Branch};
-ghost use Rattle.cert_check.specs.Refuting.{children, is_lawful, refutes, violates_item};
-ghost use Rattle.cert_check.specs.Walking.{IsAt, ahead, later};
+ghost use Rattle.cert_check.specs.Refuting.{children, is_lawful_node, refutes, violates_item};
+ghost use Rattle.cert_check.specs.Walking.{IsPrefixAt, ahead, later};
 
 use crate::token::Token;
 use arrayvec::ArrayVec;
 use assign::Partial;
 use language::{Candidate, Language};
 
-/// A scope of 4 variables and 128 others, more than any order has.
-const ROOM: usize = 132;
-
 /// Values for the first variables of an order.
 pub(crate) type Values = ArrayVec<u8, 128>;
-
-/// The order in which prefixes give values: the variables of the candidate's scope, and then the others in vocabulary order.
-pub(crate) fn order_of(lang: &Language, c: Candidate) -> ArrayVec<u8, ROOM>
-    requires { IsCandidate lang.now c }
-    ensures is { result.items ≡ order_of lang.now c }
-    ensures order { IsOrder (variable_count lang.now) result.items }
-    ensures lawful { IsLanguage lang.now }
-{
-    let scope = lang.scope(c.scope);
-    let mut order = ArrayVec::new();
-    for v in scope {
-        order.push(*v);
-    }
-    for v in 0..lang.n() {
-        if !scope.contains(&v) {
-            order.push(v);
-        }
-    }
-    order
-}
 
 /// Whether the assignment gives the candidate's scope values that satisfy it.
 pub(crate) fn satisfies(lang: &Language, c: Candidate, e: &Partial) -> bool
@@ -75,8 +52,8 @@ fn is_lawful(
     requires lawful { IsLanguage lang.now }
     requires candidate { IsCandidate lang.now c }
     requires network { IsNetwork lang.now net.now }
-    requires at { IsAt lang.now c values.now e.now }
-    ensures { result ≡ is_lawful lang.now net.now c values.now token }
+    requires at { IsPrefixAt lang.now c values.now e.now }
+    ensures { result ≡ is_lawful_node lang.now net.now c values.now token }
 {
     match token {
         Token::Branch => values.len() < lang.n() as usize,
@@ -90,8 +67,8 @@ fn go_on(lang: &Language, c: Candidate, order: &[u8], values: &mut Values, e: &m
     requires lawful { IsLanguage lang.now }
     requires candidate { IsCandidate lang.now c }
     requires order { order.now ≡ order_of lang.now c }
-    requires at { IsAt lang.now c values.old.items e.old }
-    ensures at { IsAt lang.now c values.new.items e.new }
+    requires at { IsPrefixAt lang.now c values.old.items e.old }
+    ensures at { IsPrefixAt lang.now c values.new.items e.new }
     ensures next { later lang.now c values.old.items ≡ ahead result lang.now c values.new.items }
 {
     while let Some(x) = values.pop() {
@@ -119,9 +96,9 @@ pub(crate) fn step(
     requires lawful { IsLanguage lang.now }
     requires candidate { IsCandidate lang.now c }
     requires order { order.now ≡ order_of lang.now c }
-    requires at { IsAt lang.now c values.old.items e.old }
+    requires at { IsPrefixAt lang.now c values.old.items e.old }
     requires branch { token ≡ Branch → length values.old.items < variable_count lang.now }
-    ensures at { IsAt lang.now c values.new.items e.new }
+    ensures at { IsPrefixAt lang.now c values.new.items e.new }
     ensures next { children lang.now c values.old.items token ++ later lang.now c values.old.items ≡ ahead result lang.now c values.new.items }
 {
     match token {
@@ -142,7 +119,7 @@ pub(crate) fn refutes(lang: &Language, net: &[Candidate], c: Candidate, tokens: 
     requires network { IsNetwork lang.now net.now }
     ensures { result ≡ refutes lang.now net.now c tokens.now }
 {
-    let order = order_of(lang, c);
+    let order = lang.order_of(c);
     let mut values = Values::new();
     let mut e = Partial::blank(lang.n());
     let mut is_open = true;

@@ -3,7 +3,7 @@ pub use Rattle.std.proofs.Common.{Err, Global, List, Ok, Result, Some, Vec, [], 
 pub use Rattle.std.proofs.lemmas.Bool.{cases_lt, cond-true}
 pub use Rattle.std.proofs.lemmas.List.Elements.{All-append, All-push, Contains-append_left, Contains-append_right}
 pub use Rattle.std.specs.Prelude.{All, Contains, IsErrAnd, OnOk, slice_index_or}
-pub use Rattle.disk_model.specs.Crash.{AreTorn, HaveAllCuts, HaveCutsOf, IsReplay, IsTornOf, contents, size_of, step_of}
+pub use Rattle.disk_model.specs.Crash.{AreTorn, HaveAllCuts, HaveCutsOf, IsReplay, IsTornOf, contents, mark_bytes, step_of}
 pub use Rattle.disk_model.specs.Disk.{Torn}
 pub use Rattle.disk_model.specs.Images.{bytes_in-sync, bytes_in-write, content-sync, content-write, cut-sync, cut-write, elapses-to, image-content, image-synced, image-torn, leaves-sync, leaves-write, steps_of-sync, steps_of-write, torn-put, within-sync, within-write}
 pub use Rattle.disk_model.specs.MemDisk.{content_of, start_of, steps_in}

@@ -1,5 +1,5 @@
 -- A file that is written again from its record, step by step.
-use Rattle.disk_model.proofs.Prelude.{◌≡◌, ℕ, zero, suc, ◌+◌, ◌<◌, ◌≤◌, min, ◌⊎◌, inl, inr, List, [], ◌∷◌, ◌++◌, length, get_or, take, drop, All, Vec, Global, refl, sym, ◌∙◌, ap, subst, arith, add-one, take_all, Contains, cases_lt, All-append, Contains-append_left, Contains-append_right, Torn, Step, Wrote, Synced, CutShort, put, steps_of, bytes_in, content-write, content-sync, cut-write, cut-sync, image-torn, image-synced, AreTorn, HaveAllCuts, HaveCutsOf, IsTornOf, contents, size_of, step_of, IsReplay, Mark, Write, Sync}
+use Rattle.disk_model.proofs.Prelude.{◌≡◌, ℕ, zero, suc, ◌+◌, ◌<◌, ◌≤◌, min, ◌⊎◌, inl, inr, List, [], ◌∷◌, ◌++◌, length, get_or, take, drop, All, Vec, Global, refl, sym, ◌∙◌, ap, subst, arith, add-one, take_all, Contains, cases_lt, All-append, Contains-append_left, Contains-append_right, Torn, Step, Wrote, Synced, CutShort, put, steps_of, bytes_in, content-write, content-sync, cut-write, cut-sync, image-torn, image-synced, AreTorn, HaveAllCuts, HaveCutsOf, IsTornOf, contents, mark_bytes, step_of, IsReplay, Mark, Write, Sync}
 use Rattle.std.proofs.lemmas.List.{drop-drop, get_or-take, length-drop, length-take, map-append}
 
 -- the images of one more, behind those of others
@@ -36,7 +36,7 @@ steps_count (Sync ∷ marks) written = ap suc (steps_count marks written)
 
 -- the step of a mark whose bytes stand at the front of these
 abbrev pub step_from : Mark → List ℕ → Step
-step_from m written = step_of m (take (size_of m) written)
+step_from m written = step_of m (take (mark_bytes m) written)
 
 steps_suc : (marks : List Mark) (written : List ℕ) (i : ℕ) (d : Mark) → i < length marks → take (suc i) (steps_of marks written) ≡ take i (steps_of marks written) ++ step_from (get_or marks i d) (drop (bytes_in (take i marks)) written) ∷ []
 steps_suc [] written i d lt = absurd (omega arith)
@@ -50,14 +50,14 @@ steps_suc (Sync ∷ marks) written (suc i) d lt = ap (λ (l : List Step). Synced
 pub steps_more : (marks : List Mark) (written : List ℕ) (i : ℕ) (d : Mark) → i < length marks → take (i + 1) (steps_of marks written) ≡ take i (steps_of marks written) ++ step_from (get_or marks i d) (drop (bytes_in (take i marks)) written) ∷ []
 steps_more marks written i d lt = rw add-one (steps_suc marks written i d lt)
 
-bytes_suc : (marks : List Mark) (i : ℕ) (d : Mark) → i < length marks → bytes_in (take (suc i) marks) ≡ bytes_in (take i marks) + size_of (get_or marks i d)
+bytes_suc : (marks : List Mark) (i : ℕ) (d : Mark) → i < length marks → bytes_in (take (suc i) marks) ≡ bytes_in (take i marks) + mark_bytes (get_or marks i d)
 bytes_suc [] i d lt = absurd (omega arith)
 bytes_suc (Write at len ∷ marks) zero d lt = omega arith
 bytes_suc (Write at len ∷ marks) (suc i) d lt = omega (arith, bytes_suc marks i d (omega arith))
 bytes_suc (Sync ∷ marks) zero d lt = omega arith
 bytes_suc (Sync ∷ marks) (suc i) d lt = bytes_suc marks i d (omega arith)
 
-pub bytes_more : (marks : List Mark) (i : ℕ) (d : Mark) → i < length marks → bytes_in (take (i + 1) marks) ≡ bytes_in (take i marks) + size_of (get_or marks i d)
+pub bytes_more : (marks : List Mark) (i : ℕ) (d : Mark) → i < length marks → bytes_in (take (i + 1) marks) ≡ bytes_in (take i marks) + mark_bytes (get_or marks i d)
 bytes_more marks i d lt = rw add-one (bytes_suc marks i d lt)
 
 pub bytes_few : (marks : List Mark) (i : ℕ) → bytes_in (take i marks) ≤ bytes_in marks
@@ -75,14 +75,14 @@ module _ (marks : List Mark) (written : List ℕ) (counted : bytes_in marks ≡ 
   is : get_or (take moment seen) i d ≡ get_or marks i d
   is = ap (λ (l : List Mark). get_or (take moment l) i d) are ∙ get_or-take moment marks i d within.0
 
-  pub next_fits : size_of (get_or (take moment seen) i d) ≤ length rest
+  pub next_fits : mark_bytes (get_or (take moment seen) i d) ≤ length rest
   next_fits = rw (is, left) (omega (arith, length-drop (bytes_in (take i marks)) written, bytes_more marks i d within.1, bytes_few marks (i + 1), counted))
 
   pub next_step : take (i + 1) (steps_of marks written) ≡ take i (steps_of marks written) ++ step_from (get_or (take moment seen) i d) rest ∷ []
   next_step = rw (is, left) (steps_more marks written i d within.1)
 
-  pub next_rest : drop (size_of (get_or (take moment seen) i d)) rest ≡ drop (bytes_in (take (i + 1) marks)) written
-  next_rest = rw (is, left) (drop-drop (size_of (get_or marks i d)) (bytes_in (take i marks)) written ∙ ap (λ n. drop n written) (sym (bytes_more marks i d within.1)))
+  pub next_rest : drop (mark_bytes (get_or (take moment seen) i d)) rest ≡ drop (bytes_in (take (i + 1) marks)) written
+  next_rest = rw (is, left) (drop-drop (mark_bytes (get_or marks i d)) (bytes_in (take i marks)) written ∙ ap (λ n. drop n written) (sym (bytes_more marks i d within.1)))
 
 -- ---- writes that are cut short
 

@@ -34,9 +34,9 @@ abbrev pub IsTornOf : ℕ → ℕ → List (Vec ℕ Global) → Vec ℕ Global �
 IsTornOf at n images torn = (k : ℕ) × (k < length images) × Torn at n (slice_index_or images k torn).items torn.items
 
 -- how many bytes a mark speaks of
-abbrev pub size_of : Mark → ℕ
-size_of (Write at len) = len
-size_of Sync = 0
+abbrev pub mark_bytes : Mark → ℕ
+mark_bytes (Write at len) = len
+mark_bytes Sync = 0
 
 -- the step of a mark with its bytes
 abbrev pub step_of : Mark → List ℕ → Step

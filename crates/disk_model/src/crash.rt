@@ -3,7 +3,7 @@
 ghost use Rattle.std.specs.Prelude.{◌≡◌, ◌≤◌, ◌<◌, ◌+◌, ◌-◌, ◌^◌, [], ◌∷◌, ◌++◌, List, ℕ, IfOk, OnOk, All, Contains, length, take, drop, replicate};
 ghost use Rattle.disk_model.specs.Disk.{Torn};
 ghost use Rattle.disk_model.specs.Record.{Step, put};
-ghost use Rattle.disk_model.specs.Crash.{AreImages, AreTorn, HaveCuts, HaveCutsOf, HaveAllCuts, IsTornOf, IsReplay, contents, size_of, step_of};
+ghost use Rattle.disk_model.specs.Crash.{AreImages, AreTorn, HaveCuts, HaveCutsOf, HaveAllCuts, IsTornOf, IsReplay, contents, mark_bytes, step_of};
 
 use crate::tape::{Mark, Tape};
 use std::alloc::{AllocError, Global};
@@ -49,7 +49,7 @@ impl Tape {
 impl Mark {
     /// How many bytes were written.
     fn size(self) -> usize
-        ensures { result ≡ size_of self }
+        ensures { result ≡ mark_bytes self }
     {
         match self {
             Mark::Write { len, .. } => len as usize,

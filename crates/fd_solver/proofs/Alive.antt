@@ -3,7 +3,8 @@ use Rattle.fd_solver.proofs.Prelude.{◌≡◌, ℕ, ◌<◌, ◌≤◌, Bool, t
 use Rattle.std.specs.Option.{ForSome}
 use Rattle.language.proofs.Accepts.{accepted_at, accepted_from}
 use Rattle.propagators.proofs.Filled.{value_there}
-use Rattle.fd_solver.proofs.Left.{length-left, left_at, left_only, left_own, some_member, left_more}
+use Rattle.propagators.proofs.Replacing.{member_of_some, some_of_member}
+use Rattle.fd_solver.proofs.Left.{length-left, left_at, left_only, left_own, left_more}
 
 -- ---- what an assignment leaves
 
@@ -22,10 +23,6 @@ one_tuple l e f (v ∷ scope) (x ∷ tuple) sub h within =
     let same = (left_only l e v (unwrap_or (value_of e v) 0) x (known_one (value_of e v) parts.0) (sub v x within.0)).0 in
     let rest = one_tuple l e f scope tuple sub parts.1 within.1 in
     λ i. sym same i ∷ rest i
-
-member_of_some : (xs : List ℕ) → is_not_empty xs ≡ true → (x : ℕ) × (has xs x ≡ true)
-member_of_some [] h = cc
-member_of_some (x ∷ xs) h = (x, has_head x xs)
 
 -- a consistent family without empty sets accepts the tuple of a covered scope
 accepts_covered : (l : Language) (e : Assignment) (f : Family) (a : Arc) → 1 ≤ length a.scope → All (λ v. v < length f) a.scope → IsSubfamily f (left_by l e) → list_all is_not_empty f ≡ true →
@@ -161,7 +158,7 @@ consistent_own l e a own small at = consistent a (left_by l e) (record {
 own_full : (l : Language) (e : Assignment) → IsOwn l e → list_all is_not_empty (left_by l e) ≡ true
 own_full l e own = list_all-from_AllPass is_not_empty (left_by l e) (All-map (λ xs. is_not_empty xs ≡ true) (λ v. domain_of l v (value_of e v)) (numbers (variable_count l))
     (all_below (λ v. is_not_empty (domain_of l v (value_of e v)) ≡ true) (variable_count l) (λ v low.
-    some_member (domain_of l v (value_of e v)) (unwrap_or (value_of e v) 0)
+    some_of_member (domain_of l v (value_of e v)) (unwrap_or (value_of e v) 0)
     (ap (λ xs. has xs (unwrap_or (value_of e v) 0)) (sym (left_at l e v low))
     ∙ left_own l own.lawful e v (unwrap_or (value_of e v) 0) low (value_at e v own.complete (let long = own.long in omega arith)) own.ranged))))
 

@@ -43,10 +43,6 @@ left_own l lawful e v x low is ranged =
     ap (λ xs. has xs x) (left_value l e v x low is) ∙ has-filter (λ y. x == y) (values_of l v) x
     ∙ and_from _ _ (has_value l lawful v x low (ap (is_ranged l v) (sym is) ∙ ranged_at l e ranged v low)) (eq-eqb x x refl)
 
-pub some_member : (xs : List ℕ) (x : ℕ) → has xs x ≡ true → is_not_empty xs ≡ true
-some_member [] x h = cc
-some_member (y ∷ xs) x h = refl
-
 -- what is left by the values of some variables in their order
 pub left_beside : (l : Language) (order p : List ℕ) (v : ℕ) → v < variable_count l → slice_index_or (left_by l (assigned (variable_count l) order p)) v [] ≡ domain_of l v (value_beside order p v)
 left_beside l order p v low = left_at l (assigned (variable_count l) order p) v low ∙ ap (domain_of l v) (value_of_assigned (variable_count l) order p v low)

@@ -1,10 +1,10 @@
 -- The domains below a prefix, from those of the prefix.
-use Rattle.fd_solver.proofs.Prelude.{◌≡◌, ℕ, zero, suc, ◌+◌, ◌<◌, ◌≤◌, Bool, true, false, cond, ◌&&◌, ◌||◌, List, [], ◌∷◌, ◌++◌, length, map, take, replicate, Option, Some, None, refl, sym, ◌∙◌, ap, subst, arith, inl, inr, ◌⊎◌, length-append, ◌==◌, ◌≢◌, slice_index_or, slice_set, list_all, filter, length-set, get_or-set_same, get_or-set_other, set-get_or, take_all, AllPass-from_list_all, and_from, or_left, or_right, both_ways, cases_eq, cases_lt, eq-eqb, ne_eqb, numbers, has, with_member, value_beside, assigned, Candidate, Language, IsLanguage, variable_count, values_of, AreConstraints, Family, Arc, arcs_of, is_not_empty, domain_of, left_by, is_consistent, is_arc_consistent, has_family, IsSubfamily, IsLargest, largest, AreSettled, IsFamilyOf, has-filter, largest_is, largest_again, filter_has, largest_tells, largest_long, all_full, full_from, stays_consistent, tells_with, empty_stays, IsOrder, is_alive_in, IsReady, AreReady, fixed, beside_next, beside_push, next_known}
+use Rattle.fd_solver.proofs.Prelude.{◌≡◌, ℕ, zero, suc, ◌+◌, ◌<◌, ◌≤◌, Bool, true, false, cond, ◌&&◌, ◌||◌, List, [], ◌∷◌, ◌++◌, length, map, take, replicate, Option, Some, None, refl, sym, ◌∙◌, ap, subst, arith, inl, inr, ◌⊎◌, length-append, ◌==◌, ◌≢◌, slice_index_or, slice_set, list_all, filter, length-set, get_or-set_same, get_or-set_other, set-get_or, take_all, AllPass-from_list_all, and_from, or_left, or_right, both_ways, cases_eq, cases_lt, eq-eqb, ne_eqb, numbers, has, with_member, value_beside, assigned, Candidate, Language, IsLanguage, variable_count, values_of, AreConstraints, Family, Arc, arcs_of, is_not_empty, domain_of, left_by, is_consistent, is_arc_consistent, has_family, IsSubfamily, IsLargest, largest, AreSettled, IsFamilyOf, largest_is, largest_again, filter_has, largest_tells, largest_long, all_full, full_from, stays_consistent, tells_with, empty_stays, IsOrder, is_alive_in, IsReady, AreReady, fixed, beside_next, beside_push, next_known, has-filter, some_of_member}
 use Rattle.propagators.specs.Pairs.{IsOnly}
 use Rattle.propagators.specs.Propagated.{AreSome, IsPropagated, RunsEmpty}
 use Rattle.propagators.proofs.Cutting.{not_with}
 use Rattle.propagators.proofs.Conditions.{arcs_small}
-use Rattle.fd_solver.proofs.Left.{length-left, left_beside, left_past, some_member, left_none}
+use Rattle.fd_solver.proofs.Left.{length-left, left_beside, left_past, left_none}
 
 -- ---- one value alone
 
@@ -27,7 +27,7 @@ fixed_full f v x low there full = full_from (fixed f v x) (λ w below. go w (let
   where
     go : (w : ℕ) → w < length f → (v ≡ w) ⊎ (v ≢ w) → is_not_empty (slice_index_or (fixed f v x) w []) ≡ true
     go w below (inl same) = ap (λ u. is_not_empty (slice_index_or (fixed f v x) u [])) (sym same) ∙ ap is_not_empty (fixed_same f v x low)
-        ∙ some_member (filter (λ y. x == y) (slice_index_or f v [])) x (has-filter (λ y. x == y) (slice_index_or f v []) x ∙ and_from _ _ there (eq-eqb x x refl))
+        ∙ some_of_member (filter (λ y. x == y) (slice_index_or f v [])) x (has-filter (λ y. x == y) (slice_index_or f v []) x ∙ and_from _ _ there (eq-eqb x x refl))
     go w below (inr other) = ap is_not_empty (fixed_other f v x w other) ∙ all_full f full w below
 
 pub fixed_empty : (f : Family) (v x : ℕ) → v < length f → has (slice_index_or f v []) x ≡ false → list_all is_not_empty (fixed f v x) ≡ false

@@ -11,6 +11,7 @@ pub use Rattle.std.specs.Prelude.{All, find, is_some, nat_le, slice_index_or, sl
 pub use Rattle.arrayvec.specs.ArrayVec.{ArrayVec, array_vec_len}
 pub use Rattle.assign.specs.Assignment.{Assignment, assigned, covers, is_complete, tuple_on, value_beside, value_of}
 pub use Rattle.assign.specs.Sets.{has, numbers, with_member}
+pub use Rattle.assign.proofs.Ones.{has-filter}
 pub use Rattle.language.proofs.Beside.{tuple_fits, value_of_assigned}
 pub use Rattle.language.proofs.Filling.{assigned_blank, assigned_pop, assigned_push, beside_next, beside_push, next_known, question_there, size_of}
 pub use Rattle.language.proofs.Fronts.{HasMore, assigned_more, ranged_at, ranged_from}
@@ -23,9 +24,8 @@ pub use Rattle.language.specs.Ranges.{is_in}
 pub use Rattle.language.specs.Search.{are_ranged, assignment_of, is_plain, order_of, prefixes, satisfies}
 pub use Rattle.language.specs.declared.candidates.Candidate.{Candidate}
 pub use Rattle.propagators.proofs.Living.{full_above, largest_long, largest_tells}
-pub use Rattle.propagators.proofs.Ones.{has-filter}
 pub use Rattle.propagators.proofs.Pruned.{consistent, filter_has, has_head, largest_again, largest_is, supporting}
-pub use Rattle.propagators.proofs.Replacing.{all_full, full_from, supported_through, through_supported}
+pub use Rattle.propagators.proofs.Replacing.{all_full, full_from, some_of_member, supported_through, through_supported}
 pub use Rattle.propagators.proofs.Rounds.{empty_stays, stays_consistent, tells_more, tells_with}
 pub use Rattle.propagators.specs.Allowed.{AreConstraints, is_allowed, satisfies_one}
 pub use Rattle.propagators.specs.Entailed.{AreEntailed}
@@ -34,5 +34,5 @@ pub use Rattle.propagators.specs.Supports.{AreSettled, IsFamilyOf, IsWithin}
 pub use Rattle.propagators.specs.declared.entailed.Entailed.{Entailed}
 pub use Rattle.propagators.specs.declared.plan.Plan.{Plan}
 pub use Rattle.fd_solver.specs.Outcomes.{IsOrder, alive_walk, is_alive, is_alive_in, outcome_by, outcome_from, outcome_of_candidate, search_outcome}
-pub use Rattle.fd_solver.specs.Ready.{AreKnown, AreReady, IsArranged, IsReady, Room, fixed}
+pub use Rattle.fd_solver.specs.Ready.{EntailedAreKnown, AreReady, IsArranged, IsReady, Room, fixed}
 pub use Rattle.fd_solver.specs.declared.outcome.Outcome.TheVariants.{Absent, Found, Spent}

@@ -20,8 +20,8 @@ abbrev pub AreReady : Language → List Candidate → Option Candidate → List 
 AreReady l list against order p depths = (k : ℕ) → k ≤ length p → IsReady l list against (assigned (variable_count l) order (take k p)) (slice_index_or depths k [])
 
 -- for each front there are conditions that are entailed
-abbrev pub AreKnown : List Arc → Plan → List ℕ → List Family → List Entailed → Type 0
-AreKnown arcs plan p depths lists = (k : ℕ) (e : Entailed) → k ≤ length p → AreEntailed arcs plan (slice_index_or lists k e) (slice_index_or depths k [])
+abbrev pub EntailedAreKnown : List Arc → Plan → List ℕ → List Family → List Entailed → Type 0
+EntailedAreKnown arcs plan p depths lists = (k : ℕ) (e : Entailed) → k ≤ length p → AreEntailed arcs plan (slice_index_or lists k e) (slice_index_or depths k [])
 
 -- the family with one value alone left to a variable
 abbrev pub fixed : Family → ℕ → ℕ → Family
@@ -34,13 +34,13 @@ pub record Room : Type 0 where
   pub plan : Plan
 
 -- how many conditions it has room for
-abbrev pub room_of : Room → ℕ
-room_of w = length w.plan.briefs.items
+abbrev pub condition_room : Room → ℕ
+condition_room w = length w.plan.briefs.items
 
 -- the room is ready for the search below a prefix
 pub record IsArranged (l : Language) (list : List Candidate) (against : Option Candidate) (order : List ℕ) (p : List ℕ) (w : Room) : Type 0 where
   pub depths : AreReady l list against order p w.depths
-  pub entailed : AreKnown (arcs_of l list against) w.plan p w.depths w.entailed
+  pub entailed : EntailedAreKnown (arcs_of l list against) w.plan p w.depths w.entailed
   pub plan : IsPlanOf l (arcs_of l list against) w.plan
   -- with a depth for no value and for each number of values
   pub deep : variable_count l < length w.depths

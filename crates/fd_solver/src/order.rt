@@ -16,16 +16,5 @@ pub fn order_of(lang: &Language, c: Candidate) -> ArrayVec<u8, ROOM>
     ensures is { result.items ≡ order_of lang.now c }
     ensures order { IsOrder (variable_count lang.now) result.items }
 {
-    let scope = lang.scope(c.scope);
-    let members = lang.scope_set(c.scope);
-    let mut order = ArrayVec::new();
-    for v in scope {
-        order.push(*v);
-    }
-    for v in 0..lang.n() {
-        if !members.has(v) {
-            order.push(v);
-        }
-    }
-    order
+    lang.order_of(c)
 }

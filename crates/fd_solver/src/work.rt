@@ -9,7 +9,7 @@ ghost use Rattle.propagators.specs.Entailed.{AreEntailed};
 ghost use Rattle.propagators.specs.declared.entailed.Entailed.{Entailed};
 ghost use Rattle.propagators.specs.Propagated.{AreSome, IsPropagated, RunsEmpty};
 ghost use Rattle.fd_solver.specs.Outcomes.{IsOrder, is_alive_in};
-ghost use Rattle.fd_solver.specs.Ready.{IsReady, IsArranged, fixed, room_of};
+ghost use Rattle.fd_solver.specs.Ready.{IsReady, IsArranged, fixed, condition_room};
 
 use crate::stack::Stack;
 use assign::VarSet;
@@ -109,7 +109,7 @@ impl Work {
     ///
     /// With more conditions than that a search is as exact and slower.
     pub fn new(alloc: Global, lang: &Language) -> Result<Work, Memory>
-        ensures { IfOk result (λ w. room_of w ≡ length lang.now.scopes + 1) }
+        ensures { IfOk result (λ w. condition_room w ≡ length lang.now.scopes + 1) }
     {
         let Ok(depths) = Vec::with_capacity(alloc, DEPTHS) else {
             return Err(Memory);

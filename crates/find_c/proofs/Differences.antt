@@ -1,5 +1,5 @@
 -- Where choices differ, from rows of their tables, one relation after another.
-use Rattle.find_c.proofs.Prelude.{◌≡◌, ℕ, ◌+◌, ◌<◌, Bool, true, false, ◌&&◌, ◌||◌, not, List, [], ◌∷◌, ◌++◌, map, length, Some, None, refl, sym, ◌∙◌, ap, ◌==◌, bit_or, bit_and, All, list_any, bit_at-zero, All-nil, All-cons, All-head, All-tail, is_one, is_one-or, Language, relations_on, Choice, Scene, ones_of, is_one-and, choices_of, allows_at, differ_at, IsChoiceOn}
+use Rattle.find_c.proofs.Prelude.{◌≡◌, ℕ, ◌+◌, ◌<◌, Bool, true, false, ◌&&◌, ◌||◌, not, List, [], ◌∷◌, ◌++◌, map, length, Some, None, refl, sym, ◌∙◌, ap, ◌==◌, bit_or, bit_and, All, list_any, bit_at-zero, All-nil, All-cons, All-head, All-tail, is_one, is_one-or, Language, relations_on, Choice, Scene, ones_of, choices_of, allows_at, differ_at, IsChoiceOn, is_one-and}
 use Rattle.std.proofs.lemmas.List.Folds.{list_any-append}
 use Rattle.find_c.proofs.Marks.{none_of_nothing}
 use Rattle.std.proofs.Math.Bool.{and-true, or_assoc, or-false, or-true}

@@ -3,17 +3,14 @@ use Rattle.find_c.proofs.Prelude.{◌≡◌, ℕ, suc, ◌+◌, ◌<◌, false, 
 use Rattle.std.proofs.Math.ListN.{length-set}
 use Rattle.std.proofs.lemmas.List.FromFn.{fill_by_all, length-map-range_with_len}
 use Rattle.std.proofs.lemmas.List.Kept.{AllPairs-from_increasing}
-use Rattle.language.proofs.Beside.{value_of_assigned, beside_none}
-
-tail_different : (v : ℕ) (vars : List ℕ) → AllPairs (λ a b. a < b) (v ∷ vars) → AllPairs (λ a b. a < b) vars
-tail_different v vars h = λ i j d low k. h (suc i) (suc j) d (omega arith) (omega arith)
+use Rattle.language.proofs.Beside.{value_of_assigned, beside_none, pairs_tail}
 
 -- with one value more only the next variable has another value
 beside_push : (vars p : List ℕ) (x w : ℕ) → AllPairs (λ a b. a < b) vars → length p < length vars →
     value_beside vars (p ++ x ∷ []) w ≡ cond (slice_index_or vars (length p) 0 == w) (Some x) (value_beside vars p w)
 beside_push [] p x w h short = absurd (omega arith)
 beside_push (v ∷ vars) [] x w h short = ap (cond (v == w) (Some x)) (beside_none vars w)
-beside_push (v ∷ vars) (y ∷ p) x w h short = go (cases_eq v w) (beside_push vars p x w (tail_different v vars h) (omega arith))
+beside_push (v ∷ vars) (y ∷ p) x w h short = go (cases_eq v w) (beside_push vars p x w (pairs_tail v vars h) (omega arith))
   where
     go : (v ≡ w) ⊎ (v ≢ w) → value_beside vars (p ++ x ∷ []) w ≡ cond (slice_index_or vars (length p) 0 == w) (Some x) (value_beside vars p w) →
         cond (v == w) (Some y) (value_beside vars (p ++ x ∷ []) w) ≡ cond (slice_index_or vars (length p) 0 == w) (Some x) (cond (v == w) (Some y) (value_beside vars p w))

@@ -1,7 +1,8 @@
 -- The choices of a mask: those that agree with a reply, none of them, the one that remains.
-use Rattle.find_c.proofs.Prelude.{◌≡◌, ℕ, ◌<◌, ◌≤◌, ◌^◌, Bool, true, false, cond, ◌&&◌, ◌||◌, List, [], ◌∷◌, ◌++◌, map, length, Some, None, refl, sym, ◌∙◌, ap, subst, arith, ◌≢◌, bit_and, is_none, beq, filter, list_any, bit_not, w64, filter-append, is_one, ones_of, Choice, remaining, choices_of, beside_none, is_accepting, is_one-and, is_one-and_not, ones_of-passing, ones_of-zero, no_ones}
+use Rattle.find_c.proofs.Prelude.{◌≡◌, ℕ, ◌<◌, ◌≤◌, ◌^◌, Bool, true, false, cond, ◌&&◌, ◌||◌, List, [], ◌∷◌, ◌++◌, map, length, Some, None, refl, sym, ◌∙◌, ap, subst, arith, ◌≢◌, bit_and, is_none, beq, filter, list_any, bit_not, w64, filter-append, is_one, ones_of, Choice, remaining, choices_of, beside_none, is_accepting, is_one-and}
 use Rattle.std.proofs.Math.Bool.{and-false, and-true}
 use Rattle.shared_lemmas.proofs.Booleans.{beq-false, beq-true}
+use Rattle.assign.proofs.Ones.{is_one-and_not, no_ones, ones_of-passing, ones_of-zero}
 
 -- ---- truth values
 

@@ -10,9 +10,10 @@ pub use Rattle.std.specs.List.{filter, fold, list_any}
 pub use Rattle.std.specs.Prelude.{All, AllPairs, Contains, bit_and, bit_or, find, is_none, slice_set, ◌==◌, ◌≢◌}
 pub use Rattle.assign.specs.Assignment.{Assignment, assigned, covers, tuple_on, value_beside}
 pub use Rattle.assign.specs.SetLemmas.{is_one, is_one-or}
-pub use Rattle.bias_store.proofs.Ones.{is_one-and, is_one-and_not, is_one-not, no_ones, ones_of-passing, ones_of-zero}
+pub use Rattle.assign.specs.Sets.{ones_of}
+pub use Rattle.assign.proofs.Ones.{is_one-and_not, is_one-not}
+pub use Rattle.assign.proofs.Masks.{is_one-and}
 pub use Rattle.bias_store.specs.Accepting.{accepting_on}
-pub use Rattle.bias_store.specs.Masks.{ones_of}
 pub use Rattle.language.proofs.ByNames.{IsMaskOf, mask_more, no_mask}
 pub use Rattle.language.proofs.Lists.{find_all, nothing_passes}
 pub use Rattle.language.proofs.Ranged.{split_is_question, told_apart_within}
@@ -26,8 +27,8 @@ pub use Rattle.rel_table.proofs.PlaceLemmas.{get_or-tuples, length-tuple_at, len
 pub use Rattle.rel_table.specs.Relation.{Relation, holds, place, tuple_at, tuples}
 pub use Rattle.find_c.specs.Choices.{allows_at, beside_none, choices_of, differ_at, is_accepting}
 pub use Rattle.find_c.specs.Inside.{IsAtRow, IsFoundFrom, is_outside}
-pub use Rattle.find_c.specs.Run.{IsChoiceOn, IsRun, Run}
-pub use Rattle.find_c.specs.Standing.{IsFree, IsTold, LeavesChoices, StandingTells, StandsFor, left_of}
+pub use Rattle.find_c.specs.Run.{IsChoiceOn, IsRun, TellingRun}
+pub use Rattle.find_c.specs.Standing.{IsFree, IsTold, LeavesChoices, RelStandingTells, RelStandsFor, chosen_after}
 pub use Rattle.find_c.specs.declared.run.RelNext.{RelNext}
 pub use Rattle.find_c.specs.declared.run.RelNext.TheVariants.{Found, Free, Nothing, Wants}
 pub use Rattle.find_c.specs.declared.run.RelRun.TheInside.{Inside}

@@ -1,5 +1,5 @@
 -- What a reply makes of choices.
-use Rattle.find_c.proofs.Prelude.{◌≡◌, ℕ, ◌^◌, ◌<◌, ◌≤◌, arith, Bool, true, false, List, [], ◌∷◌, ◌++◌, length, Some, None, sym, ◌∙◌, ap, subst, append_assoc, ◌≢◌, All, beq, list_any, and_parts, both_ways, All-filter, All-from_get_or, Language, IsLanguage, scope_at, tuples, length-tuples, get_or-tuples, length-tuple_at, tuple_at-below, find_all, Choice, Scene, Got, allows, tells_apart, splitting_tuple, after_reply, remaining, choose, WantsReply, scene_of, Run, IsRun, IsChoiceOn, StandsFor, RelNext, Wants}
+use Rattle.find_c.proofs.Prelude.{◌≡◌, ℕ, ◌^◌, ◌<◌, ◌≤◌, arith, Bool, true, false, List, [], ◌∷◌, ◌++◌, length, Some, None, sym, ◌∙◌, ap, subst, append_assoc, ◌≢◌, All, beq, list_any, and_parts, both_ways, All-filter, All-from_get_or, Language, IsLanguage, scope_at, tuples, length-tuples, get_or-tuples, length-tuple_at, tuple_at-below, find_all, Choice, Scene, Got, allows, tells_apart, splitting_tuple, after_reply, remaining, choose, WantsReply, scene_of, TellingRun, IsRun, IsChoiceOn, RelStandsFor, RelNext, Wants}
 use Rattle.language.proofs.Members.{find_some}
 use Rattle.find_c.proofs.Lawful.{few_places}
 use Rattle.find_c.proofs.Marks.{none_pass}
@@ -24,8 +24,8 @@ unfolding choose
 choose_on scene cs u some reply more = rw some
 
 -- where a run stands after replies, what stands where its choices do after one more stands after all of them
-pub stands_after : (l : Language) (run : Run) → IsRun l run → (s : ℕ) (next : RelNext) (reply : Bool) → s ≡ run.scope → StandsFor next l s (after_reply (scene_of l run.scope) run.tuple reply run.choices) [] →
-    (choices : List Choice) (replies : List Bool) → StandsFor (Wants run) l run.scope choices replies → StandsFor next l run.scope choices (replies ++ reply ∷ [])
+pub stands_after : (l : Language) (run : TellingRun) → IsRun l run → (s : ℕ) (next : RelNext) (reply : Bool) → s ≡ run.scope → RelStandsFor next l s (after_reply (scene_of l run.scope) run.tuple reply run.choices) [] →
+    (choices : List Choice) (replies : List Bool) → RelStandsFor (Wants run) l run.scope choices replies → RelStandsFor next l run.scope choices (replies ++ reply ∷ [])
 stands_after l run is s next reply same now choices replies before more =
     now more ∙ ap (λ t. choose (scene_of l t) (after_reply (scene_of l run.scope) run.tuple reply run.choices) more) same
     ∙ sym (choose_on (scene_of l run.scope) run.choices run.tuple is.tuple reply more)
@@ -43,7 +43,7 @@ tuples_fit d a = All-from_get_or (IsTuple d a) (tuples d a) [] (λ i low.
     let within : i < d ^ a = omega (arith, low, length-tuples d a) in
     subst (IsTuple d a) (sym (get_or-tuples d a i within)) (record { long = length-tuple_at d a i; values = tuple_at-below d a i within }))
 
-module _ (l : Language) (lawful : IsLanguage l) (run : Run) (is : IsRun l run) where
+module _ (l : Language) (lawful : IsLanguage l) (run : TellingRun) (is : IsRun l run) where
   pub run_tuple : IsTuple l.value_count (length (scope_at l run.scope)) run.tuple
   run_tuple = find_all (IsTuple l.value_count (length (scope_at l run.scope))) (tells_apart (scene_of l run.scope) run.choices) (tuples l.value_count (length (scope_at l run.scope))) run.tuple
       (tuples_fit l.value_count (length (scope_at l run.scope))) is.tuple
@@ -60,9 +60,9 @@ some_after scene cs u splits true none =
 some_after scene cs u splits false none =
     both_ways _ (sym (λ i. list_any (λ c. beq-false (allows scene u c) i) cs) ∙ none_pass _ cs none) (and_parts (list_any (allows scene u) cs) _ splits).1
 
-pub run_leaves_some : (l : Language) (run : Run) → IsRun l run → (reply : Bool) → after_reply (scene_of l run.scope) run.tuple reply run.choices ≢ []
+pub run_leaves_some : (l : Language) (run : TellingRun) → IsRun l run → (reply : Bool) → after_reply (scene_of l run.scope) run.tuple reply run.choices ≢ []
 run_leaves_some l run is reply = some_after (scene_of l run.scope) run.choices run.tuple
     (find_some (tells_apart (scene_of l run.scope) run.choices) (tuples l.value_count (length (scope_at l run.scope))) run.tuple is.tuple) reply
 
-pub known_after : (l : Language) (run : Run) → IsRun l run → (reply : Bool) → All (IsChoiceOn l run.scope) (after_reply (scene_of l run.scope) run.tuple reply run.choices)
+pub known_after : (l : Language) (run : TellingRun) → IsRun l run → (reply : Bool) → All (IsChoiceOn l run.scope) (after_reply (scene_of l run.scope) run.tuple reply run.choices)
 known_after l run is reply = All-filter (λ c. beq (allows (scene_of l run.scope) run.tuple c) reply) (IsChoiceOn l run.scope) run.choices is.choices

@@ -1,5 +1,5 @@
 -- The search for the least tuple on which two choices differ.
-use Rattle.find_c.proofs.Prelude.{◌≡◌, ℕ, zero, suc, ◌+◌, ◌*◌, ◌^◌, ◌<◌, ◌≤◌, Bool, true, false, cond, ◌&&◌, ◌||◌, not, List, [], ◌∷◌, length, drop, get_or, Some, None, refl, sym, ◌∙◌, ap, subst, arith, drop-cons, pow-suc, suc-mul, mul_comm, ◌==◌, find, beq, bit_not, trailing_zeros, w64, filter, list_any, drop_all, bit_at-zero, bit_at-trailing_zeros, is_one, is_one-not, place, tuples, length-tuples, get_or-tuples, place-tuple_at, Language, scope_at, scene_of, Choice, Scene, allows, tells_apart, splitting_tuple, after_reply, beside_none, is_accepting, allows_at, differ_at, IsAtRow, IsFoundFrom}
+use Rattle.find_c.proofs.Prelude.{◌≡◌, ℕ, zero, suc, ◌+◌, ◌*◌, ◌^◌, ◌<◌, ◌≤◌, Bool, true, false, cond, ◌&&◌, ◌||◌, not, List, [], ◌∷◌, length, drop, get_or, Some, None, refl, sym, ◌∙◌, ap, subst, arith, drop-cons, pow-suc, suc-mul, mul_comm, ◌==◌, find, beq, bit_not, trailing_zeros, w64, filter, list_any, drop_all, bit_at-zero, bit_at-trailing_zeros, is_one, place, tuples, length-tuples, get_or-tuples, place-tuple_at, Language, scope_at, scene_of, Choice, Scene, allows, tells_apart, splitting_tuple, after_reply, beside_none, is_accepting, allows_at, differ_at, IsAtRow, IsFoundFrom, is_one-not}
 use lib.Count.{count_trailing_zeros}
 use Rattle.find_c.proofs.Marks.{beside_none_is}
 

@@ -4,7 +4,9 @@ use Rattle.language.specs.Answers.{IsNetwork}
 use Rattle.bias_store.specs.KeptSet.{kept_relations}
 use Rattle.find_c.proofs.Replies.{choose_ended}
 use Rattle.shared_lemmas.proofs.Booleans.{beq-false}
+use Rattle.shared_lemmas.proofs.Read.{cond_none}
 use Rattle.std.proofs.lemmas.Simd.{map-map}
+use Rattle.std.proofs.lemmas.Option.{cond_some}
 
 -- the choices of the mask of the kept relations on a scope are its kept candidates
 pub kept_marked : (live : List Candidate) (s mask : ℕ) → ones_of mask ≡ kept_relations live s →
@@ -55,21 +57,13 @@ picked on t q (c ∷ live) each = go (on c) refl (picked on t q live each)
         both true = ap (λ cs. Some c.rel ∷ cs) rest
         both false = rest
 
-placed : (b : Bool) (p at : ℕ) → cond b (Some p) None ≡ Some at → (b ≡ true) × (p ≡ at)
-placed true p at h = (refl, cc)
-placed false p at h = (cc, cc)
-
-not_placed : (b : Bool) (p : ℕ) → cond b (Some p) None ≡ None → b ≡ false
-not_placed true p h = cc
-not_placed false p h = refl
-
 module _ (l : Language) (live : List Candidate) (e : Assignment) (s : ℕ) where
   -- on a scope without all its values nothing is violated
   pub nothing_violated : place_on l s e ≡ None → violated_choices l live e s ≡ []
   nothing_violated none = ap (map (λ (c : Candidate). Some c.rel)) (nothing_passes (λ c. (c.scope == s) && violates l c e) live (λ c. here c (c.scope == s) refl))
     where
       off : covers e (scope_at l s) ≡ false
-      off = not_placed (covers e (scope_at l s)) (place l.value_count (tuple_on e (scope_at l s))) none
+      off = cond_none (covers e (scope_at l s)) (place l.value_count (tuple_on e (scope_at l s))) none
 
       here : (c : Candidate) (b : Bool) → (c.scope == s) ≡ b → (b && violates l c e) ≡ false
       here c false on = refl
@@ -84,7 +78,7 @@ module _ (l : Language) (live : List Candidate) (e : Assignment) (s : ℕ) where
       ∙ picked (λ c. c.scope == s) (λ c. violates l c e) (λ c. beq (is_accepting accepting c) false) live there
     where
       covered : (covers e (scope_at l s) ≡ true) × (place l.value_count (tuple_on e (scope_at l s)) ≡ at)
-      covered = placed (covers e (scope_at l s)) (place l.value_count (tuple_on e (scope_at l s))) at here
+      covered = cond_some (covers e (scope_at l s)) (place l.value_count (tuple_on e (scope_at l s))) at here
 
       there : (c : Candidate) → (c.scope == s) ≡ true → beq (is_accepting accepting (Some c.rel)) false ≡ violates l c e
       there c on =

@@ -2,8 +2,8 @@
 use Rattle.std.specs.Prelude.{ℕ, ◌==◌, Bool, true, false, not, ◌&&◌, List, [], ◌∷◌, ◌++◌, map, Option, Some, None, slice_index_or, if◌then◌else◌}
 use Rattle.std.specs.List.{list_any}
 use Rattle.std.specs.Int.{bit_at}
-use Rattle.bias_store.specs.Masks.{ones_of}
 use Rattle.language.specs.TellingApart.{Choice, Scene}
+use Rattle.assign.specs.Sets.{ones_of}
 
 -- the relations of a mask as choices, and none where it is one
 abbrev pub choices_of : ℕ → Bool → List Choice

@@ -7,21 +7,21 @@ use Rattle.find_c.specs.declared.run.RelNext.TheVariants.{Nothing, Wants, Found,
 use Rattle.language.specs.TellingApart.{Choice, Chosen, Got, choose, splitting_tuple, remaining}
 use Rattle.language.specs.TellingApart.{Wants as WantsReply}
 use Rattle.language.specs.Scenes.{scene_of}
-use Rattle.find_c.specs.Run.{Run, IsRun}
+use Rattle.find_c.specs.Run.{TellingRun, IsRun}
 
 -- what comes of further replies
-abbrev pub left_of : Language → RelNext → List Bool → Chosen
-left_of l Nothing replies = Got None
-left_of l (Wants run) replies = choose (scene_of l run.scope) run.choices replies
-left_of l (Found c) replies = Got (Some c.rel)
-left_of l Free replies = Got None
+abbrev pub chosen_after : Language → RelNext → List Bool → Chosen
+chosen_after l Nothing replies = Got None
+chosen_after l (Wants run) replies = choose (scene_of l run.scope) run.choices replies
+chosen_after l (Found c) replies = Got (Some c.rel)
+chosen_after l Free replies = Got None
 
 -- it makes of further replies what the choices on a scope make of all of them
-abbrev pub StandsFor : RelNext → Language → ℕ → List Choice → List Bool → Type 0
-StandsFor next l s choices replies = (more : List Bool) → left_of l next more ≡ choose (scene_of l s) choices (replies ++ more)
+abbrev pub RelStandsFor : RelNext → Language → ℕ → List Choice → List Bool → Type 0
+RelStandsFor next l s choices replies = (more : List Bool) → chosen_after l next more ≡ choose (scene_of l s) choices (replies ++ more)
 
 -- a run on the scope, with just these choices left
-pub record IsRunOn (l : Language) (s : ℕ) (left : List Choice) (run : Run) : Type 0 where
+pub record IsRunOn (l : Language) (s : ℕ) (left : List Choice) (run : TellingRun) : Type 0 where
   pub sound : IsRun l run
   pub scope : run.scope ≡ s
   pub choices : run.choices ≡ left
@@ -49,8 +49,8 @@ LeavesChoices l s choices Free = IsFree l s choices
 -- Where a telling apart stands tells what is chosen, and the other way round.
 pub record IsTold (s : ℕ) (told : Chosen) (next : RelNext) : Type 0 where
   -- the tuple of a run is the one that is wanted
-  pub waits : (run : Run) → next ≡ Wants run → told ≡ WantsReply run.tuple
-  pub wanted : (tuple : List ℕ) → told ≡ WantsReply tuple → (run : Run) × (next ≡ Wants run) × (run.tuple ≡ tuple)
+  pub waits : (run : TellingRun) → next ≡ Wants run → told ≡ WantsReply run.tuple
+  pub wanted : (tuple : List ℕ) → told ≡ WantsReply tuple → (run : TellingRun) × (next ≡ Wants run) × (run.tuple ≡ tuple)
   -- the candidate that was found is the one that is got
   pub found : (c : Candidate) → next ≡ Found c → told ≡ Got (Some c.rel)
   pub got : (r : ℕ) → told ≡ Got (Some r) → next ≡ Found (record { scope = s; rel = r })
@@ -59,6 +59,6 @@ pub record IsTold (s : ℕ) (told : Chosen) (next : RelNext) : Type 0 where
   pub none : told ≡ Got None → (next ≡ Free) ⊎ (next ≡ Nothing)
 
 -- so of each answer of a call, where it stands after replies
-abbrev pub StandingTells : Type 0
-StandingTells = (l : Language) (s : ℕ) (choices left : List Choice) (replies : List Bool) (next : RelNext) →
-    StandsFor next l s choices replies → LeavesChoices l s left next → IsTold s (choose (scene_of l s) choices replies) next
+abbrev pub RelStandingTells : Type 0
+RelStandingTells = (l : Language) (s : ℕ) (choices left : List Choice) (replies : List Bool) (next : RelNext) →
+    RelStandsFor next l s choices replies → LeavesChoices l s left next → IsTold s (choose (scene_of l s) choices replies) next

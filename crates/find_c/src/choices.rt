@@ -4,7 +4,6 @@ ghost use Rattle.std.specs.Prelude.{ℕ, ◌≡◌, ◌+◌, ◌^◌, ◌<◌, �
 ghost use Rattle.std.specs.List.{filter, list_any};
 ghost use Rattle.std.specs.Bool.{beq};
 ghost use Rattle.std.specs.Int.{bit_at};
-ghost use Rattle.bias_store.specs.Masks.{ones_of};
 ghost use Rattle.language.specs.Language.{IsLanguage, variable_count, range_of, scope_at, relations_on};
 ghost use Rattle.language.specs.Ranges.{is_in, are_in};
 ghost use Rattle.language.specs.Scenes.{scene_of};
@@ -12,6 +11,7 @@ ghost use Rattle.language.specs.TellingApart.{remaining};
 ghost use Rattle.find_c.specs.Choices.{allows_at, choices_of, beside_none, is_accepting, differ_at};
 ghost use Rattle.find_c.specs.Inside.{IsAtRow, is_outside};
 ghost use Rattle.find_c.specs.Run.{IsChoiceOn};
+ghost use Rattle.assign.specs.Sets.{ones_of};
 
 use bias_store::split_first;
 use language::{Language, ScopeId};

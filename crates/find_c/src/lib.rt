@@ -6,7 +6,7 @@
 //!
 //! A `RelRun` is seen as its scope, the choices that are left and the tuple that is asked about. The floor above may
 //! rely on two facts after each call: what the answer says of the choices that are left (`LeavesChoices`), and that it
-//! stands where the choices stand after all replies (`StandsFor`). No call takes memory.
+//! stands where the choices stand after all replies (`RelStandsFor`). No call takes memory.
 #![tactic(auto)]
 
 mod choices;

@@ -9,7 +9,7 @@ ghost use Rattle.language.specs.Scenes.{scene_of, on_scope, free_choices, violat
 ghost use Rattle.find_c.specs.Choices.{beside_none, is_accepting, allows_at};
 ghost use Rattle.find_c.specs.Inside.{IsFoundFrom, IsFurthest};
 ghost use Rattle.find_c.specs.Run.{IsRun, IsChoiceOn};
-ghost use Rattle.find_c.specs.Standing.{LeavesChoices, StandsFor};
+ghost use Rattle.find_c.specs.Standing.{LeavesChoices, RelStandsFor};
 
 use crate::choices::Choices;
 use crate::tuples::Tuple;
@@ -30,9 +30,9 @@ pub struct RelRun {
 }
 
 impl Model for RelRun {
-    ghost use Rattle.find_c.specs.Run.{Run};
+    ghost use Rattle.find_c.specs.Run.{TellingRun};
 
-    ghost Value = { Run };
+    ghost Value = { TellingRun };
 
     ghost view = { λ r. record { scope = r.scope; choices = r.choices; tuple = r.tuple } };
 }
@@ -64,7 +64,7 @@ impl RelRun {
         requires scope { s < length lang.now.scopes }
         requires question { IsQuestion lang.now e.now }
         ensures settled { LeavesChoices lang.now s (violated_choices lang.now kept.now.members e.now s) result }
-        ensures stands { StandsFor result lang.now s (violated_choices lang.now kept.now.members e.now s) [] }
+        ensures stands { RelStandsFor result lang.now s (violated_choices lang.now kept.now.members e.now s) [] }
         ensures nothing { (result ≡ RelNext.Nothing) ↔ (violated_choices lang.now kept.now.members e.now s ≡ []) }
         ensures no_free { result ≢ RelNext.Free }
     {
@@ -76,7 +76,7 @@ impl RelRun {
         requires made { IsMadeFor lang.now kept.now }
         requires scope { s < length lang.now.scopes }
         ensures settled { LeavesChoices lang.now s (free_choices kept.now.members s) result }
-        ensures stands { StandsFor result lang.now s (free_choices kept.now.members s) [] }
+        ensures stands { RelStandsFor result lang.now s (free_choices kept.now.members s) [] }
         ensures some { result ≢ RelNext.Nothing }
     {
         settle(lang, s, Choices::new(kept.on_scope(s), true), true)
@@ -125,8 +125,8 @@ impl RelRun {
         requires { IsRun lang.now self }
         ensures settled { LeavesChoices lang.now self.scope (after_reply (scene_of lang.now self.scope) self.tuple «yes» self.choices) result }
         ensures stands { (choices : List Choice) (replies : List Bool) →
-            StandsFor (RelNext.Wants self) lang.now self.scope choices replies →
-            StandsFor result lang.now self.scope choices (replies ++ yes ∷ []) }
+            RelStandsFor (RelNext.Wants self) lang.now self.scope choices replies →
+            RelStandsFor result lang.now self.scope choices (replies ++ yes ∷ []) }
         ensures some { result ≢ RelNext.Nothing }
     {
         let place = self.place(lang);
@@ -140,8 +140,8 @@ impl RelRun {
         requires run { IsRun lang.now self }
         ensures settled { LeavesChoices lang.now self.scope (after_reply (scene_of lang.now self.scope) self.tuple «yes» self.choices) result }
         ensures stands { (choices : List Choice) (replies : List Bool) →
-            StandsFor (RelNext.Wants self) lang.now self.scope choices replies →
-            StandsFor result lang.now self.scope choices (replies ++ yes ∷ []) }
+            RelStandsFor (RelNext.Wants self) lang.now self.scope choices replies →
+            RelStandsFor result lang.now self.scope choices (replies ++ yes ∷ []) }
         ensures some { result ≢ RelNext.Nothing }
     {
         let place = self.place(lang);
@@ -164,8 +164,8 @@ impl RelRun {
         requires accepting { (c : Choice) → is_accepting accepting c ≡ allows_at (scene_of lang.now self.scope) (place lang.now.value_count self.tuple) c }
         ensures settled { LeavesChoices lang.now self.scope (after_reply (scene_of lang.now self.scope) self.tuple «yes» self.choices) result }
         ensures stands { (choices : List Choice) (replies : List Bool) →
-            StandsFor (RelNext.Wants self) lang.now self.scope choices replies →
-            StandsFor result lang.now self.scope choices (replies ++ yes ∷ []) }
+            RelStandsFor (RelNext.Wants self) lang.now self.scope choices replies →
+            RelStandsFor result lang.now self.scope choices (replies ++ yes ∷ []) }
         ensures some { result ≢ RelNext.Nothing }
     {
         let RelRun { scope, choices, .. } = self;
@@ -193,7 +193,7 @@ fn settle(lang: &Language, scope: ScopeId, choices: Choices, new: bool) -> RelNe
     requires scope { scope < length lang.now.scopes }
     requires known { All (IsChoiceOn lang.now scope) choices }
     ensures settled { LeavesChoices lang.now scope choices result }
-    ensures stands { StandsFor result lang.now scope choices [] }
+    ensures stands { RelStandsFor result lang.now scope choices [] }
     ensures nothing { (result ≡ RelNext.Nothing) ↔ (choices ≡ []) }
 {
     if choices.is_empty() {

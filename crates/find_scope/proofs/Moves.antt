@@ -2,7 +2,7 @@
 use Rattle.find_scope.proofs.Prelude.{◌≡◌, ℕ, zero, suc, ◌+◌, ◌-◌, ◌/◌, ◌^◌, ◌<◌, ◌≤◌, Bool, true, false, ◌||◌, ◌&&◌, not, List, [], ◌∷◌, ◌++◌, length, refl, sym, ◌∙◌, ap, subst, arith, append_assoc, append-nil, length-take, length-drop, pow-suc, pow-zero, IsSet, has, union, minus, first_half, second_half, set_where-same, rises_where, rises_take, rises_drop, canonical, Frame, ThenFirst, Joins, Halved, Wants, Got, then_got, is_empty, halve_within, halve, Run, finish, halve_then, meaning, AreFit, Fits}
 use Rattle.find_scope.specs.declared.run.ScopeNext.{ScopeNext}
 use Rattle.find_scope.specs.declared.run.ScopeNext.TheVariants.{Wants as WantsNext, Found}
-use Rattle.find_scope.specs.Standing.{left_of, StandsFor, StandingTells}
+use Rattle.find_scope.specs.Standing.{halved_after, StandsFor, StandingTells}
 use Rattle.find_scope.proofs.Halves.{depth_is_enough, first_shorter, second_shorter, then_got_assoc, then_got_same, asked}
 use Rattle.find_scope.proofs.Runs.{has_halves}
 use Rattle.find_scope.proofs.Got.{some_right, got_rises}
@@ -144,7 +144,7 @@ found_holds frames base first found r some (known, below, small, fit) =
 pub stands_waiting : (run : Run) (set : List ℕ) (replies : List Bool) → StandsFor (WantsNext run) set replies → halve set replies ≡ Wants run.base
 stands_waiting run set replies h = ap (halve set) (sym (append-nil replies)) ∙ h [] ∙ waits run
 
-pub stands_after : (run : Run) (next : ScopeNext) (reply : Bool) → ((more : List Bool) → left_of next more ≡ meaning run (reply ∷ more)) →
+pub stands_after : (run : Run) (next : ScopeNext) (reply : Bool) → ((more : List Bool) → halved_after next more ≡ meaning run (reply ∷ more)) →
     (set : List ℕ) (replies : List Bool) → StandsFor (WantsNext run) set replies → StandsFor next set (replies ++ reply ∷ [])
 stands_after run next reply e set replies h = λ more. ap (halve set) (append_assoc replies (reply ∷ []) more) ∙ h (reply ∷ more) ∙ sym (e more)
 
@@ -156,7 +156,7 @@ ends set replies = whole (halve set replies)
     whole (Wants w) = refl
     whole (Got s r) = refl
 
-now : (next : ScopeNext) (set : List ℕ) (replies : List Bool) → StandsFor next set replies → halve set replies ≡ left_of next []
+now : (next : ScopeNext) (set : List ℕ) (replies : List Bool) → StandsFor next set replies → halve set replies ≡ halved_after next []
 now next set replies h = ap (halve set) (sym (append-nil replies)) ∙ h []
 
 pub standing_tells : StandingTells

@@ -19,13 +19,13 @@ abbrev pub WantedIsAsked : Type 0
 WantedIsAsked = (set : List ℕ) (replies : List Bool) (wanted : List ℕ) → IsSet set → halve set replies ≡ Wants wanted → IsAsked set wanted
 
 -- What is got is a set, lies within the whole set, and is empty only where that is.
-pub record IsPart (set found : List ℕ) : Type 0 where
+pub record IsFoundWithin (set found : List ℕ) : Type 0 where
   pub set_of : IsSet found
   pub some : 0 < length set → 0 < length found
   pub within : IsTrue (is_within found set)
 
 abbrev pub GotIsPart : Type 0
-GotIsPart = (set : List ℕ) (replies : List Bool) (found : List ℕ) (left : List Bool) → IsSet set → halve set replies ≡ Got found left → IsPart set found
+GotIsPart = (set : List ℕ) (replies : List Bool) (found : List ℕ) (left : List Bool) → IsSet set → halve set replies ≡ Got found left → IsFoundWithin set found
 
 -- this set was asked about, and this was the reply
 pub record IsReplied (set : List ℕ) (replies : List Bool) (asked : List ℕ) (reply : Bool) : Type 0 where

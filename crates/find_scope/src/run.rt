@@ -4,7 +4,7 @@ ghost use Rattle.std.specs.Prelude.{◌≡◌, ◌<◌, ℕ, Bool, List, [], ◌
 ghost use Rattle.assign.specs.Sets.{IsSet};
 ghost use Rattle.find_scope.specs.Halving.{Wants as WantsReply, halve};
 ghost use Rattle.find_scope.specs.Run.{finish, halve_then, meaning, AreFit, Fits};
-ghost use Rattle.find_scope.specs.Standing.{left_of, StandsFor};
+ghost use Rattle.find_scope.specs.Standing.{halved_after, StandsFor};
 
 use crate::frames::{Frame, Frames};
 use assign::VarSet;
@@ -82,7 +82,7 @@ fn halve_now(base: VarSet, set: VarSet, frames: Frames) -> ScopeNext
     requires known { IsSet base }
     requires small { Fits set frames }
     requires waiting { AreFit frames }
-    ensures { (replies : List Bool) → left_of result replies ≡ halve_then frames base set false replies }
+    ensures { (replies : List Bool) → halved_after result replies ≡ halve_then frames base set false replies }
 {
     if set.len() > 1 {
         ScopeNext::Wants(split(base, set, frames))
@@ -112,7 +112,7 @@ fn split(base: VarSet, set: VarSet, mut frames: Frames) -> ScopeRun
 /// Goes on once a set is found.
 fn settle(mut frames: Frames, mut found: VarSet) -> ScopeNext
     requires { AreFit frames }
-    ensures { (replies : List Bool) → left_of result replies ≡ finish frames found replies }
+    ensures { (replies : List Bool) → halved_after result replies ≡ finish frames found replies }
 {
     while let Some(frame) = frames.pop() {
         match frame {

@@ -20,7 +20,7 @@ some_closed [] closed some closing = absurd (omega arith)
 some_closed (r ∷ file) closed some closing = let has = closing.every r (one_given (r ∷ file) r (zero, omega arith, refl)) in let low = has.1 in omega arith
 
 -- the vocabulary's relations on a scope, one by one
-given_relations : (ranges : List ValueRange) (d : ℕ) (scope : List ℕ) (given : List Given) →
+pub given_relations : (ranges : List ValueRange) (d : ℕ) (scope : List ℕ) (given : List Given) →
     map (widened ranges d scope) (relations_given given) ≡ map (λ (g : Given). g.relation) (map (given_within ranges d scope) given)
 given_relations ranges d scope [] = refl
 given_relations ranges d scope (g ∷ given) = λ i. widened ranges d scope g.relation ∷ given_relations ranges d scope given i

@@ -1,10 +1,11 @@
 -- Scopes and relations are looked for by their names.
-use Rattle.language.proofs.Prelude.{◌≡◌, ℕ, zero, suc, ◌+◌, ◌*◌, ◌%◌, ◌^◌, ◌<◌, ◌≤◌, ◌==◌, ◌&&◌, ◌||◌, Bool, true, false, cond, List, [], ◌∷◌, length, map, drop, Option, Some, None, Bor, refl, sym, ◌∙◌, ap, subst, arith, inl, inr, ◌⊎◌, slice_index_or, string_bytes, ◌≢◌, bit_or, option_map, All, String, position, not, nat_lt, Global, get_or-map, length-map, position_or_len_is, filter, from_bool, bytes_eq, pointwise, drop-cons, cases_eq, eq-eqb, ne_eqb, lt-ltb, le-ltb, bit_at-zero, is_one, is_one-or, is_one-pow, Relation, Given, of_arity, RelPart, given_by, All-head, All-tail, relation_among, texts_of}
+use Rattle.language.proofs.Prelude.{◌≡◌, ℕ, zero, suc, ◌+◌, ◌*◌, ◌%◌, ◌^◌, ◌<◌, ◌≤◌, ◌==◌, ◌&&◌, ◌||◌, Bool, true, false, cond, List, [], ◌∷◌, length, map, drop, Option, Some, None, Bor, refl, sym, ◌∙◌, ap, subst, arith, inl, inr, ◌⊎◌, slice_index_or, string_bytes, ◌≢◌, bit_or, option_map, All, String, position, not, nat_lt, Global, get_or-map, length-map, position_or_len_is, filter, from_bool, bytes_eq, pointwise, drop-cons, cases_eq, eq-eqb, ne_eqb, lt-ltb, le-ltb, bit_at-zero, is_one, is_one-or, is_one-pow, Relation, Given, of_arity, RelPart, given_by, All-head, All-tail, relation_among, texts_of, not-true}
 use Rattle.std.specs.List.{find}
 use Rattle.std.proofs.lemmas.Nat.{one_shl}
 use Rattle.language.proofs.Sizes.{of_arity_sized}
 use Rattle.language.proofs.Wording.{made}
 use Rattle.std.proofs.Math.Bool.{and-true}
+use Rattle.std.proofs.lemmas.Bool.{not-false}
 
 -- ---- a relation by its name
 
@@ -105,21 +106,13 @@ pair_at all scope names i s text d same known low is text_is =
     pointwise-drop (named_by all scope) (texts_of names) i (long ∙ same ∙ sym wide) (omega (arith, long))
     ∙ (λ j. bytes_eq (left j) (right j) && pointwise bytes_eq (drop (next j) (named_by all scope)) (drop (next j) (texts_of names)))
 
-not_false : (b : Bool) → not b ≡ true → b ≡ false
-not_false true h = sym h
-not_false false h = refl
-
-not_true : (b : Bool) → not b ≡ false → b ≡ true
-not_true true h = refl
-not_true false h = sym h
-
 -- one name differs
 pub differs : (whole here first rest ne : Bool) → whole ≡ here → here ≡ (first && rest) → ne ≡ not first → ne ≡ true → false ≡ whole
-differs whole here first rest ne so_far step is on = sym (so_far ∙ step ∙ ap (λ b. b && rest) (not_false first (sym is ∙ on)))
+differs whole here first rest ne so_far step is on = sym (so_far ∙ step ∙ ap (λ b. b && rest) (not-true first (sym is ∙ on)))
 
 -- one name more is the same
 pub agrees : (whole here first rest ne : Bool) → whole ≡ here → here ≡ (first && rest) → ne ≡ not first → ne ≡ false → whole ≡ rest
-agrees whole here first rest ne so_far step is off = so_far ∙ step ∙ ap (λ b. b && rest) (not_true first (sym is ∙ off))
+agrees whole here first rest ne so_far step is off = so_far ∙ step ∙ ap (λ b. b && rest) (not-false first (sym is ∙ off))
 
 -- ---- the first that passes
 

@@ -6,10 +6,10 @@ use Rattle.language.proofs.Meets.{intersections_meet}
 
 -- ---- The intersections of a list
 
-later : (r : Relation) (rest : List Relation) (q : Relation) → Contains rest q → Contains (r ∷ rest) q
+pub later : (r : Relation) (rest : List Relation) (q : Relation) → Contains rest q → Contains (r ∷ rest) q
 later r rest q has = Contains-append_right (r ∷ []) rest q has
 
-first : (r : Relation) (rest : List Relation) → Contains (r ∷ rest) r
+pub first : (r : Relation) (rest : List Relation) → Contains (r ∷ rest) r
 first r rest = (zero, omega arith, refl)
 
 -- each member is one
@@ -91,7 +91,7 @@ each_kept : (P : Relation → Type 0) (relations : List Relation) → All P rela
 each_kept P [] all = All-nil P
 each_kept P (r ∷ relations) all = cond_all P (is_listed relations r) r (without_repeats relations) (All-head P r relations all) (each_kept P relations (All-tail P r relations all))
 
-every_kept : (relations : List Relation) (q : Relation) → Contains relations q → Contains (without_repeats relations) q
+pub every_kept : (relations : List Relation) (q : Relation) → Contains relations q → Contains (without_repeats relations) q
 every_kept [] q has = let low = has.1 in absurd (omega arith)
 every_kept (r ∷ relations) q has = go (cases_Bool (is_listed relations r)) (cons_cases r relations q has) (every_kept relations)
   where

@@ -48,8 +48,8 @@ count_few l (suc n) few =
 
 -- ---- Each candidate at its number
 
-below : (l : Language) (c : Candidate) → IsCandidate l c → number_of l c < length (candidates l)
-below l c is =
+pub number_below : (l : Language) (c : Candidate) → IsCandidate l c → number_of l c < length (candidates l)
+number_below l c is =
     let next = count_more l c.scope in
     let low = is.scope in
     let rel = is.rel in
@@ -69,7 +69,7 @@ there l c other is =
 
 pub numbered : CandidatesAreNumbered
 numbered l = record {
-  below = below l;
+  below = number_below l;
   there = there l;
   apart = λ c d is_c is_d same. sym (there l c c is_c) ∙ ap (λ k. get_or (candidates l) k c) same ∙ there l d c is_d;
 }

@@ -5,7 +5,7 @@ use Rattle.language.specs.Answers.{IsNetwork}
 use Rattle.language.proofs.Lists.{any_weaker}
 use Rattle.language.proofs.Members.{any-filter, any_number}
 
-shrinks : (ys : List ℕ) (x : ℕ) → has ys x ≡ true → suc (length (filter (λ y. not (y == x)) ys)) ≤ length ys
+pub shrinks : (ys : List ℕ) (x : ℕ) → has ys x ≡ true → suc (length (filter (λ y. not (y == x)) ys)) ≤ length ys
 shrinks [] x h = absurd (both_ways _ refl h)
 shrinks (y ∷ ys) x h = go (y == x) h (shrinks ys x) (fewer_kept (λ z. not (z == x)) ys)
   where

@@ -1,6 +1,7 @@
 -- What the fields of a language say of the language that they stand for.
 use Rattle.language.proofs.Prelude.{◌≡◌, ℕ, zero, suc, ◌+◌, ◌-◌, ◌^◌, ◌<◌, ◌≤◌, ◌++◌, ◌∷◌, List, [], length, map, true, false, Bool, cond, ◌&&◌, nat_le, nat_lt, nat_eq, Some, None, refl, sym, ◌∙◌, ap, subst, arith, ◌⊎◌, inl, inr, slice_index_or, string_bytes, All, AllPairs, flat_map, range_with_len, length-range_with_len, get_or-map-range_with_len, get_or-map, get_or_read, length-map, IsNonDecreasingBy, IsPartitionedBy, IsPartitionPoint, IsNonDecreasingBy-from_default, IsPartitionedBy-leb, AllPass-from_list_all, position_or_len_is, leb-true, leb-false, lt-ltb, le-ltb, eqb-true, cases_order, and_parts, All-head, All-tail, AllPairs-from_increasing, pointwise, pairs_head, pairs_tail, is_same, IsSet, Rises, TruthTable, IsOfKind, Relation, Language, Given, variable_count, candidates, of_arity, given_within, given_on, scope_at, scope_of, scope_number, relations_on, is_name, IsScope, IsLanguage, joined, names_containing, scope_names, candidate_text, Candidate, RelPart, Scope, Inside, variables_in, seen, given_by, truths, tables_for, between, scope_in, relations_at, ranges_in, IsSound, ValueRange, widened}
 use Rattle.language.proofs.Counting.{count, count_more, count_rises, count_few}
+use Rattle.assign.proofs.Masks.{same_list}
 
 pub scope_here : (a : Inside) → IsSound a → (l : Language) → seen a ≡ l → (s : ℕ) (scope : Scope) → s < length l.scopes →
     scope ≡ slice_index_or a.scopes.items s scope → IsScope (variable_count l) (variables_in scope)
@@ -285,12 +286,6 @@ same_scope [] (y ∷ ys) = refl
 same_scope (x ∷ xs) [] = refl
 same_scope (x ∷ xs) (y ∷ ys) = ap (λ b. nat_eq x y && b) (same_scope xs ys)
 
-same_is : (xs ys : List ℕ) → is_same xs ys ≡ true → xs ≡ ys
-same_is [] [] h = refl
-same_is [] (y ∷ ys) h = absurd (let e : false ≡ true = h in cc)
-same_is (x ∷ xs) [] h = absurd (let e : false ≡ true = h in cc)
-same_is (x ∷ xs) (y ∷ ys) h = let parts = and_parts _ _ h in λ i. eqb-true x y parts.0 i ∷ same_is xs ys parts.1 i
-
 pub other_scope : (l : Language) (w scope : List ℕ) (s : ℕ) (same : Bool) → same ≡ pointwise nat_eq w scope → same ≡ false → scope ≡ scope_at l s →
     ((k : ℕ) → k < s → is_same w (scope_at l k) ≡ false) → (k : ℕ) → k < s + 1 → is_same w (scope_at l k) ≡ false
 other_scope l w scope s same is off here before k low = go (cases_order k s)
@@ -305,7 +300,7 @@ pub found_scope : (l : Language) (w scope : List ℕ) (s : ℕ) (same : Bool) �
 found_scope l w scope s same is on here low before =
     let passes : is_same w (scope_at l s) ≡ true = ap (is_same w) (sym here) ∙ same_scope w scope ∙ sym is ∙ on in
     let at = position_or_len_is (is_same w) l.scopes s [] (omega arith) before (λ _. passes) in
-    (sym ((λ i. cond (nat_lt (at i) (length l.scopes)) (Some (at i)) None) ∙ ap (λ b. cond b (Some s) None) (lt-ltb s (length l.scopes) low)), sym (same_is w (scope_at l s) passes))
+    (sym ((λ i. cond (nat_lt (at i) (length l.scopes)) (Some (at i)) None) ∙ ap (λ b. cond b (Some s) None) (lt-ltb s (length l.scopes) low)), sym (same_list w (scope_at l s) passes))
 
 pub no_scope : (l : Language) (w : List ℕ) (s : ℕ) → length l.scopes ≤ s → ((k : ℕ) → k < s → is_same w (scope_at l k) ≡ false) → None ≡ scope_number l w
 no_scope l w s past before =

@@ -22,7 +22,7 @@ low_member a v (x ∷ xs) r h = go (x == v) refl h (low_member (x + 1) v xs r.2)
     go true e h rest = let same = eqb-true x v e in let low = r.0 in omega (arith, same, low)
     go false e h rest = let more = rest h in let low = r.0 in omega (arith, more, low)
 
-all_low : (a : ℕ) (xs : List ℕ) → Rises a xs → All (λ v. a ≤ v) xs
+pub all_low : (a : ℕ) (xs : List ℕ) → Rises a xs → All (λ v. a ≤ v) xs
 all_low a [] r = All-nil (λ v. a ≤ v)
 all_low a (x ∷ xs) r = All-cons (λ v. a ≤ v) x xs r.0 (All-weaker (λ v. x + 1 ≤ v) (λ v. a ≤ v) (λ v h. let low = r.0 in omega (arith, low, h)) xs (all_low (x + 1) xs r.2))
 

@@ -3,12 +3,10 @@ use Rattle.language.proofs.Prelude.{no_pairs, ◌≡◌, ℕ, zero, suc, ◌+◌
 use Rattle.language.proofs.Pairs.{first_is, one_step}
 use Rattle.language.proofs.Used.{of_arity}
 use Rattle.language.proofs.Rising.{lists_long, lists_rise, lists_known}
+use Rattle.std.proofs.lemmas.Bool.{not-false}
+use Rattle.shared_lemmas.proofs.Read.{cond_none, map_none, or_none}
 
 -- ---- Where no list passes a test
-
-no_first : (b : Bool) (at : ℕ) → cond b (Some at) None ≡ None → b ≡ false
-no_first true at h = absurd (true≢false (ap (λ o. is_some o) h))
-no_first false at h = refl
 
 none_passes : {X : Type 0} (p : X → Bool) (xs : List X) → list_any p xs ≡ false → All (λ x. p x ≡ false) xs
 none_passes p [] h = All-nil (λ x. p x ≡ false)
@@ -18,15 +16,11 @@ none_any : {X : Type 0} (p : X → Bool) (xs : List X) → All (λ x. p x ≡ fa
 none_any p [] h = refl
 none_any p (x ∷ xs) h = λ i. All-head (λ x. p x ≡ false) x xs h i || none_any p xs (All-tail (λ x. p x ≡ false) x xs h) i
 
-passes : (b : Bool) → not b ≡ false → b ≡ true
-passes true h = refl
-passes false h = absurd (true≢false h)
-
 -- all pass where there is no first that doesn't
 pub all_pass : {X : Type 0} (q : X → Bool) (xs : List X) → position (λ x. not (q x)) xs ≡ None → All (λ x. q x ≡ true) xs
 all_pass q xs h =
-    All-weaker (λ x. not (q x) ≡ false) (λ x. q x ≡ true) (λ x fails. passes (q x) fails) xs
-    (none_passes (λ x. not (q x)) xs (no_first _ _ (sym (first_is (λ x. not (q x)) xs) ∙ h)))
+    All-weaker (λ x. not (q x) ≡ false) (λ x. q x ≡ true) (λ x fails. not-false (q x) fails) xs
+    (none_passes (λ x. not (q x)) xs (cond_none _ _ (sym (first_is (λ x. not (q x)) xs) ∙ h)))
 
 pub none_first : {X : Type 0} (q : X → Bool) (xs : List X) → All (λ x. q x ≡ true) xs → position (λ x. not (q x)) xs ≡ None
 none_first q xs h =
@@ -139,14 +133,6 @@ pub refused_many : (given : List Given) (lists : List (List ℕ)) → position (
 refused_many given lists ordered many = in_order given lists ordered ∙ ap (λ b. cond b (Some TooManyScopes) (together given lists)) (lt-ltb 8192 (length lists) many)
 
 -- ---- What is true where nothing is refused
-
-or_none : {X : Type 0} (a b : Option X) → option_or a b ≡ None → (a ≡ None) × (b ≡ None)
-or_none None b h = (refl, h)
-or_none (Some x) b h = absurd (true≢false (ap (λ o. is_some o) h))
-
-map_none : {X Y : Type 0} (f : X → Y) (a : Option X) → option_map f a ≡ None → a ≡ None
-map_none f None h = refl
-map_none f (Some x) h = absurd (true≢false (ap (λ o. is_some o) h))
 
 front : {X : Type 0} (P : X → Type 0) (xs : List X) (y : X) → All P (xs ++ y ∷ []) → All P xs
 front P [] y h = All-nil P

@@ -1,5 +1,7 @@
 -- What some member of a list passes, through the functions that make the lists of the definitions.
-use Rattle.language.proofs.Prelude.{◌≡◌, ℕ, zero, suc, ◌+◌, ◌<◌, ◌≤◌, Bool, true, false, cond, ◌||◌, ◌&&◌, List, [], ◌∷◌, length, map, Some, None, refl, sym, ◌∙◌, ap, arith, inl, inr, ◌⊎◌, find, All, list_any, filter, flat_map, range_with_len, list_any-append, All-head, All-tail, cases_eq, or_left, or_right, Candidate, numbers, tuples, Language, IsCandidate, candidates, candidates_on}
+use Rattle.language.proofs.Prelude.{◌≡◌, ℕ, zero, suc, ◌+◌, ◌<◌, ◌≤◌, Bool, true, false, cond, ◌||◌, ◌&&◌, List, [], ◌∷◌, length, map, Some, None, refl, sym, ◌∙◌, ap, arith, inl, inr, ◌⊎◌, find, All, list_any, filter, flat_map, range_with_len, list_any-append, All-head, All-tail, cases_eq, or_left, or_right, Candidate, numbers, tuples, Language, IsCandidate, candidates, candidates_on, All-map}
+use Rattle.language.proofs.Lists.{all_below}
+use Rattle.shared_lemmas.proofs.Lists.{all_flat_map}
 
 any_cond : {X : Type 0} (p : X → Bool) (b : Bool) (x : X) (xs : List X) → list_any p (cond b (x ∷ xs) xs) ≡ ((b && p x) || list_any p xs)
 any_cond p true x xs = refl
@@ -61,3 +63,10 @@ find_some p (x ∷ xs) y h = go (p x) refl (find_some p xs y)
     go : (b : Bool) → p x ≡ b → (find p xs ≡ Some y → p y ≡ true) → p y ≡ true
     go true on rest = let e : Some x ≡ Some y = ap (λ b. cond b (Some x) (find p xs)) (sym on) ∙ h in let same : x ≡ y = cc in ap p (sym same) ∙ on
     go false off rest = rest (ap (λ b. cond b (Some x) (find p xs)) (sym off) ∙ h)
+
+-- each candidate of a language is one of it
+pub all_candidates : (l : Language) → All (IsCandidate l) (candidates l)
+all_candidates l = all_flat_map (IsCandidate l) (candidates_on l) (numbers (length l.scopes))
+    (all_below (λ s. All (IsCandidate l) (candidates_on l s)) (length l.scopes) (λ s low.
+    All-map (IsCandidate l) (λ (r : ℕ). record { scope = s; rel = r }) _
+    (all_below (λ r. IsCandidate l (record { scope = s; rel = r })) _ (λ r low_r. record { scope = low; rel = low_r }))))

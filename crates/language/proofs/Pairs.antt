@@ -2,7 +2,9 @@
 use Rattle.language.proofs.Prelude.{and_from, ◌≡◌, ℕ, zero, suc, ◌+◌, ◌<◌, ◌≤◌, Bool, true, false, cond, ◌&&◌, ◌||◌, true≢false, Option, Some, None, List, [], ◌∷◌, ◌++◌, length, take, drop, is_some, refl, sym, ◌∙◌, ap, subst, arith, nat_eq, not, position, slice_index_or, ◌==◌, list_any, position_or_len, position_from, list_any_at, list_all-from_AllPass, and_parts, both_ways, eq-eqb, eqb-true, false_from_ne_true, or_left, pointwise, take_more, drop_more, has, is_same, is_within, are_nested, pair_after, first_pair}
 use Rattle.std.proofs.lemmas.Iterator.Adapters.{position_from-zero}
 use Rattle.std.proofs.lemmas.List.Quantifiers.{position-Some}
+use Rattle.std.proofs.lemmas.List.{drop_all}
 use Rattle.language.proofs.Lists.{any_weaker}
+use Rattle.assign.proofs.Masks.{same_list}
 
 pub same_is : (xs ys : List ℕ) → pointwise nat_eq xs ys ≡ is_same xs ys
 same_is [] [] = refl
@@ -51,12 +53,6 @@ length-take xs zero low = refl
 length-take [] (suc k) low = absurd (omega arith)
 length-take (x ∷ xs) (suc k) low = ap suc (length-take xs k (omega arith))
 
-drop-all : {X : Type 0} (xs : List X) (k : ℕ) → length xs ≤ k → drop k xs ≡ []
-drop-all [] zero h = refl
-drop-all [] (suc k) h = refl
-drop-all (x ∷ xs) zero h = absurd (omega arith)
-drop-all (x ∷ xs) (suc k) h = drop-all xs k (omega arith)
-
 next : (xs : List (List ℕ)) (scope : List ℕ) (j : ℕ) → j < length xs → scope ≡ slice_index_or xs j scope → drop j xs ≡ scope ∷ drop (j + 1) xs
 next xs scope j low is = drop_more xs j scope low ∙ ap (λ s. s ∷ drop (j + 1) xs) (sym is)
 
@@ -77,7 +73,7 @@ pair_later related xs scope j low is so_far none =
     ∙ ap (λ before. pair_after related before (drop (j + 1) xs)) (ap (λ s. take j xs ++ s ∷ []) is ∙ sym (take_more xs j scope low))
 
 pub no_pair : (related : List ℕ → List ℕ → Bool) (xs : List (List ℕ)) (j : ℕ) → length xs ≤ j → first_pair related xs ≡ pair_after related (take j xs) (drop j xs) → None ≡ first_pair related xs
-no_pair related xs j all so_far = sym (so_far ∙ ap (pair_after related (take j xs)) (drop-all xs j all) ∙ at_end related (take j xs))
+no_pair related xs j all so_far = sym (so_far ∙ ap (pair_after related (take j xs)) (drop_all j xs all) ∙ at_end related (take j xs))
 
 pub found_below : {X : Type 0} (p : X → Bool) (xs : List X) (i j : ℕ) (d : X) → j ≤ length xs → position p (take j xs) ≡ Some i → i < j
 found_below p xs i j d low found = let at = position-Some p (take j xs) i d found in let long = length-take xs j low in let below = at.0 in omega (arith, long, below)
@@ -104,16 +100,6 @@ none_of_fewer p q more before (scope ∷ scopes) h =
     ∙ none_from (list_any (λ earlier. p earlier scope) before) _ _
     (false_from_ne_true _ (λ some. both_ways _ parts.0 (any_weaker (λ earlier. p earlier scope) (λ earlier. q earlier scope) before (λ earlier. more earlier scope) some)))
     (none_of_fewer p q more (before ++ scope ∷ []) scopes parts.1)
-
-pub same_list : (xs ys : List ℕ) → is_same xs ys ≡ true → xs ≡ ys
-same_list [] [] h = refl
-same_list [] (y ∷ ys) h = cc
-same_list (x ∷ xs) [] h = cc
-same_list (x ∷ xs) (y ∷ ys) h = let parts = and_parts (x == y) (is_same xs ys) h in λ i. eqb-true x y parts.0 i ∷ same_list xs ys parts.1 i
-
-pub list_same : (xs : List ℕ) → is_same xs xs ≡ true
-list_same [] = refl
-list_same (x ∷ xs) = and_from (x == x) (is_same xs xs) (eq-eqb x x refl) (list_same xs)
 
 within_itself : (xs : List ℕ) → is_within xs xs ≡ true
 within_itself xs = list_all-from_AllPass (has xs) xs (λ k d low. list_any_at (λ x. x == slice_index_or xs k d) xs k d low (eq-eqb _ _ refl))

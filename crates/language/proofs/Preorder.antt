@@ -1,6 +1,7 @@
 -- How a depth-first search goes on in the list of the prefixes.
 use Rattle.language.proofs.Prelude.{◌≡◌, ℕ, zero, suc, ◌+◌, ◌-◌, ◌<◌, Bool, true, false, cond, List, [], ◌∷◌, ◌++◌, length, map, refl, sym, ◌∙◌, ap, subst, arith, length-append, All, slice_index_or, filter, flat_map, range_with_len, All-head, All-tail, All-nil, All-cons, All-append, All-map, filter-append, length-map, both_ways, false_from_ne_true, numbers, prefixes}
 use Rattle.language.proofs.Lists.{all_below}
+use Rattle.shared_lemmas.proofs.Lists.{filter-map}
 
 -- ---- what comes from a place on
 
@@ -20,14 +21,6 @@ pending d zero (y ∷ p) x = []
 pending d (suc n) (y ∷ p) x = map (λ q. y ∷ q) (pending d n p x) ++ children d (suc n) (y + 1)
 
 -- ---- lists that are filtered
-
-pub filter_map_of : {X Y : Type 0} (t : Y → Bool) (f : X → Y) (xs : List X) → filter t (map f xs) ≡ map f (filter (λ x. t (f x)) xs)
-filter_map_of t f [] = refl
-filter_map_of t f (x ∷ xs) = go (t (f x)) (filter_map_of t f xs)
-  where
-    go : (b : Bool) → filter t (map f xs) ≡ map f (filter (λ x. t (f x)) xs) → cond b (f x ∷ filter t (map f xs)) (filter t (map f xs)) ≡ map f (cond b (x ∷ filter (λ x. t (f x)) xs) (filter (λ x. t (f x)) xs))
-    go true rest = ap (λ ys. f x ∷ ys) rest
-    go false rest = rest
 
 pub none_passes : {X : Type 0} (P : X → Type 0) (t : X → Bool) (xs : List X) → All P xs → ((x : X) → P x → t x ≡ false) → filter t xs ≡ []
 none_passes P t [] all h = refl
@@ -56,7 +49,7 @@ fronts_below d test x low closed = λ p q small at. closed (x ∷ p) q (All-cons
 
 -- nothing passes below a prefix of one value that doesn't
 none_under : (d : ℕ) (test : List ℕ → Bool) (x : ℕ) (ps : List (List ℕ)) → x < d → PassesFronts d test → test (x ∷ []) ≡ false → All (All (λ y. y < d)) ps → filter test (map (λ p. x ∷ p) ps) ≡ []
-none_under d test x ps low closed fails small = filter_map_of test (λ p. x ∷ p) ps
+none_under d test x ps low closed fails small = filter-map test (λ p. x ∷ p) ps
     ∙ ap (λ (qs : List (List ℕ)). map (λ p. x ∷ p) qs) (none_passes (All (λ y. y < d)) (λ p. test (x ∷ p)) ps small (λ p fits. false_from_ne_true _ (λ at.
     both_ways _ fails (closed (x ∷ []) p (All-cons (λ y. y < d) x p low fits) at))))
 
@@ -93,9 +86,9 @@ pending_skip d (suc n) test [] x short low small closed fails =
     ∙ ap (λ qs. qs ++ filter test (children d (suc n) (x + 1))) (none_under d test x (children d n 0) low closed fails (children_small d n))
 pending_skip d (suc n) test (y ∷ p) x short low small closed fails =
     filter-append test (map (λ q. y ∷ q) (pending d n (p ++ x ∷ []) 0)) (children d (suc n) (y + 1))
-    ∙ ap (λ qs. qs ++ filter test (children d (suc n) (y + 1))) (filter_map_of test (λ q. y ∷ q) (pending d n (p ++ x ∷ []) 0)
+    ∙ ap (λ qs. qs ++ filter test (children d (suc n) (y + 1))) (filter-map test (λ q. y ∷ q) (pending d n (p ++ x ∷ []) 0)
     ∙ ap (λ (qs : List (List ℕ)). map (λ q. y ∷ q) qs) (pending_skip d n (λ q. test (y ∷ q)) p x (omega arith) low (All-tail (λ z. z < d) y p small) (fronts_below d test y (All-head (λ z. z < d) y p small) closed) fails)
-    ∙ sym (filter_map_of test (λ q. y ∷ q) (pending d n p (x + 1))))
+    ∙ sym (filter-map test (λ q. y ∷ q) (pending d n p (x + 1))))
     ∙ sym (filter-append test (map (λ q. y ∷ q) (pending d n p (x + 1))) (children d (suc n) (y + 1)))
 
 -- after the last value comes the next of the value before

@@ -2,6 +2,7 @@
 use Rattle.language.proofs.Prelude.{◌≡◌, ℕ, zero, suc, ◌+◌, ◌-◌, ◌<◌, ◌≤◌, Bool, true, false, cond, ◌&&◌, List, [], ◌∷◌, ◌++◌, length, map, refl, sym, ◌∙◌, ap, arith, append_assoc, append-nil, length-append, subst, take, nat_le, All, slice_index_or, flat_map, range_with_len, le-leb, lt-leb, length-map, flat_map-append, flat_map-map, filter-append, filter_agree, filter_passes, All-nil, All-cons, All-append, All-map, All-weaker, tuples, Scope, variables_in, choices, past, longer_by, is_rising, rising_lists}
 use Rattle.std.specs.Prelude.{filter}
 use Rattle.std.proofs.lemmas.Simd.{map-map}
+use Rattle.shared_lemmas.proofs.Lists.{filter-map, map-flat_map}
 
 -- the rising lists of a size of the m numbers from a on: first those with a
 abbrev pub rising_from : ℕ → ℕ → ℕ → List (List ℕ)
@@ -25,10 +26,6 @@ filter-flat_map p f (x ∷ xs) = filter-append p (f x) (flat_map f xs) ∙ ap (�
 map-cond : {X Y : Type 0} (f : X → Y) (b : Bool) (x : X) (xs : List X) → map f (cond b (x ∷ xs) xs) ≡ cond b (f x ∷ map f xs) (map f xs)
 map-cond f true x xs = refl
 map-cond f false x xs = refl
-
-filter-map : {X Y : Type 0} (p : Y → Bool) (f : X → Y) (xs : List X) → filter p (map f xs) ≡ map f (filter (λ x. p (f x)) xs)
-filter-map p f [] = refl
-filter-map p f (x ∷ xs) = ap (λ ys. cond (p (f x)) (f x ∷ ys) ys) (filter-map p f xs) ∙ sym (map-cond f (p (f x)) x (filter (λ z. p (f z)) xs))
 
 -- a rising list of numbers from a on
 abbrev pub rises : ℕ → List ℕ → Bool
@@ -91,10 +88,6 @@ count_lists n size = ap length (lists_are n size) ∙ count-rising_from 0 n size
 map-join : {X Y : Type 0} (g : X → Y) (xs ys : List X) → map g (xs ++ ys) ≡ map g xs ++ map g ys
 map-join g [] ys = refl
 map-join g (x ∷ xs) ys = ap (λ zs. g x ∷ zs) (map-join g xs ys)
-
-map-flat_map : {X Y Z : Type 0} (g : Y → Z) (f : X → List Y) (xs : List X) → map g (flat_map f xs) ≡ flat_map (λ x. map g (f x)) xs
-map-flat_map g f [] = refl
-map-flat_map g f (x ∷ xs) = map-join g (f x) (flat_map f xs) ∙ ap (λ zs. map g (f x) ++ zs) (map-flat_map g f xs)
 
 flat_map-agree : {X Y : Type 0} (f g : X → List Y) → ((x : X) → f x ≡ g x) → (xs : List X) → flat_map f xs ≡ flat_map g xs
 flat_map-agree f g same xs = λ i. flat_map (λ x. same x i) xs

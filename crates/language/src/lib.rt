@@ -24,6 +24,7 @@ mod named;
 mod names;
 mod narrow;
 mod numbering;
+mod order;
 mod parts;
 mod places;
 mod ranges;

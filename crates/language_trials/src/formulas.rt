@@ -2,7 +2,7 @@
 
 ghost use Rattle.std.specs.Prelude.{◌≡◌, ◌<◌, ◌≤◌, ◌≤ℤ◌, ◌^◌, pos, negsuc, Some, None, Ok, Err, true, false, ◌∷◌, [], codes};
 ghost use Rattle.serde_json.specs.Data.{Data, array, string, number, unsigned, Items, no_items, item};
-ghost use Rattle.rel_formula.specs.Formula.{compared, combined, opposite, whole, shown, relation_of, first_too_big};
+ghost use Rattle.rel_formula.specs.Formula.{compared, combined, opposite, whole, shown, relation_from_formula, first_too_big};
 ghost use Rattle.rel_formula.specs.Reading.{formula_in};
 ghost use Rattle.rel_formula.specs.declared.fault.FormulaFault.TheVariants.{BadShape, BadPosition};
 ghost use Rattle.rel_formula.specs.declared.step.Arithmetic.TheVariants.{Product, Sum};
@@ -16,7 +16,7 @@ use std::alloc::Global;
 
 /// What the definitions say of a few formulas, computed by the checker.
 pub(crate) fn definitions()
-    ensures order { relation_of (compared Below (shown 0) (shown 1)) 2 (pos 1) 3 ≡ false ∷ true ∷ true ∷ false ∷ false ∷ true ∷ false ∷ false ∷ false ∷ [] }
+    ensures order { relation_from_formula (compared Below (shown 0) (shown 1)) 2 (pos 1) 3 ≡ false ∷ true ∷ true ∷ false ∷ false ∷ true ∷ false ∷ false ∷ false ∷ [] }
     ensures sum { first_too_big (compared Equal (combined Product (whole (pos 9223372036854775807)) (combined Sum (shown 0) (shown 1))) (whole (pos 0))) 2 (pos 0) 2 ≡ Some 3 }
     ensures partial { first_too_big (compared Equal (combined Product (combined Product (whole (pos 9223372036854775807)) (whole (pos 2))) (whole (pos 0))) (whole (pos 0))) 2 (pos 0) 2 ≡ Some 0 }
     ensures read { formula_in 2 (array (item (string (codes "not")) (item (array (item (string (codes "=")) (item (string (codes "$0")) (item (string (codes "$1")) no_items)))) no_items))) ≡ Ok (opposite (compared Equal (shown 0) (shown 1))) }

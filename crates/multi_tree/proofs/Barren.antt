@@ -59,10 +59,6 @@ pub nothing_barren : (barren : ℕ) (waiting : List (List ℕ)) → AreBarren []
 nothing_barren barren [] = tt
 nothing_barren barren (set ∷ below) = ((λ from. refl), nothing_barren barren below)
 
-pub un_not : (b : Bool) → not b ≡ false → b ≡ true
-un_not true h = refl
-un_not false h = absurd (let no : ⊥ = cc in no)
-
 -- a set was taken, and it is told whether it is barren
 module _ (sets : List (List ℕ)) (barren : ℕ) (set : List ℕ) (below : List (List ℕ)) (is_barren : Bool) (new size : ℕ) where
   abbrev pub IsFrom : Type 0

@@ -9,12 +9,13 @@ pub use Rattle.assign.specs.Assignment.{Assignment, restrict}
 pub use Rattle.assign.specs.Sets.{IsSet, has, is_within, numbers, union, without}
 pub use Rattle.language.specs.Language.{IsCandidate, IsLanguage, IsQuestion, Language, scope_of, variable_count, violates}
 pub use Rattle.language.specs.declared.candidates.Candidate.{Candidate}
+pub use Rattle.language.proofs.Lists.{find_nothing}
 pub use Rattle.session_laws.proofs.Restrict.{part_is_question, violates_restrict}
 pub use Rattle.session_laws.specs.Walk.{Asks, Capped, Ended, Ends, Walk, learned_within, parts_without, take_set, violates_some}
 unfoldable pub use Rattle.session_laws.specs.Walk.{next_turn}
-pub use Rattle.multi_tree.specs.Depth.{AreFit, Fits}
+pub use Rattle.multi_tree.specs.Depth.{AllFitOn, FitsOn}
 pub use Rattle.multi_tree.specs.Listed.{AreBarren, AreListed, AreStruck, IsListing, beside_scope, item_within}
-pub use Rattle.multi_tree.specs.Stage.{Ready, Stage, asked_in, begun, put_again}
-pub use Rattle.multi_tree.specs.Standing.{Move, PutsAgain, StandsFor, Turns, moved}
+pub use Rattle.multi_tree.specs.Stage.{Ready, Stage, asked_in, stage_begun, put_again}
+pub use Rattle.multi_tree.specs.Standing.{Move, PutsAgain, StageStandsFor, Turns, moved}
 unfoldable pub use Rattle.multi_tree.specs.Standing.{after_moves}
 pub use Rattle.multi_tree.specs.declared.tree.Violated.{Violated}

@@ -1,5 +1,5 @@
 -- How long sets are, and what room they have.
-use Rattle.multi_tree.proofs.Prelude.{◌≡◌, ℕ, ◌+◌, ◌<◌, ◌≤◌, Bool, true, false, ◌||◌, ◌&&◌, not, List, [], ◌∷◌, ◌++◌, length, drop, get_or, refl, sym, ◌∙◌, ap, subst, arith, add-one, drop-cons, length-append, ◌==◌, reverse, reverse-append, and_parts, both_ways, eqb-true, not-true, IsSet, has, union, without, parts_without, Fits, AreFit}
+use Rattle.multi_tree.proofs.Prelude.{◌≡◌, ℕ, ◌+◌, ◌<◌, ◌≤◌, Bool, true, false, ◌||◌, ◌&&◌, not, List, [], ◌∷◌, ◌++◌, length, drop, get_or, refl, sym, ◌∙◌, ap, subst, arith, add-one, drop-cons, length-append, ◌==◌, reverse, reverse-append, and_parts, both_ways, eqb-true, not-true, IsSet, has, union, without, parts_without, FitsOn, AllFitOn}
 use Rattle.assign.specs.SetLemmas.{has-set_where}
 use Rattle.assign.proofs.Masks.{rises_where}
 use Rattle.find_scope.proofs.Runs.{union_sub}
@@ -35,23 +35,14 @@ shorter xs v set low at =
 
 -- ---- a stack
 
-pub reverse_push : (xs : List (List ℕ)) (x : List ℕ) → reverse (xs ++ x ∷ []) ≡ x ∷ reverse xs
-reverse_push xs x = reverse-append xs (x ∷ [])
-
 -- each set takes a place for itself, so there are few
-pub few : (sets : List (List ℕ)) → AreFit sets → length sets ≤ 385
+pub few : (sets : List (List ℕ)) → AllFitOn sets → length sets ≤ 385
 few [] fit = omega arith
 few (set ∷ below) fit = let room = fit.0 in omega arith
 
 -- the parts of a set have room where it had
-pub part_fits : (set : List ℕ) (v : ℕ) (below parts : List (List ℕ)) → IsSet set → v < 128 → has set v ≡ true → length parts ≤ 3 → Fits set below → Fits (without set v) (parts ++ below)
+pub part_fits : (set : List ℕ) (v : ℕ) (below parts : List (List ℕ)) → IsSet set → v < 128 → has set v ≡ true → length parts ≤ 3 → FitsOn set below → FitsOn (without set v) (parts ++ below)
 part_fits set v below parts is low at short room =
     let less = shorter set v is low at in
     let long = length-append parts below in
     omega arith
-
-pub part_more : (set scope : List ℕ) (i : ℕ) (below : List (List ℕ)) → i < length scope →
-    without set (get_or scope i 0) ∷ (parts_without set (drop (i + 1) scope) ++ below) ≡ parts_without set (drop i scope) ++ below
-part_more set scope i below low =
-    let next : drop i scope ≡ get_or scope i 0 ∷ drop (i + 1) scope = rw (add-one, drop-cons scope i 0) refl in
-    ap (λ vs. parts_without set vs ++ below) (sym next)

@@ -4,6 +4,7 @@ use Rattle.std.proofs.lemmas.List.Elements.{All-head, All-tail, filter_more}
 use Rattle.std.proofs.lemmas.List.Folds.{Any-from_list_any}
 use Rattle.language.specs.Answers.{IsNetwork}
 use Rattle.bias_store.specs.KeptSet.{is_struck_within}
+use Rattle.session_laws.proofs.NetworkHalves.{none_within}
 
 -- ---- the first that passes
 
@@ -13,12 +14,6 @@ find_first p (y ∷ xs) zero x low none at on = ap (λ z. cond (p z) (Some z) (f
 find_first p (y ∷ xs) (suc i) x low none at on =
     let parts = or_parts (p y) (list_any p (take i xs)) none in
     ap (λ b. cond b (Some y) (find p xs)) parts.0 ∙ find_first p xs i x (omega arith) parts.1 at on
-
-pub find_never : {X : Type 0} (p : X → Bool) (xs : List X) → list_any p xs ≡ false → find p xs ≡ None
-find_never p [] none = refl
-find_never p (y ∷ xs) none =
-    let parts = or_parts (p y) (list_any p xs) none in
-    ap (λ b. cond b (Some y) (find p xs)) parts.0 ∙ find_never p xs parts.1
 
 -- of two lists, one behind the other
 pub find_behind : {X : Type 0} (p : X → Bool) (xs ys : List X) → find p xs ≡ None → find p (xs ++ ys) ≡ find p ys
@@ -181,14 +176,10 @@ module _ (l : Language) (network kept : List Candidate) (e : Assignment) where
 
 -- ---- what is asked about isn't empty
 
-nothing_within : (xs : List ℕ) → 1 ≤ length xs → is_within xs [] ≡ true → ⊥
-nothing_within [] h at = absurd (omega arith)
-nothing_within (x ∷ xs) h at = both_ways _ refl (and_parts (has [] x) (is_within xs []) at).0
-
 pub some_asked : (l : Language) → IsLanguage l → (kept : List Candidate) → IsNetwork l kept → (e : Assignment) (set : List ℕ) → violates_some l kept (restrict e set) ≡ true → 0 < length set
 some_asked l lawful kept known e (v ∷ set) bites = omega arith
 some_asked l lawful kept known e [] bites =
     let found = Any-from_list_any (λ c. violates l c (restrict e [])) kept bites in
     let is : IsCandidate l found.1 = subst (IsCandidate l) found.3 (known found.0 found.1 found.2) in
-    absurd (nothing_within (scope_of l found.1) (lawful.scopes found.1.scope [] is.scope).not_empty
+    absurd (none_within (scope_of l found.1) (lawful.scopes found.1.scope [] is.scope).not_empty
     (and_parts (is_within (scope_of l found.1) []) (violates l found.1 e) (sym (violates_restrict l found.1 e []) ∙ found.4)).0)

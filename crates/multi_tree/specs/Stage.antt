@@ -46,8 +46,8 @@ IsWalkOn l (Done end) = Unit {0}
 -- ---- what is done to it
 
 -- it begins with the set of all variables
-abbrev pub begun : Language → Assignment → Stage
-begun l e = Ready (record { example = e; waiting = numbers (variable_count l) ∷ []; left = MOST_SETS })
+abbrev pub stage_begun : Language → Assignment → Stage
+stage_begun l e = Ready (record { example = e; waiting = numbers (variable_count l) ∷ []; left = MOST_SETS })
 
 -- the next turn
 abbrev pub turn_at : Language → List Candidate → List Candidate → Stage → Turn

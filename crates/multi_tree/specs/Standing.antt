@@ -6,13 +6,13 @@ use Rattle.language.specs.Language.{Language}
 use Rattle.session_laws.specs.Walk.{Turn, Asks, Ends, Ended, Capped}
 use Rattle.multi_tree.specs.declared.tree.TreeNext.{TreeNext}
 use Rattle.multi_tree.specs.declared.tree.TreeNext.TheVariants as next
-use Rattle.multi_tree.specs.Stage.{Stage, begun, turn_at, stage_after, put_again}
+use Rattle.multi_tree.specs.Stage.{Stage, stage_begun, turn_at, stage_after, put_again}
 
 -- what a turn answers
-abbrev pub answer_to : Turn → TreeNext
-answer_to (Asks set walk) = next.Ask set
-answer_to (Ends (Ended e)) = next.End
-answer_to (Ends (Capped e)) = next.Capped
+abbrev pub next_of_turn : Turn → TreeNext
+next_of_turn (Asks set walk) = next.Ask set
+next_of_turn (Ends (Ended e)) = next.End
+next_of_turn (Ends (Capped e)) = next.Capped
 
 -- the turn of an answer, with the sets and the number that it leaves
 abbrev pub turn_told : Assignment → TreeNext → List (List ℕ) → ℕ → Turn
@@ -35,5 +35,5 @@ after_moves l stage [] = stage
 after_moves l stage (move ∷ moves) = after_moves l (moved l stage move) moves
 
 -- it stands where the moves lead from the beginning of the walk of e
-abbrev pub StandsFor : Stage → Language → Assignment → List Move → Type 0
-StandsFor stage l e moves = stage ≡ after_moves l (begun l e) moves
+abbrev pub StageStandsFor : Stage → Language → Assignment → List Move → Type 0
+StageStandsFor stage l e moves = stage ≡ after_moves l (stage_begun l e) moves

@@ -7,7 +7,7 @@
 //! (Tsouros et al., 2018).
 //!
 //! A `Tree` is seen as where its walk stands (`Stage`): the next turn is due, a set is asked about, or the walk is at its
-//! end. The floor above may rely on one relation, `StandsFor stage l e moves`: the stage is where the moves lead from the
+//! end. The floor above may rely on one relation, `StageStandsFor stage l e moves`: the stage is where the moves lead from the
 //! beginning of the walk of e. `start` gives it for no moves; `next` and `again` carry it on to one move more, for every
 //! list. Each clause also says the stage outright. At most 385 sets ever wait, and there is room for 1,024, so nothing but
 //! `make` takes memory.

@@ -3,7 +3,7 @@
 ghost use Rattle.std.specs.Prelude.{◌≡◌, ◌<◌, ◌≤◌, ◌++◌, ◌∷◌, ◌↔◌, IsTrue, true, [], length, All, IfOk, IfSome, IfNone};
 ghost use Rattle.assign.specs.Sets.{has, IsSet};
 ghost use Rattle.session_laws.specs.Walk.{parts_without};
-ghost use Rattle.multi_tree.specs.Depth.{Fits};
+ghost use Rattle.multi_tree.specs.Depth.{FitsOn};
 
 use assign::VarSet;
 use language::Memory;
@@ -25,11 +25,11 @@ impl Model for Stack {
 
     ghost Value = { List (List ℕ) };
 
-    ghost use Rattle.multi_tree.specs.Inside.{sets_of, HasRoom};
+    ghost use Rattle.multi_tree.specs.Inside.{sets_of, StackHasRoom};
 
     ghost view = { sets_of };
 
-    ghost invariant = { HasRoom };
+    ghost invariant = { StackHasRoom };
 }
 
 impl Stack {
@@ -65,7 +65,7 @@ impl Stack {
 
     /// Puts a set on top.
     pub fn push(&mut self, set: VarSet)
-        requires { Fits set self.old }
+        requires { FitsOn set self.old }
         ensures { self.new ≡ set ∷ self.old }
     {
         self.sets.push(set).unwrap();
@@ -74,7 +74,7 @@ impl Stack {
     /// Takes the top set.
     pub fn pop(&mut self) -> Option<VarSet>
         ensures top { IfSome result (λ set. self.old ≡ set ∷ self.new) }
-        ensures room { IfSome result (λ set. Fits set self.new) }
+        ensures room { IfSome result (λ set. FitsOn set self.new) }
         ensures empty { IfNone result (self.old ≡ []) }
         ensures still { IfNone result (self.new ≡ []) }
     {
@@ -83,7 +83,7 @@ impl Stack {
 
     /// Puts a set without each variable of a scope in turn: without the first on top.
     pub fn push_parts(&mut self, set: VarSet, scope: &[u8])
-        requires room { Fits set self.old }
+        requires room { FitsOn set self.old }
         requires set { IsSet set }
         requires short { length scope.now ≤ 4 }
         requires within { All (λ v. has set v ≡ true) scope.now }

@@ -8,10 +8,10 @@ ghost use Rattle.language.specs.Language.{scope_of, IsCandidate, IsQuestion};
 ghost use Rattle.language.specs.Answers.{IsNetwork};
 ghost use Rattle.bias_store.specs.KeptSet.{IsMadeFor};
 ghost use Rattle.session_laws.specs.Walk.{learned_within, next_turn, parts_without, violates_some};
-ghost use Rattle.multi_tree.specs.Depth.{Fits};
+ghost use Rattle.multi_tree.specs.Depth.{FitsOn};
 ghost use Rattle.multi_tree.specs.Listed.{AreBarren, AreListed, AreStruck, IsListing, item_within};
-ghost use Rattle.multi_tree.specs.Stage.{walk_in, asked_in, example_in, begun, turn_at, stage_after, put_again, IsWalkOn};
-ghost use Rattle.multi_tree.specs.Standing.{answer_to, turn_told, Move, Turns, PutsAgain, StandsFor};
+ghost use Rattle.multi_tree.specs.Stage.{walk_in, asked_in, example_in, stage_begun, turn_at, stage_after, put_again, IsWalkOn};
+ghost use Rattle.multi_tree.specs.Standing.{next_of_turn, turn_told, Move, Turns, PutsAgain, StageStandsFor};
 
 use crate::stack::Stack;
 use assign::{Partial, VarSet};
@@ -64,11 +64,11 @@ impl Model for Tree {
 
     ghost Value = { Stage };
 
-    ghost use Rattle.multi_tree.specs.Inside.{stage_of, HasPlace};
+    ghost use Rattle.multi_tree.specs.Inside.{stage_of, AskedFits};
 
     ghost view = { λ a. stage_of a.phase a.asked (record { example = a.example; waiting = a.waiting; left = a.left }) };
 
-    ghost invariant = { λ a. HasPlace a.phase a.asked a.waiting };
+    ghost invariant = { λ a. AskedFits a.phase a.asked a.waiting };
 }
 
 /// What the walk comes to next.
@@ -99,8 +99,8 @@ impl Tree {
 
     /// Begins the walk of an example.
     pub fn start(&mut self, lang: &Language, e: Partial)
-        ensures stage { self.new ≡ begun lang.now e }
-        ensures stands { StandsFor self.new lang.now e [] }
+        ensures stage { self.new ≡ stage_begun lang.now e }
+        ensures stands { StageStandsFor self.new lang.now e [] }
     {
         self.example = e;
         self.waiting.clear();
@@ -128,13 +128,13 @@ impl Tree {
         requires example { IsWalkOn lang.now self.old }
         requires network { IsNetwork lang.now net.now.list }
         requires made { IsMadeFor lang.now kept.now }
-        ensures answer { result ≡ answer_to (turn_at lang.now net.now.list kept.now.members self.old) }
+        ensures answer { result ≡ next_of_turn (turn_at lang.now net.now.list kept.now.members self.old) }
         ensures stage { self.new ≡ stage_after (turn_at lang.now net.now.list kept.now.members self.old) }
         ensures asked { (set : List ℕ) → result ≡ TreeNext.Ask set → asked_in self.new ≡ Some set }
         ensures some { (set : List ℕ) → result ≡ TreeNext.Ask set → 0 < length set }
         ensures example { IsWalkOn lang.now self.new }
-        ensures stands { (e : _) (moves : List Move) → StandsFor self.old lang.now e moves
-            → StandsFor self.new lang.now e (moves ++ Turns net.now.list kept.now.members ∷ []) }
+        ensures stands { (e : _) (moves : List Move) → StageStandsFor self.old lang.now e moves
+            → StageStandsFor self.new lang.now e (moves ++ Turns net.now.list kept.now.members ∷ []) }
     {
         let mut places: [Violated; 0] = [];
         let mut listed = Listed {
@@ -156,14 +156,14 @@ impl Tree {
         requires network { IsNetwork lang.now net.now.list }
         requires made { IsMadeFor lang.now kept.now }
         requires listed { IsListing lang.now net.now.list (example_in self.old) listing.old }
-        ensures answer { result ≡ answer_to (turn_at lang.now net.now.list kept.now.members self.old) }
+        ensures answer { result ≡ next_of_turn (turn_at lang.now net.now.list kept.now.members self.old) }
         ensures stage { self.new ≡ stage_after (turn_at lang.now net.now.list kept.now.members self.old) }
         ensures asked { (set : List ℕ) → result ≡ TreeNext.Ask set → asked_in self.new ≡ Some set }
         ensures some { (set : List ℕ) → result ≡ TreeNext.Ask set → 0 < length set }
         ensures example { IsWalkOn lang.now self.new }
         ensures listed { IsListing lang.now net.now.list (example_in self.new) listing.new }
-        ensures stands { (e : _) (moves : List Move) → StandsFor self.old lang.now e moves
-            → StandsFor self.new lang.now e (moves ++ Turns net.now.list kept.now.members ∷ []) }
+        ensures stands { (e : _) (moves : List Move) → StageStandsFor self.old lang.now e moves
+            → StageStandsFor self.new lang.now e (moves ++ Turns net.now.list kept.now.members ∷ []) }
     {
         self.turn(lang, net, kept, &mut listing.places, &mut listing.listed)
     }
@@ -172,7 +172,7 @@ impl Tree {
     pub fn again(&mut self)
         requires { asked_in self.old ≢ None }
         ensures stage { self.new ≡ put_again self.old }
-        ensures stands { (l : _) (e : _) (moves : List Move) → StandsFor self.old l e moves → StandsFor self.new l e (moves ++ PutsAgain ∷ []) }
+        ensures stands { (l : _) (e : _) (moves : List Move) → StageStandsFor self.old l e moves → StageStandsFor self.new l e (moves ++ PutsAgain ∷ []) }
     {
         self.waiting.push(self.asked);
         self.phase = Phase::Ready;
@@ -191,7 +191,7 @@ impl Tree {
         requires network { IsNetwork lang.now net.now.list }
         requires made { IsMadeFor lang.now kept.now }
         requires listed { AreListed lang.now net.now.list (example_in self.old) places.old listed.old }
-        ensures answer { result ≡ answer_to (turn_at lang.now net.now.list kept.now.members self.old) }
+        ensures answer { result ≡ next_of_turn (turn_at lang.now net.now.list kept.now.members self.old) }
         ensures stage { self.new ≡ stage_after (turn_at lang.now net.now.list kept.now.members self.old) }
         ensures asked { (set : List ℕ) → result ≡ TreeNext.Ask set → asked_in self.new ≡ Some set }
         ensures some { (set : List ℕ) → result ≡ TreeNext.Ask set → 0 < length set }
@@ -260,7 +260,7 @@ fn take_sets(
     requires made { IsMadeFor lang.now kept.now }
     requires listed { AreListed lang.now net.now.list example.now places.now listed.now }
     ensures turn { turn_told example.now result waiting.new left.new ≡ next_turn lang.now net.now.list kept.now.members example.now left.old waiting.old }
-    ensures room { (set : List ℕ) → result ≡ TreeNext.Ask set → Fits set waiting.new }
+    ensures room { (set : List ℕ) → result ≡ TreeNext.Ask set → FitsOn set waiting.new }
     ensures some { (set : List ℕ) → result ≡ TreeNext.Ask set → 0 < length set }
 {
     let _variables = lang.n();
@@ -317,7 +317,7 @@ fn barren_from(barren: usize, below: usize, is_barren: bool) -> usize
 fn split(lang: &Language, waiting: &mut Stack, set: VarSet, c: Candidate)
     requires candidate { IsCandidate lang.now c }
     requires within { IsTrue (is_within (scope_of lang.now c) set) }
-    requires room { Fits set waiting.old }
+    requires room { FitsOn set waiting.old }
     ensures { waiting.new ≡ parts_without set (scope_of lang.now c) ++ waiting.old }
 {
     let _few = set.len();

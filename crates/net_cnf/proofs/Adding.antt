@@ -1,10 +1,7 @@
 -- A text that grows by pieces, and what is known where it would be too long.
-use Rattle.net_cnf.proofs.Prelude.{◌≡◌, ℕ, zero, suc, ◌+◌, ◌-◌, ◌<◌, ◌≤◌, List, [], ◌∷◌, ◌++◌, length, Result, Ok, Err, sym, ◌∙◌, ap, arith, append_assoc, flat_map, range_with_len, append-nil, length-append, map-id, flat_map-append, map-range_with_len_more, MOST_BYTES, Grown, IsTooLong, Adds}
+use Rattle.net_cnf.proofs.Prelude.{◌≡◌, ℕ, zero, suc, ◌+◌, ◌-◌, ◌<◌, ◌≤◌, List, [], ◌∷◌, ◌++◌, length, Result, Ok, Err, sym, ◌∙◌, ap, arith, append_assoc, flat_map, range_with_len, append-nil, length-append, map-id, flat_map-append, map-range_with_len_more, MOST_BYTES, Grown, IsTooLong, AddsText}
 use Rattle.net_cnf.specs.declared.fault.CnfFault.{CnfFault}
 use Rattle.net_cnf.specs.declared.fault.CnfFault.TheVariants.{TooLarge, Memory}
-
-pub grown_none : (old : List ℕ) → length old ≤ MOST_BYTES → Grown old [] old
-grown_none old h = (sym (append-nil old), h)
 
 pub grown_more : (old sofar part mid new : List ℕ) → Grown old sofar mid → Grown mid part new → Grown old (sofar ++ part) new
 grown_more old sofar part mid new before after = (after.0 ∙ ap (λ t. t ++ part) before.0 ∙ append_assoc old sofar part, after.1)
@@ -13,7 +10,7 @@ pub grown_as : (old part whole new : List ℕ) → part ≡ whole → Grown old 
 grown_as old part whole new e h = (h.0 ∙ ap (λ t. old ++ t) e, h.1)
 
 -- what follows of a call that adds the last piece
-pub adds_last : {A : Type 0} (r : Result A CnfFault) (old sofar part whole mid new : List ℕ) → Grown old sofar mid → sofar ++ part ≡ whole → Adds mid part new r → Adds old whole new r
+pub adds_last : {A : Type 0} (r : Result A CnfFault) (old sofar part whole mid new : List ℕ) → Grown old sofar mid → sofar ++ part ≡ whole → AddsText mid part new r → AddsText old whole new r
 adds_last (Ok x) old sofar part whole mid new before e h = grown_as old (sofar ++ part) whole new e (grown_more old sofar part mid new before h)
 adds_last (Err TooLarge) old sofar part whole mid new before e h =
     let long = ap length before.0 in

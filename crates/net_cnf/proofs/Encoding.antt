@@ -1,5 +1,5 @@
 -- The models of a network's clauses are its solutions.
-use Rattle.net_cnf.proofs.Prelude.{◌≡◌, ℕ, ◌-◌, ◌<◌, ◌&&◌, ◌||◌, not, Bool, true, false, cond, List, [], ◌∷◌, ◌++◌, length, get_or, map, Option, Some, None, refl, sym, ◌∙◌, ap, arith, eqb, ◌⊎◌, inl, inr, find, is_some, unwrap_or, All, beq, list_all, list_any, flat_map, cases_eq, cases_lt, eq-eqb, eqb-true, ne_eqb, and_from, and_parts, or_left, or_right, both_ways, length-map, ext_get_or, get_or-map-range_with_len, length-map-range_with_len, list_all-append, list_all-map, AllPass-from_list_all, All-head, All-tail, numbers, Assignment, value_of, covers, tuple_on, is_complete, is_same_value, holds, Candidate, Language, variable_count, values_of, is_ranged, scope_of, relation_of, violates, accepts, IsLanguage, IsQuestion, IsCandidate, find_all, any-map, find_none, find_some, Boolean, boolean, booleans_of, booleans, number_of, gives, bits, Clause, is_met, satisfies, literal, some_value, each_two, not_both, no_two_values, tuples_on, values_in, rejected, none_rejected, clauses, IsOnly, ClausesEncode}
+use Rattle.net_cnf.proofs.Prelude.{◌≡◌, ℕ, ◌-◌, ◌<◌, ◌&&◌, ◌||◌, not, Bool, true, false, cond, List, [], ◌∷◌, ◌++◌, length, get_or, map, Option, Some, None, refl, sym, ◌∙◌, ap, arith, eqb, ◌⊎◌, inl, inr, find, is_some, unwrap_or, All, beq, list_all, list_any, flat_map, cases_eq, cases_lt, eq-eqb, eqb-true, ne_eqb, and_from, and_parts, or_left, or_right, both_ways, length-map, ext_get_or, get_or-map-range_with_len, length-map-range_with_len, list_all-append, list_all-map, AllPass-from_list_all, All-head, All-tail, numbers, Assignment, value_of, covers, tuple_on, is_complete, is_same_value, holds, Candidate, Language, variable_count, values_of, is_ranged, scope_of, relation_of, violates, accepts, IsLanguage, IsQuestion, IsCandidate, find_all, any-map, find_none, find_some, Boolean, boolean, booleans_of, booleans, boolean_number, gives, bits, Clause, is_met, satisfies_clauses, literal, some_value, each_two, not_both, no_two_values, tuples_on, values_in, rejected, none_rejected, clauses, IsOnlyModel, ClausesEncode}
 use Rattle.language.specs.Answers.{IsNetwork}
 use Rattle.net_cnf.proofs.Numbers.{truth_of, same_truths}
 use Rattle.net_cnf.proofs.Runs.{IsValue, first_of, size_of, values-run, value_in, in_value, value_at, place_in, any_value, all_values}
@@ -34,7 +34,7 @@ given_is e v x y is = ap (λ (o : Option ℕ). is_same_value o (Some x)) is
 
 -- the truth value of a Boolean
 abbrev pub truth : Language → List Bool → Boolean → Bool
-truth l truths b = get_or truths (number_of l b - 1) false
+truth l truths b = get_or truths (boolean_number l b - 1) false
 
 yes_met : (l : Language) (e : Assignment) (v x : ℕ) → IsValue l v x → is_met (bits l e) (literal l true (boolean v x)) ≡ gives e (boolean v x)
 yes_met l e v x is = beq-true (truth l (bits l e) (boolean v x)) ∙ truth_of l (gives e) v x is
@@ -138,7 +138,7 @@ network_met l e (c ∷ network) lawful known all =
 
 -- the three kinds of clauses
 kinds : (l : Language) (network : List Candidate) (truths : List Bool) →
-    satisfies truths (clauses l network)
+    satisfies_clauses truths (clauses l network)
     ≡ (list_all (λ v. list_any (is_met truths) (some_value l v)) (numbers (variable_count l))
     && (list_all (λ v. list_all (list_any (is_met truths)) (no_two_values l v)) (numbers (variable_count l))
     && list_all (λ c. list_all (list_any (is_met truths)) (none_rejected l c)) network))
@@ -151,7 +151,7 @@ kinds l network truths =
     sat : Clause → Bool
     sat = list_any (is_met truths)
 
-pub same_answers : (l : Language) (network : List Candidate) (e : Assignment) → IsLanguage l → IsNetwork l network → IsQuestion l e → is_complete e ≡ true → accepts l network e ≡ satisfies (bits l e) (clauses l network)
+pub same_answers : (l : Language) (network : List Candidate) (e : Assignment) → IsLanguage l → IsNetwork l network → IsQuestion l e → is_complete e ≡ true → accepts l network e ≡ satisfies_clauses (bits l e) (clauses l network)
 same_answers l network e lawful known question complete =
     let all : (v : ℕ) → v < variable_count l → Valued l e v = λ v low. valued l e v question complete low in
     sym (kinds l network (bits l e)
@@ -169,7 +169,7 @@ record AreValues (l : Language) (truths : List Bool) : Type 0 where
 not_both_true : (a b : Bool) → (beq a false || (beq b false || false)) ≡ true → a ≡ true → b ≡ true → ⊥
 not_both_true a b h on also = both_ways (beq a false || (beq b false || false)) (λ i. beq (on i) false || (beq (also i) false || false)) h
 
-values_from : (l : Language) (network : List Candidate) (truths : List Bool) → satisfies truths (clauses l network) ≡ true → AreValues l truths
+values_from : (l : Language) (network : List Candidate) (truths : List Bool) → satisfies_clauses truths (clauses l network) ≡ true → AreValues l truths
 values_from l network truths h =
     let n : ℕ = variable_count l in
     let first = and_parts _ _ (sym (kinds l network truths) ∙ h) in
@@ -227,7 +227,7 @@ only_chosen l truths v x values y among = go (cases_eq y.value x) (truth l truth
     go (inr apart) false off = ne_eqb y.value x apart ∙ sym off
     go (inr apart) true on = absurd (elim (cases_lt y.value x) [ inl before ↦ values.apart v y.value x before y.among among y.on on | inr after ↦ values.apart v x y.value (omega arith) among y.among on y.on ])
 
-pub one_solution : (l : Language) (network : List Candidate) (truths : List Bool) → length truths ≡ length (booleans l) → satisfies truths (clauses l network) ≡ true → (e : Assignment) × IsOnly l truths e
+pub one_solution : (l : Language) (network : List Candidate) (truths : List Bool) → length truths ≡ length (booleans l) → satisfies_clauses truths (clauses l network) ≡ true → (e : Assignment) × IsOnlyModel l truths e
 one_solution l network truths long h = (
   solution l truths,
   record {

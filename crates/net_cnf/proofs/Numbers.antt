@@ -1,5 +1,5 @@
 -- Where a Boolean stands among all.
-use Rattle.net_cnf.proofs.Prelude.{◌≡◌, ℕ, zero, suc, ◌+◌, ◌-◌, ◌<◌, ◌≤◌, ◌&&◌, Bool, false, List, ◌++◌, length, get_or, map, refl, sym, ◌∙◌, ap, arith, eqb, ◌⊎◌, inl, inr, flat_map, range_with_len, cases_eq, cases_lt, eq-eqb, ne_eqb, and_left, and_right, and_from, length-append, length-map, get_or_append_left, get_or-append_right, get_or-map, ext_get_or, length-range_with_len, get_or-map-range_with_len, position_or_len_is, Language, variable_count, values_of, Boolean, boolean, booleans_of, booleans, is_boolean, number_of}
+use Rattle.net_cnf.proofs.Prelude.{◌≡◌, ℕ, zero, suc, ◌+◌, ◌-◌, ◌<◌, ◌≤◌, ◌&&◌, Bool, false, List, ◌++◌, length, get_or, map, refl, sym, ◌∙◌, ap, arith, eqb, ◌⊎◌, inl, inr, flat_map, range_with_len, cases_eq, cases_lt, eq-eqb, ne_eqb, and_left, and_right, and_from, length-append, length-map, get_or_append_left, get_or-append_right, get_or-map, ext_get_or, length-range_with_len, get_or-map-range_with_len, position_or_len_is, Language, variable_count, values_of, Boolean, boolean, booleans_of, booleans, is_boolean, boolean_number}
 use Rattle.net_cnf.proofs.Adding.{front, pieces_more}
 use Rattle.net_cnf.proofs.Runs.{IsValue, first_of, size_of, values-run, nth_value, place_in}
 
@@ -128,8 +128,8 @@ other l v x p k less is = go (cases_eq k.variable v)
         let first = ap (first_of l) same in
         and_right (eqb k.variable v) (eqb (first_of l k.variable + k.at) x) (ne_eqb (first_of l k.variable + k.at) x (λ e. absurd (omega (arith, e, less, at, begin, first, from))))
 
-pub number-is : (l : Language) (v x : ℕ) → IsValue l v x → number_of l (boolean v x) ≡ offset l v + (x - first_of l v) + 1
-unfolding number_of
+pub number-is : (l : Language) (v x : ℕ) → IsValue l v x → boolean_number l (boolean v x) ≡ offset l v + (x - first_of l v) + 1
+unfolding boolean_number
 number-is l v x is =
     let inside : x - first_of l v < size_of l v = place_in l v x is in
     let below = booleans-below l v (x - first_of l v) is.variable inside in
@@ -144,7 +144,7 @@ number-is l v x is =
     ap (is_boolean (boolean v x)) (get_or-booleans l v (x - first_of l v) (boolean v x) is.variable inside)
     ∙ and_from (eqb v v) (eqb (first_of l v + (x - first_of l v)) x) (eq-eqb v v refl) (eq-eqb (first_of l v + (x - first_of l v)) x (omega (arith, from)))))
 
-pub number_fits : (l : Language) (v x : ℕ) → IsValue l v x → (1 ≤ number_of l (boolean v x)) × (number_of l (boolean v x) - 1 < length (booleans l))
+pub number_fits : (l : Language) (v x : ℕ) → IsValue l v x → (1 ≤ boolean_number l (boolean v x)) × (boolean_number l (boolean v x) - 1 < length (booleans l))
 number_fits l v x is =
     let number = number-is l v x is in
     let below = booleans-below l v (x - first_of l v) is.variable (place_in l v x is) in
@@ -152,11 +152,11 @@ number_fits l v x is =
 
 -- ---- truth values by the numbers
 
-place-is : (l : Language) (v x : ℕ) → IsValue l v x → number_of l (boolean v x) - 1 ≡ offset l v + (x - first_of l v)
+place-is : (l : Language) (v x : ℕ) → IsValue l v x → boolean_number l (boolean v x) - 1 ≡ offset l v + (x - first_of l v)
 place-is l v x is = let e = number-is l v x is in omega (arith, e)
 
 -- the truth value of a Boolean, where each has that of a test
-pub truth_of : (l : Language) (test : Boolean → Bool) (v x : ℕ) → IsValue l v x → get_or (map test (booleans l)) (number_of l (boolean v x) - 1) false ≡ test (boolean v x)
+pub truth_of : (l : Language) (test : Boolean → Bool) (v x : ℕ) → IsValue l v x → get_or (map test (booleans l)) (boolean_number l (boolean v x) - 1) false ≡ test (boolean v x)
 truth_of l test v x is =
     let inside = place_in l v x is in
     let from = is.from in
@@ -167,11 +167,11 @@ truth_of l test v x is =
 
 -- truth values of all Booleans are the same where those of each are
 pub same_truths : (l : Language) (xs ys : List Bool) → length xs ≡ length (booleans l) → length ys ≡ length (booleans l) →
-    ((v x : ℕ) → IsValue l v x → get_or xs (number_of l (boolean v x) - 1) false ≡ get_or ys (number_of l (boolean v x) - 1) false) → xs ≡ ys
+    ((v x : ℕ) → IsValue l v x → get_or xs (boolean_number l (boolean v x) - 1) false ≡ get_or ys (boolean_number l (boolean v x) - 1) false) → xs ≡ ys
 same_truths l xs ys long also each =
     ext_get_or false xs ys (long ∙ sym also) (λ k inside.
     let at = placed l k (omega (arith, long, inside)) in
     let value = nth_value l at.variable at.at at.low at.inside in
     let is = at.is in
-    let here : number_of l (boolean at.variable (first_of l at.variable + at.at)) - 1 ≡ k = (let e = place-is l at.variable (first_of l at.variable + at.at) value in omega (arith, e, is)) in
+    let here : boolean_number l (boolean at.variable (first_of l at.variable + at.at)) - 1 ≡ k = (let e = place-is l at.variable (first_of l at.variable + at.at) value in omega (arith, e, is)) in
     ap (λ j. get_or xs j false) (sym here) ∙ each at.variable (first_of l at.variable + at.at) value ∙ ap (λ j. get_or ys j false) here)

@@ -45,9 +45,6 @@ number_found most digits n number is low =
     ap (λ b. cond b (Some (digits_value 10 digits)) None) (and_from (is_number digits) (nat_le (digits_value 10 digits) most) number (le-leb (digits_value 10 digits) most (omega (arith, low, is))))
     ∙ ap Some is
 
-pub number_missing : (most : ℕ) (digits : List ℕ) → is_number digits ≡ false → number_in most digits ≡ None
-number_missing most digits h = ap (λ b. cond (b && nat_le (digits_value 10 digits) most) (Some (digits_value 10 digits)) None) h
-
 pub number_past : (most : ℕ) (digits : List ℕ) → most < digits_value 10 digits → number_in most digits ≡ None
 number_past most digits past = go (is_number digits)
   where

@@ -3,6 +3,7 @@ use Rattle.net_cnf.proofs.Prelude.{◌≡◌, ℕ, zero, suc, ◌+◌, ◌-◌, 
 use Rattle.net_cnf.proofs.Adding.{pieces_more}
 use Rattle.net_cnf.proofs.Outside.{rejected_within}
 use Rattle.net_cnf.proofs.Runs.{first_of, size_of, values-run}
+use Rattle.shared_lemmas.proofs.Lists.{filter-map, map-flat_map}
 
 pub flat_map-map : {X Y Z : Type 0} (f : Y → List Z) (g : X → Y) (xs : List X) → flat_map f (map g xs) ≡ flat_map (λ x. f (g x)) xs
 flat_map-map f g [] = refl
@@ -105,18 +106,6 @@ no_two_all_pieces l = sym (flat_map-flat_map clause_text (no_two_values l) (numb
 paired_with : (v x : ℕ) (scope : List ℕ) (tuples : List (List ℕ)) → map (λ t. boolean v x ∷ t) (map (paired scope) tuples) ≡ map (paired (v ∷ scope)) (map (λ t. x ∷ t) tuples)
 paired_with v x scope [] = refl
 paired_with v x scope (t ∷ tuples) = ap (λ r. (boolean v x ∷ paired scope t) ∷ r) (paired_with v x scope tuples)
-
-map-flat_map : {X Y Z : Type 0} (f : Y → Z) (g : X → List Y) (xs : List X) → map f (flat_map g xs) ≡ flat_map (λ x. map f (g x)) xs
-map-flat_map f g [] = refl
-map-flat_map f g (x ∷ xs) = map-append f (g x) (flat_map g xs) ∙ ap (λ r. map f (g x) ++ r) (map-flat_map f g xs)
-
-filter-map : {X Y : Type 0} (p : Y → Bool) (f : X → Y) (xs : List X) → filter p (map f xs) ≡ map f (filter (λ x. p (f x)) xs)
-filter-map p f [] = refl
-filter-map p f (x ∷ xs) = ap (λ r. cond (p (f x)) (f x ∷ r) r) (filter-map p f xs) ∙ go (p (f x))
-  where
-    go : (b : Bool) → cond b (f x ∷ map f (filter (λ y. p (f y)) xs)) (map f (filter (λ y. p (f y)) xs)) ≡ map f (cond b (x ∷ filter (λ y. p (f y)) xs) (filter (λ y. p (f y)) xs))
-    go true = refl
-    go false = refl
 
 filter-filter : {X : Type 0} (q p : X → Bool) (xs : List X) → filter q (filter p xs) ≡ filter (λ x. p x && q x) xs
 filter-filter q p [] = refl

@@ -31,14 +31,14 @@ pub use Rattle.language.specs.declared.candidates.Candidate.{Candidate}
 pub use Rattle.language.specs.declared.ranges.ValueRange.{ValueRange}
 pub use Rattle.rel_table.proofs.PlaceLemmas.{get_or-tuples, length-tuple_at, length-tuples, place-tuple_at, tuple_at-below}
 pub use Rattle.rel_table.specs.Relation.{holds, tuple_at, tuples}
-pub use Rattle.net_cnf.specs.Answers.{Adds, Grown, IsTooLong}
+pub use Rattle.net_cnf.specs.Answers.{AddsText, Grown, IsTooLong}
 pub use Rattle.net_cnf.specs.Booleans.{Boolean, bits, boolean, booleans, booleans_of, gives, is_boolean}
-unfoldable pub use Rattle.net_cnf.specs.Booleans.{number_of}
-pub use Rattle.net_cnf.specs.Clauses.{Clause, clauses, each_two, is_met, literal, no_two_values, none_rejected, not_both, rejected, satisfies, some_value, tuples_on, values_in}
-pub use Rattle.net_cnf.specs.Laws.{ClausesEncode, EachIsReadOrRefused, IsOnly, LiteralsAreRead, ReadIsNotRefused, ReadsModels}
+unfoldable pub use Rattle.net_cnf.specs.Booleans.{boolean_number}
+pub use Rattle.net_cnf.specs.Clauses.{Clause, clauses, each_two, is_met, literal, no_two_values, none_rejected, not_both, rejected, satisfies_clauses, some_value, tuples_on, values_in}
+pub use Rattle.net_cnf.specs.Laws.{ClausesEncode, EachModelIsReadOrRefused, IsOnlyModel, LiteralsAreRead, ReadModelIsNotRefused, ReadsModels}
 pub use Rattle.net_cnf.specs.Left.{tokens_left}
-pub use Rattle.net_cnf.specs.Marked.{AreNamed, AreOnes, IsMarked, marks, signs_of, truths}
-pub use Rattle.net_cnf.specs.Models.{IsModel, MOST_MODEL, assignment_of, boolean_count, both_named, is_named, literals_of, not_one, only_of, solution_in, solution_of, true_values, truths_of, unless, violated}
+pub use Rattle.net_cnf.specs.Marked.{AreNamed, AreOnes, IsMarked, marks, signs_of, positive_signs}
+pub use Rattle.net_cnf.specs.Models.{IsModel, MOST_MODEL, modelled_assignment, boolean_count, both_named, is_named, literals_of, not_one, only_of, solution_in, solution_of, true_values, truths_of, refused_where, violated}
 unfoldable pub use Rattle.net_cnf.specs.Models.{model_of}
 pub use Rattle.net_cnf.specs.Paired.{accepts_there, item_piece, paired, place_piece, tuple_there}
 pub use Rattle.net_cnf.specs.Texts.{MOST_BYTES, boolean_text, clause_text, cnf_text, head_text, literal_text}

@@ -1,5 +1,5 @@
 -- The values whose Booleans are true.
-use Rattle.net_cnf.proofs.Prelude.{◌≡◌, ℕ, zero, suc, ◌+◌, ◌-◌, ◌<◌, ◌≤◌, ◌&&◌, ◌||◌, not, Bool, true, false, cond, List, [], ◌∷◌, ◌++◌, length, get_or, set, Option, Some, None, refl, sym, ◌∙◌, ap, subst, arith, eqb, ◌⊎◌, inl, inr, All, is_some, nat_eq, IfSome, option_to_list, list_any, range_with_len, cases_eq, cases_order, eq-eqb, ne_eqb, none-some, same_Some, append-nil, get_or-map, get_or-set_same, get_or-set_other, length-set, map-id, filter-append, All-filter, All-head, map-range_with_len_more, Assignment, value_of, Language, IsQuestion, variable_count, values_of, is_ranged, boolean, number_of, truths, boolean_count, true_values, not_one, only_of, Signs}
+use Rattle.net_cnf.proofs.Prelude.{◌≡◌, ℕ, zero, suc, ◌+◌, ◌-◌, ◌<◌, ◌≤◌, ◌&&◌, ◌||◌, not, Bool, true, false, cond, List, [], ◌∷◌, ◌++◌, length, get_or, set, Option, Some, None, refl, sym, ◌∙◌, ap, subst, arith, eqb, ◌⊎◌, inl, inr, All, is_some, nat_eq, IfSome, option_to_list, list_any, range_with_len, cases_eq, cases_order, eq-eqb, ne_eqb, none-some, same_Some, append-nil, get_or-map, get_or-set_same, get_or-set_other, length-set, map-id, filter-append, All-filter, All-head, map-range_with_len_more, Assignment, value_of, Language, IsQuestion, variable_count, values_of, is_ranged, boolean, boolean_number, positive_signs, boolean_count, true_values, not_one, only_of, Signs}
 use Rattle.std.specs.Prelude.{filter}
 use Rattle.net_cnf.proofs.Marking.{find_at, find_nowhere}
 use Rattle.net_cnf.proofs.Numbers.{number_fits}
@@ -106,32 +106,32 @@ passes_one p a (suc n) y h low high = go (cases_order a y) (λ from. passes_one 
 
 -- ---- of a language
 
-pub true_of : (l : Language) (truths : List Bool) (v y : ℕ) → v < variable_count l → only_of (true_values l truths v) ≡ Some y → IsValue l v y
-true_of l truths v y low h =
+pub true_of : (l : Language) (positive_signs : List Bool) (v y : ℕ) → v < variable_count l → only_of (true_values l positive_signs v) ≡ Some y → IsValue l v y
+true_of l positive_signs v y low h =
     All-head (IsValue l v) y []
-    (subst (All (IsValue l v)) (only_some (true_values l truths v) y h)
-    (All-filter (λ x. get_or truths (number_of l (boolean v x) - 1) false) (IsValue l v) (values_of l v) (all_values l v (IsValue l v) low (λ x is. is))))
+    (subst (All (IsValue l v)) (only_some (true_values l positive_signs v) y h)
+    (All-filter (λ x. get_or positive_signs (boolean_number l (boolean v x) - 1) false) (IsValue l v) (values_of l v) (all_values l v (IsValue l v) low (λ x is. is))))
 
-pub value_below : (l : Language) (truths : List Bool) (v : ℕ) (o : Option ℕ) → v < variable_count l → o ≡ only_of (true_values l truths v) → IfSome o (λ x. x < l.value_count)
-value_below l truths v None low h = tt
-value_below l truths v (Some y) low h = (true_of l truths v y low (sym h)).fits
+pub value_below : (l : Language) (positive_signs : List Bool) (v : ℕ) (o : Option ℕ) → v < variable_count l → o ≡ only_of (true_values l positive_signs v) → IfSome o (λ x. x < l.value_count)
+value_below l positive_signs v None low h = tt
+value_below l positive_signs v (Some y) low h = (true_of l positive_signs v y low (sym h)).fits
 
 -- ---- variables one by one
 
-pub one_missing : (l : Language) (truths : List Bool) (v : ℕ) → v < variable_count l → ((k : ℕ) → k < v → length (true_values l truths k) ≡ 1) → only_of (true_values l truths v) ≡ None → not_one l truths ≡ Some v
-one_missing l truths v low before none =
-    find_at (λ w. not (nat_eq (length (true_values l truths w)) 1)) 0 (variable_count l) v low
-    (λ k lower. ap (λ w. not (nat_eq (length (true_values l truths w)) 1)) (let e : 0 + k ≡ k = omega arith in e) ∙ ap not (eq-eqb (length (true_values l truths k)) 1 (before k lower)))
-    (ap (λ w. not (nat_eq (length (true_values l truths w)) 1)) (let e : 0 + v ≡ v = omega arith in e) ∙ ap not (sym (only_tells (true_values l truths v)) ∙ ap is_some none))
+pub one_missing : (l : Language) (positive_signs : List Bool) (v : ℕ) → v < variable_count l → ((k : ℕ) → k < v → length (true_values l positive_signs k) ≡ 1) → only_of (true_values l positive_signs v) ≡ None → not_one l positive_signs ≡ Some v
+one_missing l positive_signs v low before none =
+    find_at (λ w. not (nat_eq (length (true_values l positive_signs w)) 1)) 0 (variable_count l) v low
+    (λ k lower. ap (λ w. not (nat_eq (length (true_values l positive_signs w)) 1)) (let e : 0 + k ≡ k = omega arith in e) ∙ ap not (eq-eqb (length (true_values l positive_signs k)) 1 (before k lower)))
+    (ap (λ w. not (nat_eq (length (true_values l positive_signs w)) 1)) (let e : 0 + v ≡ v = omega arith in e) ∙ ap not (sym (only_tells (true_values l positive_signs v)) ∙ ap is_some none))
     ∙ ap Some (let e : 0 + v ≡ v = omega arith in e)
 
-pub ones_all : (l : Language) (truths : List Bool) → ((k : ℕ) → k < variable_count l → length (true_values l truths k) ≡ 1) → not_one l truths ≡ None
-ones_all l truths each =
-    find_nowhere (λ w. not (nat_eq (length (true_values l truths w)) 1)) 0 (variable_count l)
-    (λ k low. ap (λ w. not (nat_eq (length (true_values l truths w)) 1)) (let e : 0 + k ≡ k = omega arith in e) ∙ ap not (eq-eqb (length (true_values l truths k)) 1 (each k low)))
+pub ones_all : (l : Language) (positive_signs : List Bool) → ((k : ℕ) → k < variable_count l → length (true_values l positive_signs k) ≡ 1) → not_one l positive_signs ≡ None
+ones_all l positive_signs each =
+    find_nowhere (λ w. not (nat_eq (length (true_values l positive_signs w)) 1)) 0 (variable_count l)
+    (λ k low. ap (λ w. not (nat_eq (length (true_values l positive_signs w)) 1)) (let e : 0 + k ≡ k = omega arith in e) ∙ ap not (eq-eqb (length (true_values l positive_signs k)) 1 (each k low)))
 
-pub one_long : (l : Language) (truths : List Bool) (v x : ℕ) → only_of (true_values l truths v) ≡ Some x → length (true_values l truths v) ≡ 1
-one_long l truths v x h = ap length (only_some (true_values l truths v) x h)
+pub one_long : (l : Language) (positive_signs : List Bool) (v x : ℕ) → only_of (true_values l positive_signs v) ≡ Some x → length (true_values l positive_signs v) ≡ 1
+one_long l positive_signs v x h = ap length (only_some (true_values l positive_signs v) x h)
 
 pub question_set : (l : Language) (e : Assignment) (v x : ℕ) → IsQuestion l e → IsValue l v x → IsQuestion l (set e v (Some x))
 question_set l e v x h among = record {
@@ -161,10 +161,10 @@ question_set l e v x h among = record {
 
 -- ---- of signs
 
-pub truth_there : (l : Language) (signs : List Signs) (v x number : ℕ) (d : Signs) (truth : Bool) → IsValue l v x → length signs ≡ boolean_count l → number ≡ number_of l (boolean v x) →
-    (get_or signs (number - 1) d).positive ≡ truth → get_or (truths signs) (number_of l (boolean v x) - 1) false ≡ truth
+pub truth_there : (l : Language) (signs : List Signs) (v x number : ℕ) (d : Signs) (truth : Bool) → IsValue l v x → length signs ≡ boolean_count l → number ≡ boolean_number l (boolean v x) →
+    (get_or signs (number - 1) d).positive ≡ truth → get_or (positive_signs signs) (boolean_number l (boolean v x) - 1) false ≡ truth
 truth_there l signs v x number d truth among long is here =
     let inside = (number_fits l v x among).1 in
-    ap (λ n. get_or (truths signs) (n - 1) false) (sym is)
+    ap (λ n. get_or (positive_signs signs) (n - 1) false) (sym is)
     ∙ get_or-map (λ (s : Signs). s.positive) signs (number - 1) d false (omega (arith, inside, long, is))
     ∙ here

@@ -21,9 +21,9 @@ IsTooLong old piece TooLarge = MOST_BYTES < length old + length piece
 IsTooLong old piece Memory = Unit {0}
 
 -- a call adds a piece to a text, or finds that the text would be too long with it
-abbrev pub Adds : {A : Type 0} → List ℕ → List ℕ → List ℕ → Result A CnfFault → Type 0
-Adds old piece new (Ok x) = Grown old piece new
-Adds old piece new (Err fault) = IsTooLong old piece fault
+abbrev pub AddsText : {A : Type 0} → List ℕ → List ℕ → List ℕ → Result A CnfFault → Type 0
+AddsText old piece new (Ok x) = Grown old piece new
+AddsText old piece new (Err fault) = IsTooLong old piece fault
 
 -- the answer is the stated one, want of memory aside
 abbrev pub Reads : {A : Type 0} → Result A ModelFault → Result A ModelFault → Type 0

@@ -25,8 +25,8 @@ abbrev pub is_boolean : Boolean → Boolean → Bool
 is_boolean b c = (c.variable == b.variable) && (c.value == b.value)
 
 -- a Boolean's number: its place among all, counted from 1
-unfoldable pub number_of : Language → Boolean → ℕ
-number_of l b = position_or_len (is_boolean b) (booleans l) + 1
+unfoldable pub boolean_number : Language → Boolean → ℕ
+boolean_number l b = position_or_len (is_boolean b) (booleans l) + 1
 
 -- whether the assignment gives the variable this value
 abbrev pub gives : Assignment → Boolean → Bool

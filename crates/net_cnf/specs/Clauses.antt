@@ -6,7 +6,7 @@ use Rattle.assign.specs.Sets.{numbers}
 use Rattle.rel_table.specs.Relation.{holds}
 use Rattle.language.specs.declared.candidates.Candidate.{Candidate}
 use Rattle.language.specs.Language.{Language, variable_count, scope_of, relation_of}
-use Rattle.net_cnf.specs.Booleans.{Boolean, booleans_of, number_of}
+use Rattle.net_cnf.specs.Booleans.{Boolean, booleans_of, boolean_number}
 use Rattle.net_cnf.specs.declared.literal.Literal.{Literal}
 
 abbrev pub Clause : Type 0
@@ -19,13 +19,13 @@ abbrev pub is_met : List Bool → Literal → Bool
 is_met truths literal = beq (slice_index_or truths (literal.number - 1) false) literal.positive
 
 -- some literal of each clause is true
-abbrev pub satisfies : List Bool → List Clause → Bool
-satisfies truths clauses = list_all (list_any (is_met truths)) clauses
+abbrev pub satisfies_clauses : List Bool → List Clause → Bool
+satisfies_clauses truths clauses = list_all (list_any (is_met truths)) clauses
 
 -- ---- The clauses of a network
 
 abbrev pub literal : Language → Bool → Boolean → Literal
-literal l positive b = record { number = number_of l b; positive = positive }
+literal l positive b = record { number = boolean_number l b; positive = positive }
 
 -- the variable has a value
 abbrev pub some_value : Language → ℕ → Clause

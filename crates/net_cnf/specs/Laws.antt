@@ -5,7 +5,7 @@ use Rattle.language.specs.declared.candidates.Candidate.{Candidate}
 use Rattle.language.specs.Language.{Language, IsLanguage, IsQuestion, accepts}
 use Rattle.language.specs.Answers.{IsNetwork}
 use Rattle.net_cnf.specs.Booleans.{booleans, bits}
-use Rattle.net_cnf.specs.Clauses.{clauses, satisfies}
+use Rattle.net_cnf.specs.Clauses.{clauses, satisfies_clauses}
 use Rattle.net_cnf.specs.Models.{IsModel, model_of}
 use Rattle.net_cnf.specs.Texts.{literal_text}
 use Rattle.net_cnf.specs.Tokens.{literal_in}
@@ -14,7 +14,7 @@ use Rattle.net_cnf.specs.declared.model_fault.ModelFault.{ModelFault}
 use Rattle.net_cnf.specs.declared.model_fault.ModelFault.TheVariants as model
 
 -- a complete assignment with these truth values of the Booleans, and the only one
-pub record IsOnly (l : Language) (truths : List Bool) (e : Assignment) : Type 0 where
+pub record IsOnlyModel (l : Language) (truths : List Bool) (e : Assignment) : Type 0 where
   pub question : IsQuestion l e
   pub complete : IsTrue (is_complete e)
   pub is : bits l e ≡ truths
@@ -23,9 +23,9 @@ pub record IsOnly (l : Language) (truths : List Bool) (e : Assignment) : Type 0 
 -- The solutions of the network and the models of its clauses are the same.
 pub record IsEncoded (l : Language) (network : List Candidate) : Type 0 where
   -- a complete assignment is accepted exactly where its Booleans satisfy the clauses
-  pub same : (e : Assignment) → IsQuestion l e → IsTrue (is_complete e) → accepts l network e ≡ satisfies (bits l e) (clauses l network)
+  pub same : (e : Assignment) → IsQuestion l e → IsTrue (is_complete e) → accepts l network e ≡ satisfies_clauses (bits l e) (clauses l network)
   -- truth values that satisfy the clauses are those of one complete assignment
-  pub one : (truths : List Bool) → length truths ≡ length (booleans l) → IsTrue (satisfies truths (clauses l network)) → (e : Assignment) × IsOnly l truths e
+  pub one : (truths : List Bool) → length truths ≡ length (booleans l) → IsTrue (satisfies_clauses truths (clauses l network)) → (e : Assignment) × IsOnlyModel l truths e
 
 abbrev pub ClausesEncode : Type 0
 ClausesEncode = (l : Language) (network : List Candidate) → IsLanguage l → IsNetwork l network → IsEncoded l network
@@ -43,11 +43,11 @@ abbrev pub ReadsModels : Type 0
 ReadsModels = (l : Language) (network : List Candidate) (bytes : List ℕ) (e : Assignment) → IsModel l network bytes e ↔ (model_of l network bytes ≡ Ok e)
 
 -- no bytes are a model and are refused
-abbrev pub ReadIsNotRefused : Type 0
-ReadIsNotRefused = (l : Language) (network : List Candidate) (bytes : List ℕ) (e : Assignment) (fault : ModelFault) → IsModel l network bytes e → model_of l network bytes ≡ Err fault → ⊥
+abbrev pub ReadModelIsNotRefused : Type 0
+ReadModelIsNotRefused = (l : Language) (network : List Candidate) (bytes : List ℕ) (e : Assignment) (fault : ModelFault) → IsModel l network bytes e → model_of l network bytes ≡ Err fault → ⊥
 
 -- each list of bytes is a model of a solution, or is refused, and not for want of memory
-abbrev pub EachIsReadOrRefused : Type 0
-EachIsReadOrRefused =
+abbrev pub EachModelIsReadOrRefused : Type 0
+EachModelIsReadOrRefused =
     (l : Language) (network : List Candidate) (bytes : List ℕ) →
     ((e : Assignment) × IsModel l network bytes e) ⊎ ((fault : ModelFault) × (fault ≢ model.Memory) × (model_of l network bytes ≡ Err fault))

@@ -6,7 +6,7 @@ use Rattle.assign.specs.Sets.{numbers}
 use Rattle.assign.specs.Assignment.{Assignment, is_complete}
 use Rattle.language.specs.declared.candidates.Candidate.{Candidate}
 use Rattle.language.specs.Language.{Language, IsQuestion, variable_count, values_of, violates, accepts}
-use Rattle.net_cnf.specs.Booleans.{boolean, booleans, bits, number_of}
+use Rattle.net_cnf.specs.Booleans.{boolean, booleans, bits, boolean_number}
 use Rattle.net_cnf.specs.Tokens.{tokens, bad_token, literal_in, literals_in}
 use Rattle.net_cnf.specs.declared.literal.Literal.{Literal}
 use Rattle.net_cnf.specs.declared.model_fault.ModelFault.{ModelFault}
@@ -41,7 +41,7 @@ both_named count literals = find (λ number. is_named literals true number && is
 
 -- the values of a variable whose Booleans are true
 abbrev pub true_values : Language → List Bool → ℕ → List ℕ
-true_values l truths v = filter (λ x. slice_index_or truths (number_of l (boolean v x) - 1) false) (values_of l v)
+true_values l truths v = filter (λ x. slice_index_or truths (boolean_number l (boolean v x) - 1) false) (values_of l v)
 
 -- the least variable of which not exactly one Boolean is true
 abbrev pub not_one : Language → List Bool → Option ℕ
@@ -54,8 +54,8 @@ only_of (x ∷ []) = Some x
 only_of (x ∷ y ∷ more) = None
 
 -- each variable has the value whose Boolean is true
-abbrev pub assignment_of : Language → List Bool → Assignment
-assignment_of l truths = map (λ v. only_of (true_values l truths v)) (numbers (variable_count l))
+abbrev pub modelled_assignment : Language → List Bool → Assignment
+modelled_assignment l truths = map (λ v. only_of (true_values l truths v)) (numbers (variable_count l))
 
 -- the least item that is violated
 abbrev pub violated : Language → List Candidate → Assignment → Option ℕ
@@ -64,26 +64,26 @@ violated l network e = position (λ c. violates l c e) network
 -- ---- The whole
 
 -- refused for this, where there is a cause
-abbrev pub unless : {A B : Type 0} → (B → ModelFault) → Option B → Result A ModelFault → Result A ModelFault
-unless fault None next = next
-unless fault (Some at) next = Err (fault at)
+abbrev pub refused_where : {A B : Type 0} → (B → ModelFault) → Option B → Result A ModelFault → Result A ModelFault
+refused_where fault None next = next
+refused_where fault (Some at) next = Err (fault at)
 
 -- the solution that has these Booleans, or why there is none
 abbrev pub solution_in : Language → List Candidate → List Bool → Result Assignment ModelFault
 solution_in l network truths =
-    unless NotOne (not_one l truths) (
-    unless Violates (violated l network (assignment_of l truths)) (
-    Ok (assignment_of l truths)))
+    refused_where NotOne (not_one l truths) (
+    refused_where Violates (violated l network (modelled_assignment l truths)) (
+    Ok (modelled_assignment l truths)))
 
 -- the solution of literals
 abbrev pub solution_of : Language → List Candidate → List Literal → Result Assignment ModelFault
-solution_of l network literals = unless Twice (both_named (boolean_count l) literals) (solution_in l network (truths_of (boolean_count l) literals))
+solution_of l network literals = refused_where Twice (both_named (boolean_count l) literals) (solution_in l network (truths_of (boolean_count l) literals))
 
 -- the solution that a model's bytes give, or the first fault
 unfoldable pub model_of : Language → List Candidate → List ℕ → Result Assignment ModelFault
 model_of l network bytes =
     if nat_lt MOST_MODEL (length bytes) then Err TooLong
-    else unless BadToken (bad_token (boolean_count l) (tokens bytes)) (solution_of l network (literals_of l bytes))
+    else refused_where BadToken (bad_token (boolean_count l) (tokens bytes)) (solution_of l network (literals_of l bytes))
 
 -- The bytes are a model of this solution: their tokens are literals, none beside its negation, and give the truth values of
 -- its Booleans.

@@ -5,7 +5,7 @@ use Rattle.std.specs.Fmt.{decimal}
 use Rattle.language.specs.declared.candidates.Candidate.{Candidate}
 use Rattle.language.specs.Language.{Language}
 use Rattle.language.specs.Texts.{value_text}
-use Rattle.net_cnf.specs.Booleans.{Boolean, booleans, number_of}
+use Rattle.net_cnf.specs.Booleans.{Boolean, booleans, boolean_number}
 use Rattle.net_cnf.specs.declared.literal.Literal.{Literal}
 use Rattle.net_cnf.specs.Clauses.{Clause, clauses}
 use Rattle.net_cnf.specs.declared.fault.CnfFault.{CnfFault}
@@ -25,7 +25,7 @@ clause_text clause = flat_map (λ literal. literal_text literal ++ 32 ∷ []) cl
 
 -- what a Boolean stands for, and its number: `c a=1 1`
 abbrev pub boolean_text : Language → Boolean → List ℕ
-boolean_text l b = 99 ∷ (value_text l.least_value (slice_index_or l.names b.variable []) (Some b.value) ++ 32 ∷ (decimal (number_of l b) ++ 10 ∷ []))
+boolean_text l b = 99 ∷ (value_text l.least_value (slice_index_or l.names b.variable []) (Some b.value) ++ 32 ∷ (decimal (boolean_number l b) ++ 10 ∷ []))
 
 -- how many Booleans and how many clauses there are: `p cnf 4 6`
 abbrev pub head_text : ℕ → ℕ → List ℕ

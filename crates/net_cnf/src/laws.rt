@@ -1,6 +1,6 @@
 //! Laws of the definitions, as contracts of functions that do nothing.
 
-ghost use Rattle.net_cnf.specs.Laws.{ClausesEncode, EachIsReadOrRefused, LiteralsAreRead, ReadsModels, ReadIsNotRefused};
+ghost use Rattle.net_cnf.specs.Laws.{ClausesEncode, EachModelIsReadOrRefused, LiteralsAreRead, ReadsModels, ReadModelIsNotRefused};
 
 /// The models of a network's clauses are its solutions: a complete assignment is accepted exactly where its Booleans satisfy
 /// the clauses, and truth values that satisfy them are those of exactly one complete assignment.
@@ -20,10 +20,10 @@ pub fn reads_models()
 
 /// No bytes are a model of a solution and are refused.
 pub fn read_is_not_refused()
-    ensures { ReadIsNotRefused }
+    ensures { ReadModelIsNotRefused }
 {}
 
 /// Each list of bytes is a model of a solution, or is refused, and not for want of memory.
 pub fn each_is_read_or_refused()
-    ensures { EachIsReadOrRefused }
+    ensures { EachModelIsReadOrRefused }
 {}

@@ -8,8 +8,8 @@ ghost use Rattle.assign.specs.Sets.{numbers};
 ghost use Rattle.language.specs.Language.{variable_count, range_of, values_of, IsLanguage, IsQuestion};
 ghost use Rattle.language.specs.Ranges.{are_in};
 ghost use Rattle.language.specs.Texts.{values_text};
-ghost use Rattle.net_cnf.specs.Answers.{Adds, Grown};
-ghost use Rattle.net_cnf.specs.Booleans.{boolean, booleans_of, number_of};
+ghost use Rattle.net_cnf.specs.Answers.{AddsText, Grown};
+ghost use Rattle.net_cnf.specs.Booleans.{boolean, booleans_of, boolean_number};
 ghost use Rattle.net_cnf.specs.Clauses.{literal, some_value, not_both, no_two_values};
 ghost use Rattle.net_cnf.specs.Models.{boolean_count};
 ghost use Rattle.net_cnf.specs.Paired.{paired};
@@ -62,7 +62,7 @@ pub(crate) fn number_of(lang: &Language, v: u8, x: u8) -> u32
     requires variable { v < variable_count lang.now }
     requires from { (range_of lang.now v).first ≤ x }
     requires to { x ≤ (range_of lang.now v).last }
-    ensures { result ≡ number_of lang.now (boolean v x) }
+    ensures { result ≡ boolean_number lang.now (boolean v x) }
 {
     let (first, _) = lang.range(v);
     booleans_before(lang, v) + u32::from(x - first) + 1
@@ -89,7 +89,7 @@ fn add_literal(
     requires variable { v < variable_count lang.now }
     requires from { (range_of lang.now v).first ≤ x }
     requires to { x ≤ (range_of lang.now v).last }
-    ensures { Adds (string_bytes text.old) (literal_text (literal lang.now positive (boolean v x)) ++ 32 ∷ []) (string_bytes text.new) result }
+    ensures { AddsText (string_bytes text.old) (literal_text (literal lang.now positive (boolean v x)) ++ 32 ∷ []) (string_bytes text.new) result }
 {
     let number = number_of(lang, v, x);
     if positive {
@@ -102,7 +102,7 @@ fn add_literal(
 
 /// Ends a clause.
 fn add_end(text: &mut String) -> Result<(), CnfFault>
-    ensures { Adds (string_bytes text.old) (48 ∷ 10 ∷ []) (string_bytes text.new) result }
+    ensures { AddsText (string_bytes text.old) (48 ∷ 10 ∷ []) (string_bytes text.new) result }
 {
     text.push_str("0\n")?;
     within(text.len())
@@ -113,7 +113,7 @@ pub(crate) fn add_some_value(text: &mut String, lang: &Language, v: u8) -> Resul
     requires room { length (string_bytes text.old) ≤ MOST_BYTES }
     requires variable { v < variable_count lang.now }
     requires lawful { IsLanguage lang.now }
-    ensures { Adds (string_bytes text.old) (clause_text (some_value lang.now v)) (string_bytes text.new) result }
+    ensures { AddsText (string_bytes text.old) (clause_text (some_value lang.now v)) (string_bytes text.new) result }
 {
     let (first, last) = lang.range(v);
     for x in first..last + 1 {
@@ -129,7 +129,7 @@ fn add_not_both(text: &mut String, lang: &Language, v: u8, x: u8, y: u8) -> Resu
     requires from { (range_of lang.now v).first ≤ x }
     requires rising { x < y }
     requires to { y ≤ (range_of lang.now v).last }
-    ensures { Adds (string_bytes text.old) (clause_text (not_both lang.now (boolean v x) (boolean v y))) (string_bytes text.new) result }
+    ensures { AddsText (string_bytes text.old) (clause_text (not_both lang.now (boolean v x) (boolean v y))) (string_bytes text.new) result }
 {
     add_literal(text, lang, v, x, false)?;
     add_literal(text, lang, v, y, false)?;
@@ -143,7 +143,7 @@ fn add_not_above(text: &mut String, lang: &Language, v: u8, x: u8) -> Result<(),
     requires from { (range_of lang.now v).first ≤ x }
     requires to { x ≤ (range_of lang.now v).last }
     requires lawful { IsLanguage lang.now }
-    ensures { Adds (string_bytes text.old) (flat_map (λ y. clause_text (not_both lang.now (boolean v x) (boolean v y))) (range_with_len (x + 1) ((range_of lang.now v).last - x))) (string_bytes text.new) result }
+    ensures { AddsText (string_bytes text.old) (flat_map (λ y. clause_text (not_both lang.now (boolean v x) (boolean v y))) (range_with_len (x + 1) ((range_of lang.now v).last - x))) (string_bytes text.new) result }
 {
     let (_, last) = lang.range(v);
     for y in x + 1..last + 1 {
@@ -157,7 +157,7 @@ pub(crate) fn add_no_two_values(text: &mut String, lang: &Language, v: u8) -> Re
     requires room { length (string_bytes text.old) ≤ MOST_BYTES }
     requires variable { v < variable_count lang.now }
     requires lawful { IsLanguage lang.now }
-    ensures { Adds (string_bytes text.old) (flat_map clause_text (no_two_values lang.now v)) (string_bytes text.new) result }
+    ensures { AddsText (string_bytes text.old) (flat_map clause_text (no_two_values lang.now v)) (string_bytes text.new) result }
 {
     let (first, last) = lang.range(v);
     for x in first..last + 1 {
@@ -177,7 +177,7 @@ pub(crate) fn add_not_all(
     requires long { length scope.now ≡ length values.now }
     requires variables { All (λ v. v < variable_count lang.now) scope.now }
     requires values { IsTrue (are_in lang.now.ranges scope.now values.now) }
-    ensures { Adds (string_bytes text.old) (clause_text (map (literal lang.now false) (paired scope.now values.now))) (string_bytes text.new) result }
+    ensures { AddsText (string_bytes text.old) (clause_text (map (literal lang.now false) (paired scope.now values.now))) (string_bytes text.new) result }
 {
     for i in 0..scope.len() {
         add_literal(text, lang, scope[i], values[i], false)?;
@@ -209,7 +209,7 @@ pub(crate) fn shown_values(alloc: Global, lang: &Language, e: &Partial) -> Resul
 
 /// Adds shown values and a number: `c a=1 1`.
 fn add_shown(text: &mut String, values: &str, number: u32) -> Result<(), CnfFault>
-    ensures { Adds (string_bytes text.old) (99 ∷ (values.now ++ 32 ∷ (decimal number ++ 10 ∷ []))) (string_bytes text.new) result }
+    ensures { AddsText (string_bytes text.old) (99 ∷ (values.now ++ 32 ∷ (decimal number ++ 10 ∷ []))) (string_bytes text.new) result }
 {
     write!(text, "c{values} {number}\n")?;
     within(text.len())
@@ -226,7 +226,7 @@ pub(crate) fn add_boolean(
     requires variable { v < variable_count lang.now }
     requires from { (range_of lang.now v).first ≤ x }
     requires to { x ≤ (range_of lang.now v).last }
-    ensures { Adds (string_bytes text.old) (boolean_text lang.now (boolean v x)) (string_bytes text.new) result }
+    ensures { AddsText (string_bytes text.old) (boolean_text lang.now (boolean v x)) (string_bytes text.new) result }
 {
     let mut alone = Partial::blank(lang.n());
     alone.set(v, x);
@@ -236,7 +236,7 @@ pub(crate) fn add_boolean(
 
 /// Adds how many Booleans and clauses there are: `p cnf 4 6`.
 pub(crate) fn add_head(text: &mut String, variables: u32, clauses: u64) -> Result<(), CnfFault>
-    ensures { Adds (string_bytes text.old) (head_text variables clauses) (string_bytes text.new) result }
+    ensures { AddsText (string_bytes text.old) (head_text variables clauses) (string_bytes text.new) result }
 {
     write!(text, "p cnf {variables} {clauses}\n")?;
     within(text.len())

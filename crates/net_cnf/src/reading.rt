@@ -4,7 +4,7 @@ ghost use Rattle.std.specs.Prelude.{◌≡◌, ◌<◌, ◌≤◌, [], ◌∷◌
 ghost use Rattle.language.specs.Answers.{IsNetwork};
 ghost use Rattle.language.specs.Language.{variable_count, IsLanguage, IsQuestion};
 ghost use Rattle.net_cnf.specs.Answers.{Reads};
-ghost use Rattle.net_cnf.specs.Marked.{IsMarked, Marks, Names, HasOnes, truths};
+ghost use Rattle.net_cnf.specs.Marked.{IsMarked, MarksTokens, Names, HasOnes, positive_signs};
 ghost use Rattle.net_cnf.specs.Models.{boolean_count, true_values, only_of, both_named, violated, solution_of, model_of, IsModel};
 ghost use Rattle.net_cnf.specs.Tokens.{tokens};
 ghost use Rattle.net_cnf.specs.declared.literal.Literal.{Literal};
@@ -49,7 +49,7 @@ fn mark_all(signs: &mut [Signs], bytes: &[u8]) -> Result<(), ModelFault>
     requires none { IsMarked [] signs.old }
     requires few { length signs.old ≤ 8192 }
     requires short { length bytes.now ≤ 4194304 }
-    ensures { Marks (tokens bytes.now) signs.new result }
+    ensures { MarksTokens (tokens bytes.now) signs.new result }
 {
     let count = signs.len() as u32;
     let mut read = 0;
@@ -99,7 +99,7 @@ fn true_value(lang: &Language, signs: &[Signs], v: u8) -> Option<u8>
     requires variable { v < variable_count lang.now }
     requires long { length signs.now ≡ boolean_count lang.now }
     requires lawful { IsLanguage lang.now }
-    ensures is { result ≡ only_of (true_values lang.now (truths signs.now) v) }
+    ensures is { result ≡ only_of (true_values lang.now (positive_signs signs.now) v) }
     ensures fits { IfSome result (λ x. x < lang.now.value_count) }
 {
     let (first, last) = lang.range(v);
@@ -118,7 +118,7 @@ fn true_value(lang: &Language, signs: &[Signs], v: u8) -> Option<u8>
 /// The assignment of those values, or the least variable without one.
 fn assignment_of(lang: &Language, signs: &[Signs]) -> Result<Partial, ModelFault>
     requires { length signs.now ≡ boolean_count lang.now }
-    ensures is { HasOnes lang.now (truths signs.now) result }
+    ensures is { HasOnes lang.now (positive_signs signs.now) result }
     ensures question { IfOk result (IsQuestion lang.now) }
 {
     let mut e = Partial::blank(lang.n());

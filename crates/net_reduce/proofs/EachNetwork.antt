@@ -1,5 +1,5 @@
 -- Of each network the searches are decided, or a first one is spent.
-use Rattle.net_reduce.proofs.Prelude.{◌≡◌, ℕ, zero, suc, ◌≤◌, List, length, ◌⊎◌, inl, inr, refl, sym, ◌∙◌, arith, Candidate, Language, IsLanguage, IsNetwork, Outcome, Found, Absent, Spent, EachIsSearchedOrSpent, left_at, outcome_at, AreDecided, IsSearched, IsSpentAt}
+use Rattle.net_reduce.proofs.Prelude.{◌≡◌, ℕ, zero, suc, ◌≤◌, List, length, ◌⊎◌, inl, inr, refl, sym, ◌∙◌, arith, Candidate, Language, IsLanguage, IsNetwork, Outcome, Found, Absent, Spent, EachIsSearchedOrSpent, left_at, outcome_at, AreDecided, IsReducedBySearch, IsSpentAt}
 use Rattle.net_reduce.proofs.Searching.{decided_none, decided_on, spent_at}
 
 module _ (l : Language) (network : List Candidate) (budget : ℕ) (lawful : IsLanguage l) (known : IsNetwork l network) where
@@ -16,7 +16,7 @@ module _ (l : Language) (network : List Candidate) (budget : ℕ) (lawful : IsLa
       go (inl before) Absent is = inl (decided_on l network budget i before (λ spent. let e = sym is ∙ spent in let no : ⊥ = cc in no))
       go (inl before) (Found q) is = inl (decided_on l network budget i before (λ spent. let e = sym is ∙ spent in let no : ⊥ = cc in no))
 
-  whole : AreDecided l network budget (length network) ⊎ IsSpent → ((part : List Candidate) × IsSearched l network budget part) ⊎ IsSpent
+  whole : AreDecided l network budget (length network) ⊎ IsSpent → ((part : List Candidate) × IsReducedBySearch l network budget part) ⊎ IsSpent
   whole (inl decided) = inl (left_at l network budget (length network), record { decided = decided; remains = refl })
   whole (inr spent) = inr spent
 

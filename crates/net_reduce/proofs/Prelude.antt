@@ -13,4 +13,4 @@ pub use Rattle.language.specs.Language.{HasSameSolutions, IsCandidate, IsImplied
 pub use Rattle.language.specs.declared.candidates.Candidate.{Candidate}
 pub use Rattle.net_reduce.specs.Laws.{EachIsSearchedOrSpent, ReducedIsTarget, SiftedIsOne, SiftedIsReduction}
 pub use Rattle.net_reduce.specs.Reduction.{IsSublist, Sifts}
-pub use Rattle.net_reduce.specs.Searched.{AreDecided, IsSearched, IsSpentAt, item_at, left_at, others_at, outcome_at, unless_absent}
+pub use Rattle.net_reduce.specs.Searched.{AreDecided, IsReducedBySearch, IsSpentAt, item_at, left_at, others_at, outcome_at, unless_absent}

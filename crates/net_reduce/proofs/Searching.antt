@@ -1,5 +1,5 @@
 -- What the searches of a network's items say of sifting it.
-use Rattle.net_reduce.proofs.Prelude.{◌≡◌, ℕ, zero, suc, ◌+◌, ◌<◌, ◌≤◌, List, [], ◌∷◌, ◌++◌, length, drop, ◌⊎◌, inl, inr, refl, sym, ◌∙◌, ap, subst, arith, add-one, ◌≢◌, slice_index_or, insert, remove, append-nil, get_or_at, length-append, length_push, drop_all, All-nil, All-append, All-push, All-drop, both_ways, cases_lt, Candidate, Language, IsLanguage, IsCandidate, IsImplied, IsNetwork, Outcome, Found, Absent, Spent, outcome_of_candidate, Sifts, item_at, unless_absent, left_at, others_at, outcome_at, AreDecided, IsSearched, IsSpentAt}
+use Rattle.net_reduce.proofs.Prelude.{◌≡◌, ℕ, zero, suc, ◌+◌, ◌<◌, ◌≤◌, List, [], ◌∷◌, ◌++◌, length, drop, ◌⊎◌, inl, inr, refl, sym, ◌∙◌, ap, subst, arith, add-one, ◌≢◌, slice_index_or, insert, remove, append-nil, get_or_at, length-append, length_push, drop_all, All-nil, All-append, All-push, All-drop, both_ways, cases_lt, Candidate, Language, IsLanguage, IsCandidate, IsImplied, IsNetwork, Outcome, Found, Absent, Spent, outcome_of_candidate, Sifts, item_at, unless_absent, left_at, others_at, outcome_at, AreDecided, IsReducedBySearch, IsSpentAt}
 use Rattle.std.proofs.Math.Seq.{drop-cons}
 use Rattle.fd_solver.specs.Laws.{IsQuestionAgainst}
 use Rattle.fd_solver.proofs.Outcomes.{absent_is_implied, found_is_lawful, spent_is_long}
@@ -173,7 +173,7 @@ module _ (l : Language) (network : List Candidate) (budget : ℕ) where
   pub sifted : (i kept : ℕ) (items : List Candidate) → IsUnderway i kept items → length network ≤ i → Sifts l [] network items
   sifted i kept items u all = subst (λ (list : List Candidate). Sifts l [] network list) (sym (rest_is_none i kept items u all)) (leads_end i all u.leads)
 
-  pub searched : (i kept : ℕ) (items : List Candidate) → IsUnderway i kept items → i ≡ length network → IsSearched l network budget items
+  pub searched : (i kept : ℕ) (items : List Candidate) → IsUnderway i kept items → i ≡ length network → IsReducedBySearch l network budget items
   searched i kept items u end = record {
     decided = subst (λ n. AreDecided l network budget n) end u.decided;
     remains = rest_is_none i kept items u (omega arith) ∙ ap (left_at l network budget) end;

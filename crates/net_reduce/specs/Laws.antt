@@ -5,7 +5,7 @@ use Rattle.language.specs.declared.candidates.Candidate.{Candidate}
 use Rattle.language.specs.Language.{Language, IsLanguage, HasSameSolutions}
 use Rattle.language.specs.Answers.{IsNetwork, IsConverged, agrees}
 use Rattle.net_reduce.specs.Reduction.{IsReduction, Sifts}
-use Rattle.net_reduce.specs.Searched.{IsSearched, IsSpentAt}
+use Rattle.net_reduce.specs.Searched.{IsReducedBySearch, IsSpentAt}
 
 -- What sifting leaves of a network is a reduction of it.
 abbrev pub SiftedIsReduction : Type 0
@@ -25,4 +25,4 @@ ReducedIsTarget =
 abbrev pub EachIsSearchedOrSpent : Type 0
 EachIsSearchedOrSpent =
     (l : Language) (network : List Candidate) (budget : ℕ) → IsLanguage l → IsNetwork l network →
-    ((part : List Candidate) × IsSearched l network budget part) ⊎ ((i : ℕ) × IsSpentAt l network budget i)
+    ((part : List Candidate) × IsReducedBySearch l network budget part) ⊎ ((i : ℕ) × IsSpentAt l network budget i)

@@ -36,7 +36,7 @@ abbrev pub AreDecided : Language → List Candidate → ℕ → ℕ → Type 0
 AreDecided l network budget i = (k : ℕ) → k < i → outcome_at l network budget k ≢ Spent
 
 -- no search is spent, and what remains are the items whose search finds something
-pub record IsSearched (l : Language) (network : List Candidate) (budget : ℕ) (part : List Candidate) : Type 0 where
+pub record IsReducedBySearch (l : Language) (network : List Candidate) (budget : ℕ) (part : List Candidate) : Type 0 where
   pub decided : AreDecided l network budget (length network)
   pub remains : part ≡ left_at l network budget (length network)
 
@@ -48,6 +48,6 @@ pub record IsSpentAt (l : Language) (network : List Candidate) (budget i : ℕ) 
   pub long : budget < plain_size l (others_at l network budget i) (item_at network i)
 
 -- why a network isn't reduced
-abbrev pub HasCause : Language → List Candidate → ℕ → ReduceFault → Type 0
-HasCause l network budget (fault.Spent i) = IsSpentAt l network budget i
-HasCause l network budget fault.Memory = Unit {0}
+abbrev pub HasReduceCause : Language → List Candidate → ℕ → ReduceFault → Type 0
+HasReduceCause l network budget (fault.Spent i) = IsSpentAt l network budget i
+HasReduceCause l network budget fault.Memory = Unit {0}

@@ -3,7 +3,7 @@ ghost use Rattle.language.specs.Language.{IsCandidate, IsImplied, IsLanguage};
 ghost use Rattle.language.specs.Answers.{IsNetwork};
 ghost use Rattle.fd_solver.specs.Outcomes.{outcome_of_candidate};
 ghost use Rattle.net_reduce.specs.Reduction.{IsReduction, Sifts};
-ghost use Rattle.net_reduce.specs.Searched.{HasCause, IsSearched};
+ghost use Rattle.net_reduce.specs.Searched.{HasReduceCause, IsReducedBySearch};
 
 use crate::fault::ReduceFault;
 use fd_solver::{Outcome, Work, order_of, search};
@@ -50,11 +50,11 @@ pub fn reduce(
     requires network { IsNetwork lang.now net.now.list }
     requires some_budget { 1 ≤ budget }
     requires small_budget { budget ≤ 1000000000 }
-    ensures searched { IfOk result (λ part. IsSearched lang.now net.now.list budget part.items) }
+    ensures searched { IfOk result (λ part. IsReducedBySearch lang.now net.now.list budget part.items) }
     ensures sifted { IfOk result (λ part. Sifts lang.now [] net.now.list part.items) }
     ensures reduction { IfOk result (λ part. IsReduction lang.now net.now.list part.items) }
     ensures known { IfOk result (λ part. IsNetwork lang.now part.items) }
-    ensures spent { IfErr result (λ fault. HasCause lang.now net.now.list budget fault) }
+    ensures spent { IfErr result (λ fault. HasReduceCause lang.now net.now.list budget fault) }
 {
     let mut part = Vec::from_slice(alloc, net.list())?;
     // How many of the items before this one remain.

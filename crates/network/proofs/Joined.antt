@@ -5,6 +5,7 @@ use Rattle.std.proofs.lemmas.Option.{same_Some}
 use Rattle.std.proofs.lemmas.Nat.Bits.{bit_at_and, bit_at_ones, bit_at-lt, bit_at-zero, bit_at-trailing_zeros}
 use Rattle.std.proofs.lemmas.List.Sums.{AllPass-from_list_all, list_all-from_AllPass}
 use Rattle.assign.specs.SetLemmas.{is_one}
+use Rattle.assign.proofs.Masks.{is_one-and}
 use Rattle.language.specs.Building.{is_same_relation, relations_given}
 use Rattle.language.proofs.Repeats.{same_is, same_itself}
 use Rattle.network.specs.Masks.{is_within_all, TellsWithinAll}
@@ -92,18 +93,6 @@ lowest n file rels first more mask sized closing few small given others tells =
 
 -- ---- one name more
 
-and_bits : (x y : ℕ) → x < 2 → y < 2 → (min x y == 1) ≡ ((x == 1) && (y == 1))
-and_bits zero zero h k = refl
-and_bits zero (suc zero) h k = refl
-and_bits zero (suc (suc y)) h k = absurd (omega arith)
-and_bits (suc zero) zero h k = refl
-and_bits (suc zero) (suc zero) h k = refl
-and_bits (suc zero) (suc (suc y)) h k = absurd (omega arith)
-and_bits (suc (suc x)) y h k = absurd (omega arith)
-
-is_one-and : (a b v : ℕ) → is_one (bit_and a b) v ≡ (is_one a v && is_one b v)
-is_one-and a b v = ap (λ x. x == 1) (bit_at_and a b v) ∙ and_bits (bit_at a v) (bit_at b v) (bit_at-lt a v) (bit_at-lt b v)
-
 within-append : (rs : List Relation) (q r : Relation) → is_within_all (rs ++ q ∷ []) r ≡ (is_within_all rs r && is_part r q)
 within-append [] q r = go (is_part r q)
   where
@@ -142,17 +131,6 @@ names-drop l s names i d low =
 put_behind : (rest : Option (List Relation)) (before : List Relation) (q : Relation) → option_map (λ more. before ++ more) (option_map (λ rs. q ∷ rs) rest) ≡ option_map (λ more. (before ++ q ∷ []) ++ more) rest
 put_behind None before q = refl
 put_behind (Some rs) before q = ap Some (sym (append_assoc before (q ∷ []) rs))
-
-pub unknown : (l : Language) (s : ℕ) (whole : List (List ℕ)) (names : List (Bor (List ℕ))) (i : ℕ) (d : Bor (List ℕ)) (mask : ℕ) → i < length names →
-    TellsNamed l s (relation_named l s (get_or names i d).now) None → IsMasked l s whole (texts_of (drop i names)) mask → relations_named l s whole ≡ None
-unknown l s whole names i d mask low tells so_far = so_far.named ∙ ap (λ o. option_map (λ more. so_far.relations ++ more) o) (names-drop l s names i d low) ∙ go (relation_named l s (get_or names i d).now) tells
-  where
-    rest : Option (List Relation)
-    rest = relations_named l s (texts_of (drop (i + 1) names))
-
-    go : (o : Option Relation) → TellsNamed l s o None → option_map (λ more. so_far.relations ++ more) (option_and_then (λ r. option_map (λ rs. r ∷ rs) rest) o) ≡ None
-    go None t = refl
-    go (Some r) t = absurd t
 
 pub one_more : (l : Language) (s : ℕ) (whole : List (List ℕ)) (names : List (Bor (List ℕ))) (i : ℕ) (d : Bor (List ℕ)) (mask m : ℕ) → i < length names →
     TellsNamed l s (relation_named l s (get_or names i d).now) (Some m) → IsMasked l s whole (texts_of (drop i names)) mask → IsMasked l s whole (texts_of (drop (i + 1) names)) (bit_and mask m)
@@ -227,10 +205,3 @@ joined l lawful s known names some mask small tells = go (relations_named l s na
         let at = lowest (l.value_count ^ length (scope_at l s)) file (relations_on l s) first more mask (given_on_sized l lawful s) (lawful.closed s known) (lawful.few_relations s known) small
         (All-head (Contains file) first more all) (All-tail (Contains file) first more all) t in
         record { is = ap (λ o. option_and_then (intersection_on l s) o) e ∙ at.is; low = at.low }
-
-pub none_by : (l : Language) (s : ℕ) (names : List (List ℕ)) → TellsWithinAll l s (relations_named l s names) None → relation_by l s names ≡ None
-none_by l s names tells = go (relations_named l s names) tells
-  where
-    go : (o : Option (List Relation)) → TellsWithinAll l s o None → option_and_then (intersection_on l s) o ≡ None
-    go None t = refl
-    go (Some rs) t = absurd t

@@ -4,7 +4,6 @@ pub mod Cutting
 pub mod Naming
 pub mod Parts
 pub mod Telling
-pub mod TextsRead
 pub mod Joined
 pub mod Items
 pub mod EachText

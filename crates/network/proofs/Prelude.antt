@@ -22,10 +22,11 @@ pub use Rattle.serde_json.specs.Data.{Data, Items, item, no_items}
 pub use Rattle.serde_json.specs.Find.{as_array, as_str}
 pub use Rattle.serde_json.specs.View.{items_view, view}
 pub use Rattle.network.specs.Answers.{Reads, then_on, unless}
-pub use Rattle.network.specs.Laws.{EachIsReadOrRefused, TextTellsNetwork}
+pub use Rattle.network.specs.Laws.{EachNetworkIsReadOrRefused, TextTellsNetwork}
 pub use Rattle.network.specs.Learned.{Learned}
-pub use Rattle.network.specs.Target.{Stated, candidate_in, candidate_of, each_text, intersection_on, json_of, network_from, network_in, pieces, relation_by, relations_named, repeat_of, stated_by, stated_in, text_list}
+pub use Rattle.network.specs.Target.{Stated, candidate_in, candidate_of, each_text, intersection_on, network_from, network_of_items, pieces, relation_by, relations_named, repeat_of, stated_by, stated_in, text_list}
 unfoldable pub use Rattle.network.specs.Target.{network_of}
 pub use Rattle.network.specs.Texts.{network_text}
 pub use Rattle.network.specs.declared.fault.NetFault.{NetFault}
 pub use Rattle.network.specs.declared.fault.NetFault.TheVariants.{BadItem, Memory, NotJson, NotList, ScopeRepeated, TooLong, UnknownRelation, UnknownScope}
+pub use Rattle.rel_formula.specs.Json.{json_of}

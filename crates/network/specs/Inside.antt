@@ -9,7 +9,7 @@ abbrev pub seen : Inside → Learned
 seen a = record { scopes = a.scopes; list = a.list.items }
 
 -- one candidate a scope at most, and room for one on each of a language's scopes
-pub record HasRoom (a : Inside) : Type 0 where
+pub record FitsScopes (a : Inside) : Type 0 where
   pub few : a.scopes ≤ 8192
   pub apart : IsDistinct nat_eq (map (λ (c : Candidate). c.scope) a.list.items)
   pub known : All (λ (c : Candidate). c.scope < a.scopes) a.list.items

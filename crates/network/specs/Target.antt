@@ -2,10 +2,8 @@
 use Rattle.std.specs.Prelude.{ℕ, ◌==◌, ◌++◌, nat_lt, nat_le, ◌&&◌, List, [], ◌∷◌, length, drop, position, Option, Some, None, Result, Ok, Err, slice_index_or, if◌then◌else◌}
 use Rattle.std.specs.List.{slice_split}
 use Rattle.std.specs.Option.{option_map, option_and_then, ok_or}
-use Rattle.std.specs.Str.{is_utf8}
 use Rattle.serde_json.specs.Data.{Data, Items, no_items, item}
 use Rattle.serde_json.specs.Find.{as_array, as_str}
-use Rattle.serde_json.specs.Read.{read}
 use Rattle.rel_table.specs.Relation.{Relation, meet_all}
 use Rattle.language.specs.declared.candidates.Candidate.{Candidate}
 use Rattle.language.specs.Language.{Language, relations_on}
@@ -14,6 +12,7 @@ use Rattle.language.specs.ByName.{scope_named, relation_named}
 use Rattle.network.specs.declared.fault.NetFault.{NetFault}
 use Rattle.network.specs.declared.fault.NetFault.TheVariants.{TooLong, NotJson, NotList, BadItem, UnknownScope, UnknownRelation, ScopeRepeated}
 use Rattle.network.specs.Answers.{then_on, unless}
+use Rattle.rel_formula.specs.Json.{json_of}
 
 -- ---- An item's form
 
@@ -83,14 +82,10 @@ network_from l before (item value values) = then_on (candidate_in l before value
 
 -- ---- The whole
 
--- the JSON value that a text is
-abbrev pub json_of : List ℕ → Option Data
-json_of bytes = if is_utf8 bytes then read bytes else None
-
 -- the network of an array of items
-abbrev pub network_in : Language → Data → Result (List Candidate) NetFault
-network_in l whole = then_on (ok_or (as_array whole) NotList) (network_from l [])
+abbrev pub network_of_items : Language → Data → Result (List Candidate) NetFault
+network_of_items l whole = then_on (ok_or (as_array whole) NotList) (network_from l [])
 
 -- the network that bytes describe, or why they describe none
 unfoldable pub network_of : Language → List ℕ → Result (List Candidate) NetFault
-network_of l bytes = if nat_lt 4194304 (length bytes) then Err TooLong else then_on (ok_or (json_of bytes) NotJson) (network_in l)
+network_of l bytes = if nat_lt 4194304 (length bytes) then Err TooLong else then_on (ok_or (json_of bytes) NotJson) (network_of_items l)

@@ -1,6 +1,6 @@
 //! Laws of the definitions, as contracts of functions that do nothing.
 
-ghost use Rattle.network.specs.Laws.{EachIsReadOrRefused, ReadIsNotRefused, TextTellsNetwork};
+ghost use Rattle.network.specs.Laws.{EachNetworkIsReadOrRefused, ReadNetworkIsNotRefused, TextTellsNetwork};
 
 /// Networks with the same text are the same.
 pub fn text_tells_network()
@@ -9,10 +9,10 @@ pub fn text_tells_network()
 
 /// No bytes are read as a network and refused.
 pub fn read_is_not_refused()
-    ensures { ReadIsNotRefused }
+    ensures { ReadNetworkIsNotRefused }
 {}
 
 /// Each list of bytes is read as a network, or is refused, and not for want of memory.
 pub fn each_is_read_or_refused()
-    ensures { EachIsReadOrRefused }
+    ensures { EachNetworkIsReadOrRefused }
 {}

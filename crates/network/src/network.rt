@@ -21,11 +21,11 @@ impl Model for Network {
 
     ghost Value = { Learned };
 
-    ghost use Rattle.network.specs.Inside.{seen, HasRoom};
+    ghost use Rattle.network.specs.Inside.{seen, FitsScopes};
 
     ghost view = { seen };
 
-    ghost invariant = { HasRoom };
+    ghost invariant = { FitsScopes };
 }
 
 impl Network {

@@ -9,7 +9,8 @@ ghost use Rattle.language.specs.ByName.{texts_of};
 ghost use Rattle.network.specs.Answers.{Reads};
 ghost use Rattle.network.specs.Learned.{Learned};
 ghost use Rattle.network.specs.Masks.{TellsWithinAll};
-ghost use Rattle.network.specs.Target.{each_text, text_list, pieces, relations_named, relation_by, repeat_of, candidate_of, candidate_in, network_from, json_of, network_of};
+ghost use Rattle.network.specs.Target.{each_text, text_list, pieces, relations_named, relation_by, repeat_of, candidate_of, candidate_in, network_from, network_of};
+ghost use Rattle.rel_formula.specs.Json.{json_of};
 
 use crate::fault::NetFault;
 use crate::network::Network;

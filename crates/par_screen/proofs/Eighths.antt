@@ -1,21 +1,16 @@
 -- Eight parts, one after another.
-use Rattle.par_screen.proofs.Prelude.{◌≡◌, ℕ, ◌+◌, ◌-◌, ◌*◌, ◌≤◌, List, length, sym, ◌∙◌, ap, arith, Language, candidates, Query, AllImplied, Remembered, begun, part_size, query_in, query_then, IsSearched, HasTaken, parts_are_joined, whole_is_next, says_nothing, IsTakenTo, taken_further, part_start}
+use Rattle.par_screen.proofs.Prelude.{◌≡◌, ℕ, ◌+◌, ◌-◌, ◌*◌, ◌≤◌, List, length, sym, ◌∙◌, ap, arith, Language, candidates, Query, AllImplied, Remembered, remembered_begun, part_size, query_in, query_then, IsSearched, HasTaken, parts_are_joined, whole_is_next, says_nothing, IsTakenTo, taken_further, part_start}
 use Rattle.language.specs.declared.candidates.Candidate.{Candidate}
 use Rattle.query_gen.specs.Questions.{next_query}
+use Rattle.bias_store.proofs.Tabled.{row_more}
 
 -- ---- Where parts begin
 
 pub start_whole : (l : Language) → part_start l 8 ≡ length (candidates l)
 start_whole l = omega arith
 
-one_more : (i h : ℕ) → (i + 1) * h ≡ i * h + h
-one_more i h = grind arith
-
 pub start_rises : (l : Language) (i : ℕ) → part_start l i ≤ part_start l (i + 1)
-start_rises l i = let more = one_more i (part_size l) in omega arith
-
-pub part_is_small : (l : Language) (i : ℕ) → part_start l (i + 1) - part_start l i ≤ part_size l
-part_is_small l i = let more = one_more i (part_size l) in omega arith
+start_rises l i = let more = row_more i (part_size l) in omega arith
 
 -- ---- What they say
 
@@ -36,7 +31,7 @@ module _ (l : Language) (network kept : List Candidate) (budget : ℕ) where
 -- ---- One part's marks more
 
 pub taken_part : (l : Language) (network kept : List Candidate) (budget i : ℕ) (bytes : List ℕ) (answer : Query) (old new : Remembered) → IsTakenTo l network kept budget (part_start l i) old →
-    HasTaken bytes (part_start l i) (part_start l (i + 1)) (begun old (length network) budget) new → IsSearched l network kept budget (part_start l i) (part_start l (i + 1)) bytes answer →
+    HasTaken bytes (part_start l i) (part_start l (i + 1)) (remembered_begun old (length network) budget) new → IsSearched l network kept budget (part_start l i) (part_start l (i + 1)) bytes answer →
     IsTakenTo l network kept budget (part_start l (i + 1)) new
 taken_part l network kept budget i bytes answer old new before taken part =
     taken_further l network kept budget (part_start l i) (part_start l (i + 1)) bytes answer old new (start_rises l i) before taken part

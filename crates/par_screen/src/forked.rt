@@ -4,7 +4,7 @@ ghost use Rattle.language.specs.Answers.{IsNetwork};
 ghost use Rattle.bias_store.specs.KeptSet.{IsMadeFor as IsKeptOf};
 ghost use Rattle.fd_solver.specs.Outcomes.{outcome_of_candidate};
 ghost use Rattle.query_gen.specs.Questions.{is_among, is_spent, next_query};
-ghost use Rattle.query_gen.specs.Marks.{IsMadeFor, MarksHold, is_open};
+ghost use Rattle.query_gen.specs.Marks.{AreMarksFor, MarksHold, is_open};
 ghost use Rattle.query_gen.specs.Parts.{part_size, is_ask, IsSearched};
 ghost use Rattle.par_screen.specs.Eighths.{part_start, AreMadeFor, AreSearched};
 
@@ -42,7 +42,7 @@ fn search_part<G: Gate>(
 )
     requires part { part < 8 }
     requires place { vec_len place.old.marks ≡ part_size lang.now }
-    requires screen { IsMadeFor lang.now screen.now }
+    requires screen { AreMarksFor lang.now screen.now }
     requires marks { MarksHold lang.now net.now.list budget screen.now }
     requires kept { IsKeptOf lang.now kept.now }
     requires network { IsNetwork lang.now net.now.list }
@@ -69,7 +69,7 @@ fn search_parts<R: Threads + Sync, G: Gate>(
 )
     requires eight { length places.old ≡ 8 }
     requires places { AreMadeFor lang.now places.old }
-    requires screen { IsMadeFor lang.now screen.now }
+    requires screen { AreMarksFor lang.now screen.now }
     requires marks { MarksHold lang.now net.now.list budget screen.now }
     requires kept { IsKeptOf lang.now kept.now }
     requires network { IsNetwork lang.now net.now.list }
@@ -84,7 +84,7 @@ fn search_parts<R: Threads + Sync, G: Gate>(
         places,
         PARTS as usize,
         &|part, place: &mut Place|
-            requires { (part < 8) × (vec_len place.now.marks ≡ part_size lang.now) × IsMadeFor lang.now screen.now × MarksHold lang.now net.now.list budget screen.now × IsKeptOf lang.now kept.now × IsNetwork lang.now net.now.list × (1 ≤ budget) × (budget ≤ 1000000000) }
+            requires { (part < 8) × (vec_len place.now.marks ≡ part_size lang.now) × AreMarksFor lang.now screen.now × MarksHold lang.now net.now.list budget screen.now × IsKeptOf lang.now kept.now × IsNetwork lang.now net.now.list × (1 ≤ budget) × (budget ≤ 1000000000) }
             ensures searched { IsSearched lang.entry.now net.entry.now.list kept.entry.now.members budget (part_start lang.entry.now part) (part_start lang.entry.now (part + 1)) place.exit.now.marks.items place.exit.now.answer }
             ensures size { vec_len place.exit.now.marks ≡ vec_len place.entry.now.marks }
         { search_part(gate, part as u32, place, screen, lang, kept, net, budget) },
@@ -102,10 +102,10 @@ fn take_parts(
 )
     requires eight { length places.now ≡ 8 }
     requires places { AreMadeFor lang.now places.now }
-    requires screen { IsMadeFor lang.now screen.old }
+    requires screen { AreMarksFor lang.now screen.old }
     requires marks { MarksHold lang.now net.now.list budget screen.old }
     requires searched { AreSearched lang.now net.now.list kept.now.members budget places.now }
-    ensures screen { IsMadeFor lang.now screen.new }
+    ensures screen { AreMarksFor lang.now screen.new }
     ensures marks { MarksHold lang.now net.now.list budget screen.new }
     ensures open { is_ask (next_query lang.now net.now.list kept.now.members budget) ≡ false → (c : Candidate) → IsCandidate lang.now c → is_open lang.now screen.new c ≡ (is_among kept.now.members c && is_spent (outcome_of_candidate lang.now net.now.list c budget)) }
 {
@@ -131,10 +131,10 @@ fn take_searched(
 )
     requires eight { length places.now ≡ 8 }
     requires places { AreMadeFor lang.now places.now }
-    requires screen { IsMadeFor lang.now screen.old }
+    requires screen { AreMarksFor lang.now screen.old }
     requires marks { MarksHold lang.now net.now.list budget screen.old }
     requires searched { AreSearched lang.now net.now.list kept.now.members budget places.now }
-    ensures screen { IsMadeFor lang.now screen.new }
+    ensures screen { AreMarksFor lang.now screen.new }
     ensures marks { MarksHold lang.now net.now.list budget screen.new }
 {
     for part in 0..PARTS {
@@ -174,7 +174,7 @@ pub fn next_query_forked<R: Threads + Sync, G: Gate>(
     budget: u32,
 ) -> Query
     requires places { AreMadeFor lang.now places.old }
-    requires screen { IsMadeFor lang.now screen.old }
+    requires screen { AreMarksFor lang.now screen.old }
     // the marks were set under this budget, and under networks that this one begins with
     requires marks { MarksHold lang.now net.now.list budget screen.old }
     requires kept { IsKeptOf lang.now kept.now }
@@ -183,7 +183,7 @@ pub fn next_query_forked<R: Threads + Sync, G: Gate>(
     requires small_budget { budget ≤ 1000000000 }
     ensures is { result ≡ next_query lang.now net.now.list kept.now.members budget }
     ensures places { AreMadeFor lang.now places.new }
-    ensures screen { IsMadeFor lang.now screen.new }
+    ensures screen { AreMarksFor lang.now screen.new }
     ensures marks { MarksHold lang.now net.now.list budget screen.new }
     // exactly the kept candidates whose search was spent are open
     ensures open { result ≡ Query.Undecided → (c : Candidate) → IsCandidate lang.now c → is_open lang.now screen.new c ≡ (is_among kept.now.members c && is_spent (outcome_of_candidate lang.now net.now.list c budget)) }

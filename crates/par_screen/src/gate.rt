@@ -4,7 +4,7 @@ ghost use Rattle.std.specs.Prelude.{◌≡◌, ◌<◌, ◌≤◌, ◌-◌, leng
 ghost use Rattle.language.specs.Language.{candidates};
 ghost use Rattle.language.specs.Answers.{IsNetwork};
 ghost use Rattle.bias_store.specs.KeptSet.{IsMadeFor as IsKeptOf};
-ghost use Rattle.query_gen.specs.Marks.{IsMadeFor, MarksHold};
+ghost use Rattle.query_gen.specs.Marks.{AreMarksFor, MarksHold};
 ghost use Rattle.query_gen.specs.Parts.{IsSearched};
 
 use bias_store::Kept;
@@ -29,7 +29,7 @@ pub trait Gate: Sync {
         end: u32,
     )
         requires job { job < 8 }
-        requires screen { IsMadeFor lang.now screen.now }
+        requires screen { AreMarksFor lang.now screen.now }
         // the marks were set under this budget, and under networks that this one begins with
         requires marks { MarksHold lang.now net.now.list budget screen.now }
         requires kept { IsKeptOf lang.now kept.now }

@@ -4,7 +4,7 @@ ghost use Rattle.std.specs.Prelude.{◌≡◌, ◌<◌, ◌≤◌, ◌-◌, leng
 ghost use Rattle.language.specs.Language.{candidates};
 ghost use Rattle.language.specs.Answers.{IsNetwork};
 ghost use Rattle.bias_store.specs.KeptSet.{IsMadeFor as IsKeptOf};
-ghost use Rattle.query_gen.specs.Marks.{IsMadeFor, MarksHold};
+ghost use Rattle.query_gen.specs.Marks.{AreMarksFor, MarksHold};
 ghost use Rattle.query_gen.specs.Parts.{IsSearched};
 
 use crate::attendance::Attendance;

@@ -1,9 +1,8 @@
 -- A condition each of whose variables has one value, but for that at a place.
-use Rattle.propagators.proofs.Prelude.{◌≡◌, ◌≢◌, ℕ, zero, suc, ◌+◌, ◌*◌, ◌<◌, ◌≤◌, Bool, true, false, not, ◌&&◌, ◌||◌, List, [], ◌∷◌, length, map, take, refl, sym, ◌∙◌, ap, subst, arith, inl, inr, ◌⊎◌, ◌==◌, cases_lt, cases_eq, ne_eqb, eq-eqb, and_from, and_parts, both_ways, slice_index_or, slice_set, set-get_or, get_or-set_same, get_or-set_other, get_or-map, get_or-take, length-map, length-take, length-set, All, fold, list_all, has, are_in, holds, TruthTable, Candidate, Language, relation_of, scope_of, ones_of, Family, Arc, arc_of, is_wanted, is_not_empty, sets_on, size_of, union, or_left, Option, IsLanguage, AreConstraints, arcs_of, RunsEmpty, IsLooked, IsWithin, IsThrough, AreSupported, AreAlong, AreBelow, IsFamilyOf, AreDifferent, IsRevised, IsDead, replaced, take-set-lt, continues, HasOne, IsAlmostFixed, AreFixedBut, is_noted_in, AreEntailed, Entailed, Plan}
+use Rattle.propagators.proofs.Prelude.{◌≡◌, ◌≢◌, ℕ, zero, suc, ◌+◌, ◌*◌, ◌<◌, ◌≤◌, Bool, true, false, not, ◌&&◌, ◌||◌, List, [], ◌∷◌, length, map, take, refl, sym, ◌∙◌, ap, subst, arith, inl, inr, ◌⊎◌, ◌==◌, cases_lt, cases_eq, ne_eqb, eq-eqb, and_from, and_parts, both_ways, slice_index_or, slice_set, set-get_or, get_or-set_same, get_or-set_other, get_or-map, get_or-take, length-map, length-take, length-set, All, fold, list_all, has, are_in, holds, TruthTable, Candidate, Language, relation_of, scope_of, ones_of, Family, Arc, arc_of, is_wanted, is_not_empty, sets_on, family_size, union, or_left, Option, IsLanguage, AreConstraints, arcs_of, RunsEmpty, IsLooked, IsWithin, IsThrough, AreSupported, AreAlong, AreBelow, IsFamilyOf, AreDifferent, IsRevised, IsDead, replaced, take-set-lt, continues, HasOne, IsAlmostFixed, AreFixedBut, is_noted_in, AreEntailed, Entailed, Plan, ones_of-zero}
 use Rattle.propagators.proofs.Cutting.{set_for, different_at}
 use Rattle.propagators.proofs.Conditions.{tuple_in, arcs_small, arcs_within, arcs_different}
 use Rattle.propagators.proofs.Fixed.{fixed_taken_in}
-use Rattle.propagators.proofs.Ones.{ones_of-zero}
 use Rattle.propagators.proofs.Rounds.{dead_here}
 use Rattle.propagators.proofs.Beside.{beside_same}
 use Rattle.propagators.proofs.Visiting.{same_item, looked_changed}
@@ -14,12 +13,6 @@ use Rattle.propagators.proofs.Replacing.{is_revised, is_dead, set_at, value_with
 -- a mask with members isn't zero
 pub some_mask : (mask : ℕ) → is_not_empty (ones_of mask) ≡ true → mask ≢ 0
 some_mask mask some e = both_ways _ (ap (λ m. is_not_empty (ones_of m)) e ∙ ap is_not_empty ones_of-zero) some
-
-pub within_from : (masks tuple : List ℕ) (n : ℕ) → n ≤ length masks → n ≤ length tuple → ((j : ℕ) → j < n → has (ones_of (slice_index_or masks j 0)) (slice_index_or tuple j 0) ≡ true) → IsWithin (take n (map ones_of masks)) (take n tuple)
-within_from masks tuple zero room long h = tt
-within_from [] tuple (suc n) room long h = absurd (omega arith)
-within_from (m ∷ masks) [] (suc n) room long h = absurd (omega arith)
-within_from (m ∷ masks) (x ∷ tuple) (suc n) room long h = (h 0 (omega arith), within_from masks tuple n (omega arith) (omega arith) (λ j low. h (suc j) (omega arith)))
 
 -- with another value of the set at a place it is within the sets still
 with_at : (sets : List (List ℕ)) (tuple : List ℕ) (j x : ℕ) → IsWithin sets tuple → has (slice_index_or sets j []) x ≡ true → IsWithin sets (slice_set tuple j x)
@@ -136,10 +129,6 @@ none_supported sets accepted never = record { all = λ tuple within at. absurd (
 
 -- ---- a family
 
--- the sets of a scope as masks
-pub read_on : (f : Family) (scope masks : List ℕ) → take (length scope) (map ones_of masks) ≡ sets_on f scope → (j : ℕ) → j < length scope → j < length masks → ones_of (slice_index_or masks j 0) ≡ slice_index_or f (slice_index_or scope j 0) []
-read_on f scope masks on j low room = sym (set_for scope masks j low room) ∙ ap (λ (s : List (List ℕ)). slice_index_or s j []) on ∙ set_at f scope j low
-
 sets_beside : (scope : List ℕ) (f : Family) (v : ℕ) (xs : List ℕ) → has scope v ≡ false → sets_on (slice_set f v xs) scope ≡ sets_on f scope
 sets_beside [] f v xs lacking = refl
 sets_beside (u ∷ scope) f v xs lacking =
@@ -226,13 +215,13 @@ along_taken_in arcs p e more i a f g place found at different known low fixed is
 
 -- ---- a candidate's table
 
-module _ (l : Language) (c : Candidate) (holding : Bool) (table : TruthTable) (f : Family) (scope sets found : List ℕ) (at : scope ≡ scope_of l c) (on : take (length scope) (map ones_of sets) ≡ sets_on f scope) where
+module _ (l : Language) (c : Candidate) (holding : Bool) (table : TruthTable) (f : Family) (scope found : List ℕ) (at : scope ≡ scope_of l c) where
   -- what goes along by the table goes along by the condition
-  pub along_here : (place : ℕ) → table.arity ≡ length (scope_of l c) → table.value_count ≡ l.value_count →
+  pub along_here : (place : ℕ) → table.value_count ≡ l.value_count →
       ((tuple : List ℕ) → length tuple ≡ length (scope_of l c) → are_in l.ranges (scope_of l c) tuple ≡ true → holds l.value_count table.truth tuple ≡ holds l.value_count (relation_of l c) tuple) → IsFamilyOf l f →
-      AreAlong (take table.arity (map ones_of sets)) (continues table holding 0) place found → AreAlong (sets_on f (scope_of l c)) (arc_of l c holding).accepted place found
-  along_here place arity values agrees family is =
-      change (subst (λ (s : List (List ℕ)). AreAlong s (continues table holding 0) place found) (ap (λ n. take n (map ones_of sets)) (arity ∙ ap length (sym at)) ∙ on ∙ ap (sets_on f) at) is)
+      AreAlong (sets_on f scope) (continues table holding 0) place found → AreAlong (sets_on f (scope_of l c)) (arc_of l c holding).accepted place found
+  along_here place values agrees family is =
+      change (subst (λ (s : List ℕ). AreAlong (sets_on f s) (continues table holding 0) place found) at is)
     where
       accepts_as : (tuple : List ℕ) → IsWithin (sets_on f (scope_of l c)) tuple → continues table holding 0 tuple ≡ (arc_of l c holding).accepted tuple
       accepts_as tuple within =
@@ -268,7 +257,7 @@ module _ (l : Language) (list : List Candidate) (against : Option Candidate) (la
     pub look_same : (waiting : List ℕ) → g ≡ f → IsLooked (arcs_of l list against) i waiting waiting f g
     look_same waiting same = beside_same (arcs_of l list against) i waiting f g (arcs_small l list against lawful constraints) low full revised same
 
-    pub look_fewer : (waiting : List ℕ) → size_of g < size_of f → IsLooked (arcs_of l list against) i waiting (union waiting (slice_index_or (scope_of l c) place 0 ∷ [])) f g
+    pub look_fewer : (waiting : List ℕ) → family_size g < family_size f → IsLooked (arcs_of l list against) i waiting (union waiting (slice_index_or (scope_of l c) place 0 ∷ [])) f g
     look_fewer waiting less = looked_changed (arcs_of l list against) i waiting (slice_index_or (scope_of l c) place 0 ∷ []) f g (arcs_small l list against lawful constraints) low full revised (record {
       differ = λ u few no. ap (λ (h : Family). slice_index_or h u []) to ∙ get_or-set_other f (slice_index_or (scope_of l c) place 0) u found [] (λ e. both_ways _ no (or_left _ _ (eq-eqb (slice_index_or (scope_of l c) place 0) u (sym e))));
       fewer = inr less;
@@ -323,34 +312,3 @@ none_gone s q y = ap (λ xs. has xs y) ones_of-zero ∙ go s
     go : (s : Bool) → false ≡ (s && (not s && q))
     go true = refl
     go false = refl
-
--- all were gone through
-pub along_found : (table : TruthTable) (holding : Bool) (masks others : List ℕ) (place n found rest : ℕ) → n ≡ table.arity → place < n → n ≤ length masks → n ≤ length others →
-    ((j : ℕ) → j < n → has (ones_of (slice_index_or masks j 0)) (slice_index_or others j 0) ≡ true) → rest ≡ 0 →
-    ((y : ℕ) → has (ones_of found) y ≡ (has (ones_of (slice_index_or masks place 0)) y && (not (has (ones_of rest) y) && continues table holding 0 (take n (slice_set others place y))))) →
-    AreAlong (take table.arity (map ones_of masks)) (continues table holding 0) place (ones_of found)
-along_found table holding masks others place n found rest long low room wide there over goes =
-    subst (λ (n : ℕ). AreAlong (take n (map ones_of masks)) (continues table holding 0) place (ones_of found)) long (record {
-      others = take n others;
-      within = within_from masks others n room wide there;
-      goes = λ x. goes x ∙ ap (λ b. has (ones_of (slice_index_or masks place 0)) x && (not b && continues table holding 0 (take n (slice_set others place x)))) (none_left x)
-          ∙ (λ i. has (read i) x && continues table holding 0 (take-set-lt n others place x low i));
-    })
-  where
-    none_left : (x : ℕ) → has (ones_of rest) x ≡ false
-    none_left x = ap (λ r. has (ones_of r) x) over ∙ ap (λ xs. has xs x) ones_of-zero
-
-    read : ones_of (slice_index_or masks place 0) ≡ slice_index_or (take n (map ones_of masks)) place []
-    read = sym (get_or-take n (map ones_of masks) place [] low ∙ get_or-map ones_of masks place 0 [] (omega arith))
-
--- the tuple's values are below d
-pub values_below : (d n place x : ℕ) (masks others : List ℕ) → place < n → n ≤ length others → x < d → ((j : ℕ) → j < n → has (ones_of (slice_index_or masks j 0)) (slice_index_or others j 0) ≡ true) → ((j : ℕ) → j < n → AreBelow d (ones_of (slice_index_or masks j 0))) →
-    All (λ v. v < d) (take n (slice_set others place x))
-values_below d n place x masks others low wide small there below = λ k e less.
-    (let under : k < n = omega (arith, length-take n (slice_set others place x), length-set others place x) in
-    subst (λ v. v < d) (sym (get_or-take n (slice_set others place x) k e under)) (go k e under (cases_eq k place)))
-  where
-    go : (k e : ℕ) → k < n → (k ≡ place) ⊎ (k ≢ place) → slice_index_or (slice_set others place x) k e < d
-    go k e under (inl same) = subst (λ v. v < d) (sym (ap (λ j. slice_index_or (slice_set others place x) j e) same ∙ get_or-set_same others place x e (omega arith))) small
-    go k e under (inr other) =
-        subst (λ v. v < d) (sym (get_or-set_other others place k x e other ∙ same_item others k e 0 (omega arith))) (below k under (slice_index_or others k 0) (there k under))

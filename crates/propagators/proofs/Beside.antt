@@ -1,5 +1,5 @@
 -- A condition on two variables, one of which has one value.
-use Rattle.propagators.proofs.Prelude.{◌≡◌, ℕ, zero, suc, ◌<◌, Bool, true, false, not, ◌&&◌, List, [], ◌∷◌, length, refl, sym, ◌∙◌, ap, subst, arith, inl, inr, ◌⊎◌, ◌≢◌, slice_index_or, slice_set, ones_of, All, list_all, set-get_or, get_or-set_other, get_or-set_same, and_from, and_parts, both_ways, eq-eqb, or_left, has, union, Family, Arc, sets_on, is_not_empty, size_of, IsSubfamily, AreBelow, AreDifferent, IsWithin, IsThrough, AreSupported, IsRevised, IsDead, replaced, IsOnly, IsBeside, IsNarrowed, IsEntailed, IsLooked}
+use Rattle.propagators.proofs.Prelude.{◌≡◌, ℕ, zero, suc, ◌<◌, Bool, true, false, not, ◌&&◌, List, [], ◌∷◌, length, refl, sym, ◌∙◌, ap, subst, arith, inl, inr, ◌⊎◌, ◌≢◌, slice_index_or, slice_set, ones_of, All, list_all, set-get_or, get_or-set_other, get_or-set_same, and_from, and_parts, both_ways, eq-eqb, or_left, has, union, Family, Arc, sets_on, is_not_empty, family_size, IsSubfamily, AreBelow, AreDifferent, IsWithin, IsThrough, AreSupported, IsRevised, IsDead, replaced, IsOnly, IsBeside, IsNarrowed, IsEntailed, IsLooked}
 use Rattle.propagators.proofs.Replacing.{is_revised, is_dead, member_of_some, all_full}
 use Rattle.propagators.proofs.Rounds.{AreSmall}
 use Rattle.propagators.proofs.Visiting.{looked_same, looked_changed}
@@ -174,7 +174,7 @@ beside_same arcs i waiting f g small low full to same =
     looked_same arcs i waiting [] f g small low full to (record { differ = λ u few none. ap (λ (h : Family). slice_index_or h u []) same; fewer = inl (λ u. refl, same) }) refl
 
 pub beside_fewer : (arcs : List Arc) (i : ℕ) (waiting : List ℕ) (f g : Family) (v : ℕ) (pass : ℕ → Bool) → AreSmall arcs → i < length arcs → list_all is_not_empty f ≡ true → ((a : Arc) → IsRevised (slice_index_or arcs i a) f g) →
-    IsNarrowed v pass f g → size_of g < size_of f → IsLooked arcs i waiting (union waiting (v ∷ [])) f g
+    IsNarrowed v pass f g → family_size g < family_size f → IsLooked arcs i waiting (union waiting (v ∷ [])) f g
 beside_fewer arcs i waiting f g v pass small low full to narrowed less =
     looked_changed arcs i waiting (v ∷ []) f g small low full to (record {
       differ = λ u few none. narrowed_others f g v pass narrowed u (λ e. both_ways _ none (or_left _ _ (eq-eqb v u (sym e))));

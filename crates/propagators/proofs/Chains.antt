@@ -1,6 +1,5 @@
 -- Relations of two variables whose rows and columns run one way.
-use Rattle.propagators.proofs.Prelude.{◌≡◌, ℕ, zero, suc, ◌<◌, Bool, true, ◌&&◌, ◌||◌, List, [], ◌∷◌, refl, sym, ◌∙◌, ap, arith, inl, inr, ◌⊎◌, slice_index_or, and_parts, and_from, or_left, or_right, or_cases, both_ways, has, ones_of, is_wanted, AreBelow, AreSupported, IsWithin, IsThrough, IsRunning, IsChain, AreEnds}
-use Rattle.propagators.proofs.Ones.{ones_of-zero}
+use Rattle.propagators.proofs.Prelude.{◌≡◌, ℕ, zero, suc, ◌<◌, Bool, true, ◌&&◌, ◌||◌, List, [], ◌∷◌, refl, sym, ◌∙◌, ap, arith, inl, inr, ◌⊎◌, slice_index_or, and_parts, and_from, or_left, or_right, or_cases, both_ways, has, ones_of, is_wanted, AreBelow, AreSupported, IsWithin, IsThrough, IsRunning, IsChain, AreEnds, ones_of-zero}
 
 -- the same, where what runs is to hold or not to hold
 pub running_wanted : (d : ℕ) (holding : Bool) (p q : ℕ → ℕ → Bool) → ((x y : ℕ) → x < d → y < d → q x y ≡ is_wanted holding (p x y)) → IsRunning d p → IsRunning d q

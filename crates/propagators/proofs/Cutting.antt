@@ -1,5 +1,5 @@
 -- Writing the sets of a scope's variables, one after another.
-use Rattle.propagators.proofs.Prelude.{◌≡◌, ℕ, zero, suc, ◌+◌, ◌<◌, ◌≤◌, Bool, true, false, ◌||◌, List, [], ◌∷◌, length, map, take, drop, refl, sym, ◌∙◌, ap, subst, arith, inl, inr, ◌≢◌, slice_index_or, slice_set, length-set, get_or-set_other, get_or-take, get_or-map, length-take, length-map, drop_more, drop_all, or_left, or_right, both_ways, eq-eqb, has, with_member, has-set_where, ones_of, Family, size_of, AreFewer, IsCut, AreDifferent, replaced}
+use Rattle.propagators.proofs.Prelude.{◌≡◌, ℕ, zero, suc, ◌+◌, ◌<◌, ◌≤◌, Bool, true, false, ◌||◌, List, [], ◌∷◌, length, map, take, drop, refl, sym, ◌∙◌, ap, subst, arith, inl, inr, ◌≢◌, slice_index_or, slice_set, length-set, get_or-set_other, get_or-take, get_or-map, length-take, length-map, drop_more, drop_all, or_left, or_right, both_ways, eq-eqb, has, with_member, has-set_where, ones_of, Family, family_size, AreFewer, IsCutAt, AreDifferent, replaced}
 
 -- the sets of masks for a scope
 abbrev pub sets_for : List ℕ → List ℕ → List (List ℕ)
@@ -13,7 +13,7 @@ pub record IsCutting (scope masks : List ℕ) (from : Family) (j : ℕ) (g : Fam
   pub size : length g ≡ length from
   pub rest : replaced (drop j scope) (drop j (sets_for scope masks)) g ≡ replaced scope (sets_for scope masks) from
   pub same : (k : ℕ) → j ≤ k → k < length scope → slice_index_or g (slice_index_or scope k 0) [] ≡ slice_index_or from (slice_index_or scope k 0) []
-  pub cut : IsCut changed from g
+  pub cut : IsCutAt changed from g
 
 pub cut_begin : (scope masks : List ℕ) (from : Family) → IsCutting scope masks from 0 from []
 cut_begin scope masks from = record {
@@ -63,7 +63,7 @@ module _ (scope masks : List ℕ) (from : Family) (j : ℕ) (g : Family) (change
   pub same_next : (k : ℕ) → j + 1 ≤ k → k < length scope → slice_index_or (slice_set g (slice_index_or scope j 0) (ones_of (slice_index_or masks j 0))) (slice_index_or scope k 0) [] ≡ slice_index_or from (slice_index_or scope k 0) []
   same_next k after below = get_or-set_other g (slice_index_or scope j 0) (slice_index_or scope k 0) (ones_of (slice_index_or masks j 0)) [] (different_at scope j k apart (omega arith) below) ∙ on.same k (omega arith) below
 
-  next : (h : Family) (more : List ℕ) → h ≡ slice_set g (slice_index_or scope j 0) (ones_of (slice_index_or masks j 0)) → IsCut more from h → IsCutting scope masks from (j + 1) h more
+  next : (h : Family) (more : List ℕ) → h ≡ slice_set g (slice_index_or scope j 0) (ones_of (slice_index_or masks j 0)) → IsCutAt more from h → IsCutting scope masks from (j + 1) h more
   next h more is cut = record {
     size = ap length is ∙ length-set g (slice_index_or scope j 0) (ones_of (slice_index_or masks j 0)) ∙ on.size;
     rest = ap (replaced (drop (j + 1) scope) (drop (j + 1) (sets_for scope masks))) is ∙ rest_next;
@@ -72,7 +72,7 @@ module _ (scope masks : List ℕ) (from : Family) (j : ℕ) (g : Family) (change
   }
 
   -- the variable had others
-  pub cut_changed : (h : Family) → h ≡ slice_set g (slice_index_or scope j 0) (ones_of (slice_index_or masks j 0)) → size_of h < size_of g → IsCutting scope masks from (j + 1) h (with_member changed (slice_index_or scope j 0))
+  pub cut_changed : (h : Family) → h ≡ slice_set g (slice_index_or scope j 0) (ones_of (slice_index_or masks j 0)) → family_size h < family_size g → IsCutting scope masks from (j + 1) h (with_member changed (slice_index_or scope j 0))
   cut_changed h is less = next h (with_member changed (slice_index_or scope j 0)) is (record {
     differ = λ w small none. differs w small (not_with changed (slice_index_or scope j 0) w small none);
     fewer = inr (shorter on.cut.fewer);
@@ -81,13 +81,13 @@ module _ (scope masks : List ℕ) (from : Family) (j : ℕ) (g : Family) (change
       differs : (w : ℕ) → w < 128 → (has changed w ≡ false) × (slice_index_or scope j 0 ≢ w) → slice_index_or h w [] ≡ slice_index_or from w []
       differs w small parts = ap (λ (f : Family). slice_index_or f w []) is ∙ get_or-set_other g (slice_index_or scope j 0) w (ones_of (slice_index_or masks j 0)) [] (λ e. parts.1 (sym e)) ∙ on.cut.differ w small parts.0
 
-      shorter : AreFewer changed from g → size_of h < size_of from
-      shorter (inl same) = (let size = ap size_of same.1 in omega arith)
+      shorter : AreFewer changed from g → family_size h < family_size from
+      shorter (inl same) = (let size = ap family_size same.1 in omega arith)
       shorter (inr old) = omega arith
 
   -- the variable had the same values
   pub cut_same : (h : Family) → h ≡ slice_set g (slice_index_or scope j 0) (ones_of (slice_index_or masks j 0)) → h ≡ g → IsCutting scope masks from (j + 1) h changed
-  cut_same h is same = next h changed is (subst (IsCut changed from) (sym same) on.cut)
+  cut_same h is same = next h changed is (subst (IsCutAt changed from) (sym same) on.cut)
 
 pub cut_end : (scope masks : List ℕ) (from : Family) (j : ℕ) (g : Family) (changed : List ℕ) → length scope ≤ j → IsCutting scope masks from j g changed → g ≡ replaced scope (sets_for scope masks) from
 cut_end scope masks from j g changed all on = ap (λ (s : List ℕ). replaced s (drop j (sets_for scope masks)) g) (sym (drop_all j scope all)) ∙ on.rest

@@ -1,6 +1,5 @@
 -- Entailed conditions: they stay so, and one more of them.
-use Rattle.propagators.proofs.Prelude.{◌≡◌, ℕ, zero, suc, ◌<◌, ◌/◌, ◌%◌, true, List, length, refl, sym, ◌∙◌, ap, subst, inl, inr, ◌⊎◌, slice_index_or, replicate, both_ways, has, ones_of, list_all, Language, Family, Arc, is_consistent, is_not_empty, IsSubfamily, IsFamilyOf, IsUnderway, IsPropagated, IsEntailed, AreEntailed, is_noted_in, Plan, Entailed}
-use Rattle.propagators.proofs.Ones.{ones_of-zero}
+use Rattle.propagators.proofs.Prelude.{◌≡◌, ℕ, zero, suc, ◌<◌, ◌/◌, ◌%◌, true, List, length, refl, sym, ◌∙◌, ap, subst, inl, inr, ◌⊎◌, slice_index_or, replicate, both_ways, has, ones_of, list_all, Language, Family, Arc, is_consistent, is_not_empty, IsSubfamily, IsFamilyOf, IsUnderway, IsPropagated, IsEntailed, AreEntailed, is_noted_in, Plan, Entailed, ones_of-zero}
 use Rattle.propagators.proofs.Rounds.{sub_sub}
 
 pub entailed_less : (a : Arc) (f g : Family) → IsSubfamily g f → length g ≡ length f → IsEntailed a f → IsEntailed a g

@@ -1,7 +1,7 @@
 -- The masks of the family of the ranges, and families of a language.
-use Rattle.propagators.proofs.Prelude.{◌≡◌, ℕ, zero, suc, ◌+◌, ◌-◌, ◌<◌, ◌≤◌, ◌^◌, Bool, true, false, not, ◌&&◌, List, [], ◌∷◌, length, map, take, drop, replicate, refl, ap, sym, ◌∙◌, arith, inl, inr, ◌⊎◌, length-drop, ◌==◌, ◌≢◌, nat_le, nat_lt, bit_and, slice_index_or, slice_set, All, range_with_len, bit_not, w64, length-set, and_parts, both_ways, cases_eq, cases_lt, eq-eqb, ne_eqb, lt-ltb, le-ltb, le-leb, lt-leb, ltb-true, ltb-false, length-replicate, length-map, length-take, get_or-map, get_or-take, get_or-drop, get_or_past, get_or-replicate, get_or-set_same, get_or-set_other, bit_at_above, fill_by_all, length-map-range_with_len, get_or-map-range_with_len, All-nil, All-cons, All-set, filter_agree_from, is_one, numbers, has, is_in, Language, variable_count, range_of, values_of, any_number, ones_of, Family, IsFamilyOf, filter_front}
+use Rattle.propagators.proofs.Prelude.{◌≡◌, ℕ, zero, suc, ◌+◌, ◌-◌, ◌<◌, ◌≤◌, ◌^◌, Bool, true, false, not, ◌&&◌, List, [], ◌∷◌, length, map, take, drop, replicate, refl, ap, sym, ◌∙◌, arith, inl, inr, ◌⊎◌, length-drop, ◌==◌, ◌≢◌, nat_le, nat_lt, bit_and, slice_index_or, slice_set, All, range_with_len, bit_not, w64, length-set, and_parts, both_ways, cases_eq, cases_lt, eq-eqb, ne_eqb, lt-ltb, le-ltb, le-leb, lt-leb, ltb-true, ltb-false, length-replicate, length-map, length-take, get_or-map, get_or-take, get_or-drop, get_or_past, get_or-replicate, get_or-set_same, get_or-set_other, bit_at_above, fill_by_all, length-map-range_with_len, get_or-map-range_with_len, All-nil, All-cons, All-set, filter_agree_from, is_one, numbers, has, is_in, Language, variable_count, range_of, values_of, any_number, ones_of, Family, IsFamilyOf, filter_front, has-filter, has-ones_of, has_above}
 use Rattle.propagators.specs.InsideDomains.{AreMasks}
-use Rattle.propagators.proofs.Ones.{has-filter, has-ones_of, has_above, has-and_not}
+use Rattle.propagators.proofs.Ones.{has-and_not}
 
 -- ---- the values from one to another
 
@@ -38,7 +38,7 @@ has-between first last more less fits small up_to before x = has-and_not more le
     go : (x < 64) ⊎ (64 ≤ x) → (has (ones_of more) x && not (is_one less x)) ≡ is_between first last x
     go (inl low) = (λ i. most i && not ((sym (has-ones_of less x low) ∙ ap (λ xs. has xs x) before ∙ has-numbers first x) i)) ∙ between_by first last x
     go (inr high) =
-        let none : nat_lt x (last + 1) ≡ false = sym most ∙ has_above more x fits high in
+        let none : nat_lt x (last + 1) ≡ false = sym most ∙ has_above more x high in
         (λ i. (most ∙ none) i && not (is_one less x)) ∙ sym (rw (lt-leb x last (let far = ltb-false x (last + 1) none in omega arith)) (nothing (nat_le first x)))
       where
         nothing : (b : Bool) → (b && false) ≡ false

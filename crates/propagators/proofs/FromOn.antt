@@ -1,6 +1,5 @@
 -- The least member of a set from a number on.
-use Rattle.propagators.proofs.Prelude.{◌≡◌, ℕ, ◌<◌, ◌≤◌, ◌^◌, Bool, true, false, ◌&&◌, refl, sym, ◌∙◌, ap, arith, inl, inr, ◌⊎◌, ◌==◌, nat_le, bit_at, cases_lt, le-leb, lt-leb, and_from, and_parts, both_ways, has, ones_of, is_wanted}
-use Rattle.propagators.proofs.Ones.{ones_of-zero, has-ones_of, has_above}
+use Rattle.propagators.proofs.Prelude.{◌≡◌, ℕ, ◌<◌, ◌≤◌, ◌^◌, Bool, true, false, ◌&&◌, refl, sym, ◌∙◌, ap, arith, inl, inr, ◌⊎◌, ◌==◌, nat_le, bit_at, cases_lt, le-leb, lt-leb, and_from, and_parts, both_ways, has, ones_of, is_wanted, ones_of-zero, has-ones_of, has_above}
 
 and_true : (b : Bool) → (b && true) ≡ b
 and_true true = refl
@@ -13,7 +12,7 @@ module _ (values mask rest x : ℕ) (fits : values < 2 ^ 64) (is : (y : ℕ) →
     where
       go : (z < 64) ⊎ (64 ≤ z) → has (ones_of rest) z ≡ true
       go (inl low) = goes z ∙ and_from _ _ there (sym (has-ones_of mask z low) ∙ is z ∙ and_from _ _ (le-leb x z above) (le-leb z 63 (omega arith)))
-      go (inr high) = absurd (both_ways _ (has_above values z fits high) there)
+      go (inr high) = absurd (both_ways _ (has_above values z high) there)
 
   -- what is left is from x on
   pub rest_from : (y : ℕ) → y < 64 → has (ones_of rest) y ≡ true → x ≤ y

@@ -1,5 +1,5 @@
 -- What is known of a list of candidates, and of one more condition.
-use Rattle.propagators.proofs.Prelude.{◌≡◌, ℕ, zero, suc, ◌+◌, ◌*◌, ◌/◌, ◌%◌, ◌<◌, ◌≤◌, Bool, true, false, ◌-◌, List, [], ◌∷◌, ◌++◌, length, map, take, Option, Some, None, refl, sym, ◌∙◌, ap, subst, arith, inl, inr, ◌⊎◌, slice_index_or, min, list_any, option_map_or, append-nil, length-map, length-append, get_or-take, get_or_append_left, get_or-append_right, length-take-le, take_at, same_lists, length-range_with_len, list_all-append, AllPass-from_list_all, and_parts, or_left, both_ways, cases_lt, eq-eqb, numbers, has, Candidate, Language, IsLanguage, IsCandidate, variable_count, values_of, scope_of, IsNetwork, AreConstraints, ones_of, Family, Arc, arc_of, arcs_of, is_consistent, is_arc_consistent, largest, AreSettled, IsApart, IsApartAt, IsBriefOf, bound_at, AreApart, AreTakenIn, AreNarrow, HasApart, IsParted, IsPlanOf, is_with, IsSettledBut, IsPropagated, RunsEmpty, all_values, IsRoot, IsRootBefore, Brief}
+use Rattle.propagators.proofs.Prelude.{◌≡◌, ℕ, zero, suc, ◌+◌, ◌*◌, ◌/◌, ◌%◌, ◌<◌, ◌≤◌, Bool, true, false, ◌-◌, List, [], ◌∷◌, ◌++◌, length, map, take, Option, Some, None, refl, sym, ◌∙◌, ap, subst, arith, inl, inr, ◌⊎◌, slice_index_or, min, list_any, option_map_or, append-nil, length-map, length-append, get_or-take, get_or_append_left, get_or-append_right, length-take-le, take_at, same_lists, length-range_with_len, list_all-append, AllPass-from_list_all, and_parts, or_left, both_ways, cases_lt, eq-eqb, numbers, has, Candidate, Language, IsLanguage, IsCandidate, variable_count, values_of, scope_of, IsNetwork, AreConstraints, ones_of, Family, Arc, arc_of, arcs_of, is_consistent, is_arc_consistent, largest, AreSettled, IsApart, IsApartAt, IsBriefOf, bound_at, AreApartSoFar, AreTakenIn, AreNarrow, HasApart, IsParted, IsPlanOf, is_with, IsSettledBut, IsPropagated, RunsEmpty, all_values, IsRoot, IsRootBefore, Brief}
 use Rattle.propagators.specs.declared.plan.Plan.{Plan}
 use Rattle.propagators.proofs.Pruned.{largest_is}
 use Rattle.propagators.proofs.Living.{full_above, largest_long}
@@ -135,7 +135,7 @@ taken_front l arcs from p some room is = record {
       (is.limits k j a b (omega arith) (within k low) (subst (λ (c : Arc). j < length c.scope) (sym (at k a low)) below));
   noted = λ k v a b low h. noted k b (is.noted k v a b (within k low) (let words = p.room in omega arith) (ap (λ (c : Arc). has c.scope v) (at k a low) ∙ h));
   parted = λ k b low. is.parted k b (omega arith) (within k low);
-  apart = subst (AreApart p.briefs.items p.aparts.items) (let long = length-take-le from arcs some in omega arith) is.apart;
+  apart = subst (AreApartSoFar p.briefs.items p.aparts.items) (let long = length-take-le from arcs some in omega arith) is.apart;
 }
   where
     at : (k : ℕ) (a : Arc) → k < from → slice_index_or (take from arcs) k a ≡ slice_index_or arcs k a

@@ -1,5 +1,5 @@
 -- Bounded conditions stay consistent while a variable keeps more values than its limit.
-use Rattle.propagators.proofs.Prelude.{◌≡◌, ℕ, zero, suc, ◌+◌, ◌<◌, ◌≤◌, Bool, true, false, ◌||◌, List, [], ◌∷◌, length, refl, sym, ◌∙◌, ap, subst, arith, inl, inr, ◌⊎◌, ◌==◌, ◌≢◌, slice_index_or, slice_set, All, list_any, list_all, get_or-set_same, get_or-set_other, both_ways, cases_eq, eq-eqb, eqb-true, or_left, or_cases, has, Family, Arc, sets_on, is_consistent, is_not_empty, size_of, AreBelow, IsFamilyOf, AreDifferent, AreSettled, IsWithin, IsThrough, IsRevised, HasMore, IsBounded, IsNarrowed, IsLooked, AreLimits, AgreeInside, by_pair, IsPairOf, IsApartOf, IsBriefOf, AreBriefs, at_place, bound_at, Language, PairBounds, Pair, Brief}
+use Rattle.propagators.proofs.Prelude.{◌≡◌, ℕ, zero, suc, ◌+◌, ◌<◌, ◌≤◌, Bool, true, false, ◌||◌, List, [], ◌∷◌, length, refl, sym, ◌∙◌, ap, subst, arith, inl, inr, ◌⊎◌, ◌==◌, ◌≢◌, slice_index_or, slice_set, All, list_any, list_all, get_or-set_same, get_or-set_other, both_ways, cases_eq, eq-eqb, eqb-true, or_left, or_cases, has, Family, Arc, sets_on, is_consistent, is_not_empty, family_size, AreBelow, IsFamilyOf, AreDifferent, AreSettled, IsWithin, IsThrough, IsRevised, HasMore, IsBounded, IsNarrowed, IsLooked, AreLimits, AgreeInside, by_pair, IsPairOf, IsApartOf, IsBriefOf, AreBriefs, at_place, bound_at, Language, PairBounds, Pair, Brief}
 use Rattle.propagators.specs.declared.briefs.Brief.TheVariants.{Two, Apart, Other}
 use Rattle.propagators.proofs.Pruned.{consistent, supporting}
 use Rattle.propagators.proofs.Replacing.{supported_through, through_supported, member_place}
@@ -8,6 +8,7 @@ use Rattle.propagators.proofs.Loose.{in_row, in_column, more_less, bounded_consi
 use Rattle.propagators.proofs.Conditions.{IsOver}
 use Rattle.propagators.proofs.Standing.{consistent_as, agree_back}
 use Rattle.propagators.proofs.Beside.{narrowed_others, apart_of}
+use Rattle.std.proofs.lemmas.Bool.{or_parts}
 
 none : Arc
 none = record { scope = []; accepted = λ tuple. true }
@@ -92,7 +93,7 @@ bounded_stays d a f g v limits few pair different below others part more there o
 
 -- a variable lost values, and has more than its limit
 pub beside_lazy : (l : Language) (arcs : List Arc) (i : ℕ) (waiting : List ℕ) (f g : Family) (v : ℕ) (pass : ℕ → Bool) (limits : List ℕ) → l.value_count ≤ 128 → AreSmall arcs → ((k : ℕ) (a : Arc) → k < length arcs → AreDifferent (slice_index_or arcs k a).scope) → i < length arcs →
-    list_all is_not_empty f ≡ true → ((a : Arc) → IsRevised (slice_index_or arcs i a) f g) → IsNarrowed v pass f g → size_of g < size_of f → IsFamilyOf l f → HasMore (slice_index_or limits v 0) (slice_index_or g v []) →
+    list_all is_not_empty f ≡ true → ((a : Arc) → IsRevised (slice_index_or arcs i a) f g) → IsNarrowed v pass f g → family_size g < family_size f → IsFamilyOf l f → HasMore (slice_index_or limits v 0) (slice_index_or g v []) →
     ((k : ℕ) (a : Arc) → k < length arcs → has (slice_index_or arcs k a).scope v ≡ true → IsCapped l (slice_index_or arcs k a) limits) → IsLooked arcs i waiting waiting f g
 beside_lazy l arcs i waiting f g v pass limits few small different low full to narrowed less family more capped = record {
   underway = underway_step arcs f f g i none low (underway_begin arcs f full) (to none);
@@ -129,10 +130,6 @@ beside_lazy l arcs i waiting f g v pass limits few small different low full to n
         (consistent_as l f arc.scope arc.accepted pair.by family.within (agree_back l arc.scope pair.by arc.accepted pair.agree) ok))
 
 -- ---- the limits of variables
-
-no_or : (a b : Bool) → (a || b) ≡ false → (a ≡ false) × (b ≡ false)
-no_or true b h = cc
-no_or false b h = (refl, h)
 
 -- the conditions of a variable whose limit is below 64 are bounded ones on two variables
 pub capped : (l : Language) (arcs : List Arc) (briefs : List Brief) (limits : List ℕ) → AreBriefs l arcs briefs → AreLimits arcs briefs limits →
@@ -189,8 +186,8 @@ limits_next arcs briefs limits raised scope i new room is there grows old k j a 
 
 untouched_at : (changed scope : List ℕ) → list_any (has changed) scope ≡ false → (j e : ℕ) → j < length scope → has changed (slice_index_or scope j e) ≡ false
 untouched_at changed [] none j e low = absurd (omega arith)
-untouched_at changed (v ∷ scope) none zero e low = (no_or (has changed v) (list_any (has changed) scope) none).0
-untouched_at changed (v ∷ scope) none (suc j) e low = untouched_at changed scope (no_or (has changed v) (list_any (has changed) scope) none).1 j e (omega arith)
+untouched_at changed (v ∷ scope) none zero e low = (or_parts (has changed v) (list_any (has changed) scope) none).0
+untouched_at changed (v ∷ scope) none (suc j) e low = untouched_at changed scope (or_parts (has changed v) (list_any (has changed) scope) none).1 j e (omega arith)
 
 head_there : (scope : List ℕ) → 1 ≤ length scope → has scope (slice_index_or scope 0 0) ≡ true
 head_there [] some = absurd (omega arith)

@@ -27,3 +27,5 @@ pub mod Looking
 pub mod Fixed
 pub mod FromOn
 pub mod Along
+pub mod Steps
+pub mod Words

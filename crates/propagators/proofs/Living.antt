@@ -1,6 +1,7 @@
 -- A prefix is alive where no set of the largest consistent subfamily of its values is empty.
-use Rattle.propagators.proofs.Prelude.{◌≡◌, ℕ, zero, suc, ◌+◌, Bool, true, false, cond, ◌&&◌, ◌||◌, List, [], ◌∷◌, length, map, refl, sym, ◌∙◌, ap, subst, arith, inl, inr, ◌⊎◌, ◌==◌, All, slice_index_or, filter, list_any, list_all, flat_map, list_any-append, Any-from_list_any, All-head, All-tail, All-nil, All-cons, All-append, All-map, All-weaker, All-filter, filter_passes, and_parts, and_from, or_left, or_right, or_cases, has, Family, Arc, subsets, is_not_empty, left_by, families_within, arcs_of, is_arc_consistent, IsSubfamily, is_supported, prune_from, prune, size_of, pruned, largest, LargestTells, any-filter, any-map, any-flat_map}
+use Rattle.propagators.proofs.Prelude.{◌≡◌, ℕ, zero, suc, ◌+◌, Bool, true, false, cond, ◌&&◌, ◌||◌, List, [], ◌∷◌, length, map, refl, sym, ◌∙◌, ap, subst, arith, inl, inr, ◌⊎◌, ◌==◌, All, slice_index_or, filter, list_any, list_all, flat_map, list_any-append, Any-from_list_any, All-head, All-tail, All-nil, All-cons, All-append, All-map, All-weaker, All-filter, filter_passes, and_parts, and_from, or_left, or_right, or_cases, has, Family, Arc, subsets, is_not_empty, left_by, families_within, arcs_of, is_arc_consistent, IsSubfamily, is_supported, prune_from, prune, family_size, pruned, largest, LargestTells, any-filter, any-map, any-flat_map}
 use Rattle.propagators.proofs.Pruned.{largest_is, has_head}
+use Rattle.shared_lemmas.proofs.Booleans.{both_true}
 
 -- ---- the families within another one lie within its sets, and no set is empty
 
@@ -137,13 +138,8 @@ a_family p (ys ∷ from) (xs ∷ f) cuts full at =
 
 -- ---- together
 
-true_both : (a b : Bool) → (a ≡ true → b ≡ true) → (b ≡ true → a ≡ true) → a ≡ b
-true_both true b h k = sym (h refl)
-true_both false true h k = k refl
-true_both false false h k = refl
-
 pub living : (arcs : List Arc) (from : Family) → list_any (is_arc_consistent arcs) (families_within from) ≡ list_all is_not_empty (largest arcs from)
-living arcs from = true_both _ _ (λ some.
+living arcs from = both_true _ _ (λ some.
     let found = Any-from_list_any (is_arc_consistent arcs) (families_within from) some in
     let is = choices from found.0 found.1 found.2 in
     let f : Family = slice_index_or (families_within from) found.0 found.1 in
@@ -153,10 +149,10 @@ living arcs from = true_both _ _ (λ some.
     (λ full. a_family (is_arc_consistent arcs) from (largest arcs from) cuts full (largest_is arcs from).consistent)
   where
     cuts : AreCuts from (largest arcs from)
-    cuts = cuts_pruned (size_of from) arcs from from (cuts_whole from)
+    cuts = cuts_pruned (family_size from) arcs from from (cuts_whole from)
 
 pub largest_long : (arcs : List Arc) (f : Family) → length (largest arcs f) ≡ length f
-largest_long arcs f = sym (cuts_long f (largest arcs f) (cuts_pruned (size_of f) arcs f f (cuts_whole f)))
+largest_long arcs f = sym (cuts_long f (largest arcs f) (cuts_pruned (family_size f) arcs f f (cuts_whole f)))
 
 pub largest_tells : LargestTells
 largest_tells l list against e = living (arcs_of l list against) (left_by l e)

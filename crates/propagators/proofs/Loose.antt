@@ -1,6 +1,5 @@
 -- Conditions that take nothing away while their two variables have more values than they reject.
-use Rattle.propagators.proofs.Prelude.{◌≡◌, ℕ, zero, suc, ◌+◌, ◌<◌, ◌≤◌, Bool, true, false, cond, ◌&&◌, ◌||◌, not, List, [], ◌∷◌, length, take, refl, sym, ◌∙◌, ap, subst, arith, inl, inr, ◌⊎◌, lit≤, ◌==◌, ◌≢◌, slice_index_or, All, filter, range_with_len, list_any, list_all, bit_at, take_more, take_all, All-head, All-tail, All-push, and_parts, and_from, or_right, or_cases, both_ways, not-true, cases_eq, eq-eqb, eqb-true, numbers, has, set_where, minus, is_within, IsSet, has-set_where, filter_agree_from, ones_of, Family, Arc, is_wanted, sets_on, is_consistent, IsThrough, AreBelow, rejected_of, PairBounds, HasTwo, HasMore, IsBounded, filter_front, canonical, rises_filter}
-use Rattle.propagators.proofs.Ones.{has-ones_of, ones_of-passing}
+use Rattle.propagators.proofs.Prelude.{◌≡◌, ℕ, zero, suc, ◌+◌, ◌<◌, ◌≤◌, Bool, true, false, cond, ◌&&◌, ◌||◌, not, List, [], ◌∷◌, length, take, refl, sym, ◌∙◌, ap, subst, arith, inl, inr, ◌⊎◌, lit≤, ◌==◌, ◌≢◌, slice_index_or, All, filter, range_with_len, list_any, list_all, bit_at, take_more, take_all, All-head, All-tail, All-push, and_parts, and_from, or_right, or_cases, both_ways, not-true, cases_eq, eq-eqb, eqb-true, numbers, has, set_where, minus, is_within, IsSet, has-set_where, filter_agree_from, ones_of, Family, Arc, is_wanted, sets_on, is_consistent, IsThrough, AreBelow, rejected_of, PairBounds, HasTwo, HasMore, IsBounded, filter_front, canonical, rises_filter, ones_of-passing, has-ones_of}
 use Rattle.propagators.proofs.Pruned.{consistent, has_head}
 use Rattle.propagators.proofs.Replacing.{through_supported}
 
@@ -151,9 +150,6 @@ wanted_not false b = sym (twice b)
     twice : (b : Bool) → not (not b) ≡ b
     twice true = refl
     twice false = refl
-
-pub rejected_same : (d : ℕ) (p q : ℕ → Bool) → ((x : ℕ) → x < d → p x ≡ q x) → rejected_of d p ≡ rejected_of d q
-rejected_same d p q h = ap length (filter_agree_from (λ x. not (p x)) (λ x. not (q x)) 0 d (λ x from low. ap not (h x (omega arith))))
 
 -- how many of the first d values don't pass a row
 pub row_rejects : (d all rejected row : ℕ) (holding : Bool) → ones_of all ≡ numbers d → ((y : ℕ) → has (ones_of rejected) y ≡ (has (ones_of all) y && is_wanted (not holding) (bit_at row y == 1))) →

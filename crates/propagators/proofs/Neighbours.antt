@@ -1,8 +1,7 @@
 -- Looking at what says that a variable differs from others, neighbour by neighbour.
-use Rattle.propagators.proofs.Prelude.{◌≡◌, ℕ, eqb-true, ◌||◌, ◌+◌, ◌-◌, ◌*◌, ◌/◌, ◌%◌, ◌<◌, ◌≤◌, Bool, true, false, ◌&&◌, not, List, [], ◌∷◌, Option, Some, None, IfSome, IsSome, length, refl, sym, ◌∙◌, ap, subst, arith, inl, inr, ◌⊎◌, ◌==◌, ◌≢◌, slice_index_or, list_any, list_all, both_ways, cases_eq, cases_lt, ne_eqb, div-mul-add, mod-mul-add, or_left, or_right, eq-eqb, has, ones_of, bit_at, Family, Arc, is_consistent, is_not_empty, is_wanted, IsBriefOf, IsEntailed, AreEntailed, Entailed, is_noted_in, is_struck, IsUnderway, AreLeft, IsLooked, AreLooked, IsApart, IsApartAt, AreBothOf, IsParted, is_with, Brief, Pair, Plan, Language}
+use Rattle.propagators.proofs.Prelude.{◌≡◌, ℕ, eqb-true, ◌||◌, ◌+◌, ◌-◌, ◌*◌, ◌/◌, ◌%◌, ◌<◌, ◌≤◌, Bool, true, false, ◌&&◌, not, List, [], ◌∷◌, Option, Some, None, IfSome, IsSome, length, refl, sym, ◌∙◌, ap, subst, arith, inl, inr, ◌⊎◌, ◌==◌, ◌≢◌, slice_index_or, list_any, list_all, both_ways, cases_eq, cases_lt, ne_eqb, div-mul-add, mod-mul-add, or_left, or_right, eq-eqb, has, ones_of, bit_at, Family, Arc, is_consistent, is_not_empty, is_wanted, IsBriefOf, IsEntailed, AreEntailed, Entailed, is_noted_in, is_among_struck, IsUnderway, AreLeft, IsLooked, AreLooked, IsApart, IsApartAt, AreBothOf, IsParted, is_with, Brief, Pair, Plan, Language, ones_of-zero, has-ones_of}
 use Rattle.propagators.specs.Propagated.{IsWholePlanOf}
 use Rattle.propagators.specs.declared.briefs.Brief.TheVariants.{Two, Apart, Other}
-use Rattle.propagators.proofs.Ones.{ones_of-zero, has-ones_of}
 use Rattle.propagators.proofs.Entailing.{entailed_less, entailed_now}
 use Rattle.propagators.proofs.Rounds.{underway_begin, underway_more}
 use Rattle.propagators.proofs.Striking.{apart_at}
@@ -130,7 +129,7 @@ part_word l arcs p whole v h begun from value waiting f beside struck rest e bes
         there : has (ones_of beside) gone.0 ≡ true
         there = ap (λ (m : ℕ). has (ones_of m) gone.0) (beside_is ∙ ap (λ j. slice_index_or p.aparts.items (j * 128 + v) 0) (sym row)) ∙ ap (λ j. has (ones_of (slice_index_or p.aparts.items (u / 64 * 128 + v) 0)) j) (sym bit) ∙ with_v
 
-        struck_there : is_struck e u ≡ true
+        struck_there : is_among_struck e u ≡ true
         struck_there =
             ap (λ j. has (ones_of (slice_index_or e.struck j 0)) (u % 64)) row ∙ ap (λ j. has (ones_of (slice_index_or e.struck h 0)) j) bit ∙ ap (λ (m : ℕ). has (ones_of m) gone.0) (sym struck_is)
             ∙ has-ones_of struck gone.0 gone.1 ∙ taken_out (has (ones_of beside) gone.0) (bit_at struck gone.0 == 1) there (sym (goes gone.0) ∙ gone.3)
@@ -235,7 +234,7 @@ module _ (l : Language) (arcs : List Arc) (p : Plan) (whole : IsWholePlanOf l ar
   part_known = if_some_more value _ _ (λ x old k a low there apart. (let second = second_of l arcs p whole k low a v there apart in old k a second.0 low second.2 (let small = narrow k second.0 a low second.1 in omega arith))) is.known
 
 -- a variable with one value was taken in among those that are struck
-pub struck_more : (arcs : List Arc) (p : Plan) (e more : Entailed) (v : ℕ) (value : Option ℕ) (f g : Family) → IsUnderway arcs f g → AreEntailed arcs p e f → ((k : ℕ) → is_noted_in more k ≡ is_noted_in e k) → ((u : ℕ) → is_struck more u ≡ true → (is_struck e u ≡ true) ⊎ ((u ≡ v) × IsSome value)) →
+pub struck_more : (arcs : List Arc) (p : Plan) (e more : Entailed) (v : ℕ) (value : Option ℕ) (f g : Family) → IsUnderway arcs f g → AreEntailed arcs p e f → ((k : ℕ) → is_noted_in more k ≡ is_noted_in e k) → ((u : ℕ) → is_among_struck more u ≡ true → (is_among_struck e u ≡ true) ⊎ ((u ≡ v) × IsSome value)) →
     IfSome value (λ x. (k : ℕ) (a : Arc) → k < length arcs → has (slice_index_or arcs k a).scope v ≡ true → ((c : Brief) → IsApart (slice_index_or p.briefs.items k c)) → IsEntailed (slice_index_or arcs k a) g) → AreEntailed arcs p more g
 struck_more arcs p e more v value f g to are noted struck known = record {
   noted = λ k a low there. entailed_less (slice_index_or arcs k a) f g to.within to.size (are.noted k a low (sym (noted k) ∙ there));
@@ -244,7 +243,7 @@ struck_more arcs p e more v value f g to are noted struck known = record {
   where
     go : (k u : ℕ) (a : Arc) (b : Brief) → k < length arcs → k < length p.briefs.items → has (slice_index_or arcs k a).scope u ≡ true → IsApart (slice_index_or p.briefs.items k b) → (value : Option ℕ) →
         IfSome value (λ x. (k : ℕ) (a : Arc) → k < length arcs → has (slice_index_or arcs k a).scope v ≡ true → ((c : Brief) → IsApart (slice_index_or p.briefs.items k c)) → IsEntailed (slice_index_or arcs k a) g) →
-        (is_struck e u ≡ true) ⊎ ((u ≡ v) × IsSome value) → IsEntailed (slice_index_or arcs k a) g
+        (is_among_struck e u ≡ true) ⊎ ((u ≡ v) × IsSome value) → IsEntailed (slice_index_or arcs k a) g
     go k u a b low long on apart value known (inl old) = entailed_less (slice_index_or arcs k a) f g to.within to.size (are.struck k u a b low long old on apart)
     go k u a b low long on apart None known (inr new) = absurd (both_ways false refl new.1)
     go k u a b low long on apart (Some x) known (inr new) =

@@ -1,5 +1,5 @@
 -- The masks of a family, read and written.
-use Rattle.propagators.proofs.Prelude.{◌≡◌, ℕ, zero, suc, ◌+◌, ◌^◌, ◌<◌, ◌≤◌, true, not, nat_eq, List, [], ◌∷◌, length, map, take, ap, sym, ◌∙◌, subst, arith, both_ways, not-true, eq-eqb, get_or-take, get_or-map, length-take, length-map, map-set, has, slice_index_or, slice_set, ones_of, Family, sets_on, size_of}
+use Rattle.propagators.proofs.Prelude.{◌≡◌, ℕ, zero, suc, ◌+◌, ◌^◌, ◌<◌, ◌≤◌, true, not, nat_eq, List, [], ◌∷◌, length, map, take, ap, sym, ◌∙◌, subst, arith, both_ways, not-true, eq-eqb, get_or-take, get_or-map, length-take, length-map, map-set, has, slice_index_or, slice_set, ones_of, Family, sets_on, family_size}
 use Rattle.std.proofs.Math.Seq.{take-set-lt}
 use Rattle.propagators.proofs.Ones.{cut_length}
 
@@ -39,13 +39,13 @@ seen_set masks n f v m is low =
     let few = length_seen masks n f is in
     ap (map ones_of) (take-set-lt n masks v m (omega arith)) ∙ map-set ones_of (take n masks) v m ∙ ap (λ (g : Family). slice_set g v (ones_of m)) is
 
-size_set : (f : Family) (v : ℕ) (xs : List ℕ) → v < length f → size_of (slice_set f v xs) + length (slice_index_or f v []) ≡ size_of f + length xs
+size_set : (f : Family) (v : ℕ) (xs : List ℕ) → v < length f → family_size (slice_set f v xs) + length (slice_index_or f v []) ≡ family_size f + length xs
 size_set [] v xs low = absurd (omega arith)
 size_set (ys ∷ f) zero xs low = omega arith
 size_set (ys ∷ f) (suc v) xs low = (let rest = size_set f v xs (omega arith) in omega arith)
 
 pub size_falls : (f : Family) (v had values : ℕ) → v < length f → ones_of had ≡ slice_index_or f v [] → had < 2 ^ 64 → values < 2 ^ 64 →
-    ((x : ℕ) → has (ones_of values) x ≡ true → has (slice_index_or f v []) x ≡ true) → not (nat_eq had values) ≡ true → size_of (slice_set f v (ones_of values)) < size_of f
+    ((x : ℕ) → has (ones_of values) x ≡ true → has (slice_index_or f v []) x ≡ true) → not (nat_eq had values) ≡ true → family_size (slice_set f v (ones_of values)) < family_size f
 size_falls f v had values low is fits small part changed =
     let less = cut_length had values fits small (λ x h. ap (λ xs. has xs x) is ∙ part x h) (λ e. both_ways _ (not-true _ changed) (eq-eqb had values e)) in
     omega (arith, size_set f v (ones_of values) low, ap length is)

@@ -1,111 +1,12 @@
 -- The values of a mask: of none, of the first ones, of those that pass a test.
-use Rattle.propagators.proofs.Prelude.{◌≡◌, ℕ, zero, suc, ◌+◌, ◌-◌, ◌*◌, ◌%◌, ◌<◌, ◌≤◌, ◌^◌, Bool, true, false, cond, ◌&&◌, ◌||◌, not, List, [], ◌∷◌, length, map, refl, sym, ◌∙◌, ap, subst, arith, inl, inr, ◌⊎◌, lit≤, ◌==◌, ◌≢◌, bit_and, bit_or, min, count_ones, All, filter, list_any, list_all, bit_at, bit_not, w64, count_leading_zeros, cases_lt, cases_eq, eqb-true, eq-eqb, ne_eqb, both_ways, All-head, All-tail, pow-le-pow_right, pow-suc, zero_from_ones, or_lt, xor_lt, and_le_l, pow_below, leading_top, bit_at-lt, bit_at_and, bit_at_xor, bit_at_not, bit_at_above, bit_at_cat_high, numbers, has, members_of, mask_of, filter_agree_from, is_one, is_one-or, is_one-pow, has-members_of, has-set_where_above, members_of-ones, length-members_of, any_number, ones_of, is_not_empty, ones_of-members_of, mask_of-ones_of}
+use Rattle.propagators.proofs.Prelude.{◌≡◌, ℕ, zero, suc, ◌+◌, ◌-◌, ◌*◌, ◌%◌, ◌<◌, ◌≤◌, ◌^◌, Bool, true, false, cond, ◌&&◌, ◌||◌, not, List, [], ◌∷◌, length, map, refl, sym, ◌∙◌, ap, subst, arith, inl, inr, ◌⊎◌, lit≤, ◌==◌, ◌≢◌, bit_and, bit_or, min, count_ones, All, filter, list_any, list_all, bit_at, bit_not, w64, count_leading_zeros, cases_lt, cases_eq, eqb-true, eq-eqb, ne_eqb, both_ways, All-head, All-tail, pow-le-pow_right, pow-suc, zero_from_ones, or_lt, xor_lt, and_le_l, pow_below, leading_top, bit_at-lt, bit_at_and, bit_at_xor, bit_at_not, bit_at_above, bit_at_cat_high, numbers, has, members_of, mask_of, filter_agree_from, is_one, is_one-or, is_one-pow, has-members_of, has-set_where_above, members_of-ones, length-members_of, any_number, ones_of, is_not_empty, ones_of-members_of, mask_of-ones_of, ones_of-zero, length-ones_of, no_ones, ones_of-passing, has-filter, has-ones_of, has_above, is_one-and}
 use Rattle.std.specs.Int.Bits.{bit_xor}
 use Rattle.propagators.proofs.Pruned.{filter_less}
-
-pub ones_of-zero : ones_of 0 ≡ []
-unfolding ones_of
-ones_of-zero = refl
-
-pub ones_of-first : (n : ℕ) → n ≤ 64 → ones_of (2 ^ n - 1) ≡ numbers n
-ones_of-first n h = let few : 2 ^ n ≤ 2 ^ 64 = pow-le-pow_right (lit≤ tt) h in ones_of-members_of (2 ^ n - 1) (omega arith) ∙ members_of-ones n (omega arith)
-
-pub length-ones_of : (mask : ℕ) → mask < 2 ^ 64 → length (ones_of mask) ≡ count_ones mask
-length-ones_of mask h = ap length (ones_of-members_of mask h) ∙ length-members_of mask (omega arith)
-
--- a mask without ones is 0
-pub no_ones : (mask : ℕ) → mask < 2 ^ 64 → ones_of mask ≡ [] → mask ≡ 0
-no_ones mask h none = zero_from_ones mask (sym (length-ones_of mask h) ∙ ap length none)
+use Rattle.assign.proofs.Ones.{is_one-and_not}
 
 -- ---- bits as tests
 
-filter_and : (p q : ℕ → Bool) (xs : List ℕ) → filter (λ r. p r && q r) xs ≡ filter q (filter p xs)
-filter_and p q [] = refl
-filter_and p q (x ∷ xs) = go (p x) (filter_and p q xs)
-  where
-    go : (b : Bool) → filter (λ r. p r && q r) xs ≡ filter q (filter p xs) → cond (b && q x) (x ∷ filter (λ r. p r && q r) xs) (filter (λ r. p r && q r) xs) ≡ filter q (cond b (x ∷ filter p xs) (filter p xs))
-    go true rest = ap (λ ys. cond (q x) (x ∷ ys) ys) rest
-    go false rest = rest
-
--- the ones of a mask are those of another that pass a test
-pub ones_of-passing : (mask other : ℕ) (ok : ℕ → Bool) → ((r : ℕ) → r < 64 → is_one mask r ≡ (is_one other r && ok r)) → ones_of mask ≡ filter ok (ones_of other)
-unfolding ones_of
-ones_of-passing mask other ok h = filter_agree_from (is_one mask) (λ r. is_one other r && ok r) 0 64 (λ v low high. h v (omega arith)) ∙ filter_and (is_one other) ok (numbers 64)
-
-has_cond : (b : Bool) (x r : ℕ) (xs : List ℕ) → has (cond b (x ∷ xs) xs) r ≡ ((b && (x == r)) || has xs r)
-has_cond true x r xs = refl
-has_cond false x r xs = refl
-
-pub has-filter : (ok : ℕ → Bool) (xs : List ℕ) (r : ℕ) → has (filter ok xs) r ≡ (has xs r && ok r)
-has-filter ok [] r = refl
-has-filter ok (x ∷ xs) r = has_cond (ok x) x r (filter ok xs) ∙ ap (λ b. (ok x && (x == r)) || b) (has-filter ok xs r) ∙ go (x == r) refl
-  where
-    both : (a b c : Bool) → ((a && true) || (b && a)) ≡ ((true || b) && a)
-    both true b c = refl
-    both false true c = refl
-    both false false c = refl
-
-    other : (a b c : Bool) → ((a && false) || (b && c)) ≡ ((false || b) && c)
-    other true b c = refl
-    other false b c = refl
-
-    go : (e : Bool) → (x == r) ≡ e → ((ok x && e) || (has xs r && ok r)) ≡ ((e || has xs r) && ok r)
-    go true same = let at : x ≡ r = eqb-true x r same in subst (λ (y : ℕ). ((ok x && true) || (has xs r && ok y)) ≡ ((true || has xs r) && ok y)) at (both (ok x) (has xs r) (ok x))
-    go false same = other (ok x) (has xs r) (ok r)
-
-pub has-ones_of : (mask r : ℕ) → r < 64 → has (ones_of mask) r ≡ is_one mask r
-unfolding ones_of
-has-ones_of mask r low = has-filter (is_one mask) (numbers 64) r ∙ ap (λ b. b && is_one mask r) (any_number (λ x. x == r) 64 r low (eq-eqb r r refl))
-
-pub has_above : (mask r : ℕ) → mask < 2 ^ 64 → 64 ≤ r → has (ones_of mask) r ≡ false
-has_above mask r h high = ap (λ xs. has xs r) (ones_of-members_of mask h) ∙ go (cases_lt r 128)
-  where
-    go : (r < 128) ⊎ (128 ≤ r) → has (members_of mask) r ≡ false
-    go (inl low) = has-members_of mask r low ∙ ap (λ x. x == 1) (bit_at_above mask 64 r h high)
-    go (inr far) = has-set_where_above (is_one mask) r far
-
--- where the ones of a mask are those of another that pass, its bits are so
-is_one-passing : (mask other : ℕ) (ok : ℕ → Bool) (r : ℕ) → r < 64 → ones_of mask ≡ filter ok (ones_of other) → is_one mask r ≡ (is_one other r && ok r)
-is_one-passing mask other ok r low is =
-    sym (has-ones_of mask r low) ∙ ap (λ xs. has xs r) is ∙ has-filter ok (ones_of other) r ∙ ap (λ b. b && ok r) (has-ones_of other r low)
-
-and_bits : (x y : ℕ) → x < 2 → y < 2 → (min x (1 - y) == 1) ≡ ((x == 1) && not (y == 1))
-and_bits zero zero h k = refl
-and_bits zero (suc zero) h k = refl
-and_bits (suc zero) zero h k = refl
-and_bits (suc zero) (suc zero) h k = refl
-and_bits zero (suc (suc y)) h k = absurd (omega arith)
-and_bits (suc zero) (suc (suc y)) h k = absurd (omega arith)
-and_bits (suc (suc x)) y h k = absurd (omega arith)
-
-is_one-and_not : (a b r : ℕ) → b < 2 ^ 64 → r < 64 → is_one (bit_and a (bit_not w64 b)) r ≡ (is_one a r && not (is_one b r))
-is_one-and_not a b r h low =
-    ap (λ x. x == 1) (bit_at_and a (bit_not w64 b) r ∙ ap (min (bit_at a r)) (bit_at_not w64 b r h low))
-    ∙ and_bits (bit_at a r) (bit_at b r) (bit_at-lt a r) (bit_at-lt b r)
-
-rest_of : (one fails : Bool) → (one && not (one && fails)) ≡ (one && not fails)
-rest_of true fails = refl
-rest_of false fails = refl
-
--- without those that fail a test, those that pass it are left
-pub ones_of-and_not : (relations failing : ℕ) (fails : ℕ → Bool) → failing < 2 ^ 64 → ones_of failing ≡ filter fails (ones_of relations) →
-    ones_of (bit_and relations (bit_not w64 failing)) ≡ filter (λ r. not (fails r)) (ones_of relations)
-ones_of-and_not relations failing fails small is = ones_of-passing _ relations (λ r. not (fails r)) (λ r low.
-    is_one-and_not relations failing r small low ∙ ap (λ b. is_one relations r && not b) (is_one-passing failing relations fails r low is) ∙ rest_of (is_one relations r) (fails r))
-
 -- ---- single values
-
-pub is_one-and : (a b x : ℕ) → is_one (bit_and a b) x ≡ (is_one a x && is_one b x)
-is_one-and a b x = ap (λ y. y == 1) (bit_at_and a b x) ∙ both (bit_at a x) (bit_at b x) (bit_at-lt a x) (bit_at-lt b x)
-  where
-    both : (x y : ℕ) → x < 2 → y < 2 → (min x y == 1) ≡ ((x == 1) && (y == 1))
-    both zero zero h k = refl
-    both zero (suc zero) h k = refl
-    both (suc zero) zero h k = refl
-    both (suc zero) (suc zero) h k = refl
-    both zero (suc (suc y)) h k = absurd (omega arith)
-    both (suc zero) (suc (suc y)) h k = absurd (omega arith)
-    both (suc (suc x)) y h k = absurd (omega arith)
 
 -- the members of a mask by its bits, also past the last one
 has_by_bits : (mask x : ℕ) (b : Bool) → mask < 2 ^ 64 → (x < 64 → is_one mask x ≡ b) → (64 ≤ x → b ≡ false) → has (ones_of mask) x ≡ b
@@ -113,7 +14,7 @@ has_by_bits mask x b fits low high = go (cases_lt x 64)
   where
     go : (x < 64) ⊎ (64 ≤ x) → has (ones_of mask) x ≡ b
     go (inl h) = has-ones_of mask x h ∙ low h
-    go (inr h) = has_above mask x fits h ∙ sym (high h)
+    go (inr h) = has_above mask x h ∙ sym (high h)
 
 and_no : (b c : Bool) → b ≡ false → (b && c) ≡ false
 and_no true c h = cc
@@ -122,7 +23,7 @@ and_no false c h = refl
 pub has-either : (a b x : ℕ) → a < 2 ^ 64 → b < 2 ^ 64 → has (ones_of (bit_or a b)) x ≡ (has (ones_of a) x || has (ones_of b) x)
 has-either a b x fa fb = has_by_bits (bit_or a b) x (has (ones_of a) x || has (ones_of b) x) (or_lt 64 a b fa fb)
     (λ low. is_one-or a b x ∙ sym (λ i. has-ones_of a x low i || has-ones_of b x low i))
-    (λ high. (λ i. has_above a x fa high i || has_above b x fb high i))
+    (λ high. (λ i. has_above a x high i || has_above b x high i))
 
 pub has-one : (x y : ℕ) → x < 64 → has (ones_of (2 ^ x)) y ≡ (x == y)
 has-one x y small = has_by_bits (2 ^ x) y (x == y) (pow_below x 64 small) (λ low. is_one-pow x y) (λ high. ne_eqb x y (λ e. omega arith))
@@ -130,17 +31,17 @@ has-one x y small = has_by_bits (2 ^ x) y (x == y) (pow_below x 64 small) (λ lo
 pub has-without : (a x y : ℕ) → a < 2 ^ 64 → x < 64 → has (ones_of (bit_and a (bit_not w64 (2 ^ x)))) y ≡ (has (ones_of a) y && not (x == y))
 has-without a x y fits small = has_by_bits _ y _ (let le = and_le_l a (bit_not w64 (2 ^ x)) in omega arith)
     (λ low. is_one-and_not a (2 ^ x) y (pow_below x 64 small) low ∙ (λ i. sym (has-ones_of a y low) i && not (is_one-pow x y i)))
-    (λ high. and_no _ _ (has_above a y fits high))
+    (λ high. and_no _ _ (has_above a y high))
 
 pub has-and : (a b x : ℕ) → a < 2 ^ 64 → has (ones_of (bit_and a b)) x ≡ (has (ones_of a) x && is_one b x)
 has-and a b x fits = has_by_bits (bit_and a b) x (has (ones_of a) x && is_one b x) (let le = and_le_l a b in omega arith)
     (λ low. is_one-and a b x ∙ ap (λ q. q && is_one b x) (sym (has-ones_of a x low)))
-    (λ high. and_no _ _ (has_above a x fits high))
+    (λ high. and_no _ _ (has_above a x high))
 
 pub has-and_not : (a b x : ℕ) → a < 2 ^ 64 → b < 2 ^ 64 → has (ones_of (bit_and a (bit_not w64 b))) x ≡ (has (ones_of a) x && not (is_one b x))
 has-and_not a b x fits small = has_by_bits (bit_and a (bit_not w64 b)) x (has (ones_of a) x && not (is_one b x)) (let le = and_le_l a (bit_not w64 b) in omega arith)
     (λ low. is_one-and_not a b x small low ∙ ap (λ q. q && not (is_one b x)) (sym (has-ones_of a x low)))
-    (λ high. and_no _ _ (has_above a x fits high))
+    (λ high. and_no _ _ (has_above a x high))
 
 pub less-without : (a x : ℕ) → a < 2 ^ 64 → x < 64 → has (ones_of a) x ≡ true → bit_and a (bit_not w64 (2 ^ x)) < a
 less-without a x fits small there =
@@ -175,7 +76,7 @@ none_lower mask least x fits below there = go (cases_lt x least) (cases_lt x 64)
     go : (x < least) ⊎ (least ≤ x) → (x < 64) ⊎ (64 ≤ x) → least ≤ x
     go (inr le) small = le
     go (inl lt) (inl small) = absurd (both_ways _ (has-ones_of mask x small ∙ ap (λ y. y == 1) (below x lt)) there)
-    go (inl lt) (inr large) = absurd (both_ways _ (has_above mask x fits large) there)
+    go (inl lt) (inr large) = absurd (both_ways _ (has_above mask x large) there)
 
 -- the place of the highest one
 pub highest : (mask : ℕ) → 0 < mask → mask < 2 ^ 64 → (j : ℕ) × (count_leading_zeros 64 mask + suc j ≡ 64) × (has (ones_of mask) j ≡ true) × ((x : ℕ) → has (ones_of mask) x ≡ true → x ≤ j)
@@ -195,7 +96,7 @@ highest mask some fits =
         go : (j < x) ⊎ (x ≤ j) → (x < 64) ⊎ (64 ≤ x) → x ≤ j
         go (inr le) small = le
         go (inl lt) (inl small) = absurd (both_ways _ (has-ones_of mask x small ∙ ap (λ y. y == 1) (bit_at_above mask (suc j) x high (omega arith))) there)
-        go (inl lt) (inr large) = absurd (both_ways _ (has_above mask x fits large) there)
+        go (inl lt) (inr large) = absurd (both_ways _ (has_above mask x large) there)
 
 pub none_in : (a : ℕ) → a ≡ 0 → is_not_empty (ones_of a) ≡ false
 none_in a e = ap (λ m. is_not_empty (ones_of m)) e ∙ ap is_not_empty ones_of-zero
@@ -246,14 +147,10 @@ is_zero a fits = go (cases_eq a 0)
     go (inl e) = eq-eqb a 0 e ∙ sym (ap not (none_in a e))
     go (inr ne) = ne_eqb a 0 ne ∙ sym (ap not (some_in a fits ne))
 
-pub not_false : (b : Bool) → not b ≡ false → b ≡ true
-not_false true h = refl
-not_false false h = cc
-
 pub no_common : (a b : ℕ) → a < 2 ^ 64 → b < 2 ^ 64 → (bit_and a b == 0) ≡ true → (x : ℕ) → has (ones_of a) x ≡ true → has (ones_of b) x ≡ true → ⊥
 no_common a b fa fb none x in_a in_b = both_ways _ (ap (λ m. has (ones_of m) x) (eqb-true (bit_and a b) 0 none) ∙ ap (λ xs. has xs x) ones_of-zero)
     (has-and a b x fa ∙ (λ i. in_a i && one (cases_lt x 64) i))
   where
     one : (x < 64) ⊎ (64 ≤ x) → is_one b x ≡ true
     one (inl low) = sym (has-ones_of b x low) ∙ in_b
-    one (inr high) = absurd (both_ways _ (has_above b x fb high) in_b)
+    one (inr high) = absurd (both_ways _ (has_above b x high) in_b)

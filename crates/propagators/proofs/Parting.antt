@@ -1,8 +1,7 @@
 -- Noting conditions, and variables that have to differ.
-use Rattle.propagators.proofs.Prelude.{◌≡◌, ℕ, ◌+◌, ◌*◌, ◌/◌, ◌%◌, ◌<◌, ◌≤◌, true, List, [], ◌∷◌, length, All, sym, ◌∙◌, ap, subst, arith, inl, inr, ◌⊎◌, ◌||◌, ◌==◌, ◌≢◌, refl, replicate, slice_index_or, slice_set, get_or-replicate, get_or_past, length-replicate, get_or-set_same, get_or-set_other, or_cases, or_left, or_right, both_ways, cases_eq, cases_lt, eq-eqb, eqb-true, has, ones_of, Arc, Brief, Pair, IsApart, IsApartAt, IsParted, AreApart, HasApart, is_with}
+use Rattle.propagators.proofs.Prelude.{◌≡◌, ℕ, ◌+◌, ◌*◌, ◌/◌, ◌%◌, ◌<◌, ◌≤◌, true, List, [], ◌∷◌, length, All, sym, ◌∙◌, ap, subst, arith, inl, inr, ◌⊎◌, ◌||◌, ◌==◌, ◌≢◌, refl, replicate, slice_index_or, slice_set, get_or-replicate, get_or_past, length-replicate, get_or-set_same, get_or-set_other, or_cases, or_left, or_right, both_ways, cases_eq, cases_lt, eq-eqb, eqb-true, has, ones_of, Arc, Brief, Pair, IsApart, IsApartAt, IsParted, AreApartSoFar, HasApart, is_with, ones_of-zero}
 use Rattle.propagators.specs.Briefs.{AreBothOf}
 use Rattle.propagators.specs.declared.briefs.Brief.TheVariants.{Two, Apart, Other}
-use Rattle.propagators.proofs.Ones.{ones_of-zero}
 use Rattle.propagators.proofs.Cutting.{member_at}
 use Rattle.propagators.proofs.Replacing.{member_place}
 
@@ -134,11 +133,11 @@ has_apart_still briefs i new v u has_one = record {
   is = λ b. subst (λ (c : Brief). IsApartAt c v u) (sym (get_or-set_other briefs i has_one.place new b (λ e. (let low = has_one.low in absurd (omega arith))))) (has_one.is b);
 }
 
-pub apart_over : (briefs : List Brief) (aparts : List ℕ) (i : ℕ) (new : Brief) → AreApart briefs aparts i → AreApart (slice_set briefs i new) aparts (i + 1)
+pub apart_over : (briefs : List Brief) (aparts : List ℕ) (i : ℕ) (new : Brief) → AreApartSoFar briefs aparts i → AreApartSoFar (slice_set briefs i new) aparts (i + 1)
 apart_over briefs aparts i new old v u few h = has_apart_still briefs i new v u (old v u few h)
 
 pub apart_next : (briefs : List Brief) (aparts more : List ℕ) (i : ℕ) (p : Pair) → i < length briefs →
-    ((v u : ℕ) → v < 128 → is_with more v u ≡ true → (is_with aparts v u ≡ true) ⊎ AreBothOf p v u) → AreApart briefs aparts i → AreApart (slice_set briefs i (Apart p)) more (i + 1)
+    ((v u : ℕ) → v < 128 → is_with more v u ≡ true → (is_with aparts v u ≡ true) ⊎ AreBothOf p v u) → AreApartSoFar briefs aparts i → AreApartSoFar (slice_set briefs i (Apart p)) more (i + 1)
 apart_next briefs aparts more i p room only old v u few h = go (only v u few h)
   where
     go : (is_with aparts v u ≡ true) ⊎ AreBothOf p v u → HasApart (slice_set briefs i (Apart p)) (i + 1) v u

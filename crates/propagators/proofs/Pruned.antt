@@ -1,5 +1,5 @@
 -- Pruning a family comes to its largest arc-consistent subfamily.
-use Rattle.propagators.proofs.Prelude.{◌≡◌, ℕ, zero, suc, ◌+◌, ◌<◌, ◌≤◌, Bool, true, false, cond, ◌&&◌, ◌||◌, not, List, [], ◌∷◌, length, map, refl, sym, ◌∙◌, ap, arith, inl, inr, ◌⊎◌, ◌==◌, slice_index, slice_index_or, filter, list_any, list_all, range_with_len, get_or-map, get_or-range_with_len, list_all-from_AllPass, AllPass-from_list_all, and_parts, and_from, or_left, or_right, or_cases, both_ways, eq-eqb, eqb-true, numbers, has, Family, Arc, selections, sets_on, has_support, is_consistent, is_arc_consistent, IsSubfamily, is_supported, prune_from, prune, size_of, pruned, largest, LargestIs, LargestIsOne, LargestAgain, any-map, any-flat_map}
+use Rattle.propagators.proofs.Prelude.{◌≡◌, ℕ, zero, suc, ◌+◌, ◌<◌, ◌≤◌, Bool, true, false, cond, ◌&&◌, ◌||◌, not, List, [], ◌∷◌, length, map, refl, sym, ◌∙◌, ap, arith, inl, inr, ◌⊎◌, ◌==◌, slice_index, slice_index_or, filter, list_any, list_all, range_with_len, get_or-map, get_or-range_with_len, list_all-from_AllPass, AllPass-from_list_all, and_parts, and_from, or_left, or_right, or_cases, both_ways, eq-eqb, eqb-true, numbers, has, Family, Arc, selections, sets_on, has_support, is_consistent, is_arc_consistent, IsSubfamily, is_supported, prune_from, prune, family_size, pruned, largest, LargestIs, LargestIsOne, LargestAgain, any-map, any-flat_map}
 use Rattle.language.proofs.Lists.{all_below}
 
 length-range : (a n : ℕ) → length (range_with_len a n) ≡ n
@@ -192,31 +192,31 @@ filter_less p (x ∷ xs) = go (p x) (filter_less p xs)
     go true (inr less) = inr (omega arith)
     go false rest = inr (shorter rest)
 
-prune_less : (arcs : List Arc) (whole : Family) (a : ℕ) (f : Family) → (prune_from arcs whole a f ≡ f) ⊎ (size_of (prune_from arcs whole a f) < size_of f)
+prune_less : (arcs : List Arc) (whole : Family) (a : ℕ) (f : Family) → (prune_from arcs whole a f ≡ f) ⊎ (family_size (prune_from arcs whole a f) < family_size f)
 prune_less arcs whole a [] = inl refl
 prune_less arcs whole a (xs ∷ f) = go (filter_less (is_supported arcs whole a) xs) (prune_less arcs whole (a + 1) f)
   where
     go : (filter (is_supported arcs whole a) xs ≡ xs) ⊎ (length (filter (is_supported arcs whole a) xs) < length xs) →
-        (prune_from arcs whole (a + 1) f ≡ f) ⊎ (size_of (prune_from arcs whole (a + 1) f) < size_of f) →
-        ((filter (is_supported arcs whole a) xs ∷ prune_from arcs whole (a + 1) f) ≡ xs ∷ f) ⊎ (size_of (filter (is_supported arcs whole a) xs ∷ prune_from arcs whole (a + 1) f) < size_of (xs ∷ f))
+        (prune_from arcs whole (a + 1) f ≡ f) ⊎ (family_size (prune_from arcs whole (a + 1) f) < family_size f) →
+        ((filter (is_supported arcs whole a) xs ∷ prune_from arcs whole (a + 1) f) ≡ xs ∷ f) ⊎ (family_size (filter (is_supported arcs whole a) xs ∷ prune_from arcs whole (a + 1) f) < family_size (xs ∷ f))
     go (inl same) (inl rest) = inl (λ i. same i ∷ rest i)
     go (inl same) (inr less) = inr (omega (arith, ap length same))
-    go (inr less) (inl rest) = inr (omega (arith, ap size_of rest))
+    go (inr less) (inl rest) = inr (omega (arith, ap family_size rest))
     go (inr less) (inr lesser) = inr (omega arith)
 
 stays : (k : ℕ) (arcs : List Arc) (f : Family) → prune arcs f ≡ f → pruned k arcs f ≡ f
 stays zero arcs f same = refl
 stays (suc k) arcs f same = ap (pruned k arcs) same ∙ stays k arcs f same
 
-fixed_after : (k : ℕ) (arcs : List Arc) (f : Family) → size_of f ≤ k → prune arcs (pruned k arcs f) ≡ pruned k arcs f
+fixed_after : (k : ℕ) (arcs : List Arc) (f : Family) → family_size f ≤ k → prune arcs (pruned k arcs f) ≡ pruned k arcs f
 fixed_after zero arcs f few = go (prune_less arcs f 0 f)
   where
-    go : (prune arcs f ≡ f) ⊎ (size_of (prune arcs f) < size_of f) → prune arcs f ≡ f
+    go : (prune arcs f ≡ f) ⊎ (family_size (prune arcs f) < family_size f) → prune arcs f ≡ f
     go (inl same) = same
     go (inr less) = absurd (omega arith)
 fixed_after (suc k) arcs f few = go (prune_less arcs f 0 f) (λ less. fixed_after k arcs (prune arcs f) (omega arith))
   where
-    go : (prune arcs f ≡ f) ⊎ (size_of (prune arcs f) < size_of f) → (size_of (prune arcs f) < size_of f → prune arcs (pruned k arcs (prune arcs f)) ≡ pruned k arcs (prune arcs f)) →
+    go : (prune arcs f ≡ f) ⊎ (family_size (prune arcs f) < family_size f) → (family_size (prune arcs f) < family_size f → prune arcs (pruned k arcs (prune arcs f)) ≡ pruned k arcs (prune arcs f)) →
         prune arcs (pruned k arcs (prune arcs f)) ≡ pruned k arcs (prune arcs f)
     go (inl same) rest = ap (λ g. prune arcs (pruned k arcs g)) same ∙ ap (prune arcs) (stays k arcs f same) ∙ same ∙ sym (ap (pruned k arcs) same ∙ stays k arcs f same)
     go (inr less) rest = rest less
@@ -231,9 +231,9 @@ pruned_greatest (suc k) arcs f other sub ok = pruned_greatest k arcs (prune arcs
 
 pub largest_is : LargestIs
 largest_is arcs family =
-    let fixed = fixed_after (size_of family) arcs family (omega arith) in
+    let fixed = fixed_after (family_size family) arcs family (omega arith) in
     record {
-      within = pruned_within (size_of family) arcs family;
+      within = pruned_within (family_size family) arcs family;
       consistent = each_supported arcs (largest arcs family) (λ v x here. prune_supported arcs (largest arcs family) v x (ap (λ g. has (slice_index_or g v []) x) fixed ∙ here));
-      greatest = λ other sub ok. pruned_greatest (size_of family) arcs family other sub ok;
+      greatest = λ other sub ok. pruned_greatest (family_size family) arcs family other sub ok;
     }

@@ -1,6 +1,7 @@
 -- A family in which the sets of a scope's variables are replaced by their supported values.
 use Rattle.propagators.proofs.Prelude.{◌≡◌, ℕ, zero, suc, ◌<◌, ◌≤◌, Bool, true, false, ◌&&◌, ◌||◌, List, [], ◌∷◌, length, map, refl, sym, ◌∙◌, ap, subst, arith, inl, inr, ◌⊎◌, ◌==◌, slice_index_or, slice_set, All, list_any, list_all, length-set, get_or-set_same, get_or-set_other, get_or-map, All-head, All-tail, and_parts, and_from, or_left, or_right, or_cases, both_ways, eq-eqb, eqb-true, has, any-map, any-flat_map, Family, Arc, selections, sets_on, has_support, is_consistent, is_not_empty, IsSubfamily, IsWithin, IsThrough, AreSupported, IsRevised, IsDead, AreDifferent, replaced}
 use Rattle.propagators.proofs.Pruned.{supporting, consistent, has_head}
+use Rattle.std.proofs.lemmas.Bool.{or_parts}
 
 -- ---- tuples within sets are their selections
 
@@ -77,15 +78,11 @@ length-replaced [] found f = refl
 length-replaced (v ∷ scope) [] f = refl
 length-replaced (v ∷ scope) (xs ∷ found) f = length-replaced scope found (slice_set f v xs) ∙ length-set f v xs
 
-no_or : (a b : Bool) → (a || b) ≡ false → (a ≡ false) × (b ≡ false)
-no_or true b h = cc
-no_or false b h = (refl, h)
-
 pub replaced_other : (scope : List ℕ) (found : List (List ℕ)) (f : Family) (v : ℕ) → has scope v ≡ false → slice_index_or (replaced scope found f) v [] ≡ slice_index_or f v []
 replaced_other [] found f v none = refl
 replaced_other (w ∷ scope) [] f v none = refl
 replaced_other (w ∷ scope) (xs ∷ found) f v none =
-    let parts = no_or (w == v) (has scope v) none in
+    let parts = or_parts (w == v) (has scope v) none in
     replaced_other scope found (slice_set f w xs) v parts.1 ∙ get_or-set_other f w v xs [] (λ e. both_ways _ parts.0 (eq-eqb w v (sym e)))
 
 pub replaced_sets : (scope : List ℕ) (found : List (List ℕ)) (f : Family) → AreDifferent scope → length found ≡ length scope → All (λ v. v < length f) scope → sets_on (replaced scope found f) scope ≡ found
@@ -114,7 +111,7 @@ pub member_of_some : (xs : List ℕ) → is_not_empty xs ≡ true → (x : ℕ) 
 member_of_some [] h = cc
 member_of_some (x ∷ xs) h = (x, has_head x xs)
 
-some_of_member : (xs : List ℕ) (x : ℕ) → has xs x ≡ true → is_not_empty xs ≡ true
+pub some_of_member : (xs : List ℕ) (x : ℕ) → has xs x ≡ true → is_not_empty xs ≡ true
 some_of_member [] x h = cc
 some_of_member (y ∷ xs) x h = refl
 

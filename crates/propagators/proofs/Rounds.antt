@@ -1,18 +1,16 @@
 -- Going through all conditions until none takes a value away.
-use Rattle.propagators.proofs.Prelude.{◌≡◌, ℕ, suc, ◌+◌, ◌<◌, ◌≤◌, Bool, true, false, ◌||◌, List, [], ◌∷◌, length, refl, sym, ◌∙◌, ap, subst, arith, inl, inr, ◌⊎◌, ◌≢◌, slice_index_or, All, min, list_any, list_all, list_all-from_AllPass, AllPass-from_list_all, or_left, both_ways, cases_eq, cases_lt, eq-eqb, numbers, has, union, has-set_where, has-set_where_above, Family, Arc, sets_on, has_support, is_consistent, is_arc_consistent, is_not_empty, size_of, IsSubfamily, IsLargest, largest, IsRevised, IsDead, DifferAt, AreSettled, AreFewer, IsCut, IsUnderway}
+use Rattle.propagators.proofs.Prelude.{◌≡◌, ℕ, suc, ◌+◌, ◌<◌, ◌≤◌, Bool, true, false, ◌||◌, List, [], ◌∷◌, length, refl, sym, ◌∙◌, ap, subst, arith, inl, inr, ◌⊎◌, ◌≢◌, slice_index_or, All, min, list_any, list_all, list_all-from_AllPass, AllPass-from_list_all, or_left, both_ways, cases_eq, cases_lt, eq-eqb, numbers, has, union, has-set_where, has-set_where_above, Family, Arc, sets_on, has_support, is_consistent, is_arc_consistent, is_not_empty, family_size, IsSubfamily, IsLargest, largest, IsRevised, IsDead, DifferOnlyAt, AreSettled, AreFewer, IsCutAt, IsUnderway}
 use Rattle.propagators.proofs.Pruned.{largest_is}
 use Rattle.propagators.proofs.Living.{full_above, largest_long}
 use Rattle.propagators.proofs.Replacing.{all_full}
-
-no_or : (a b : Bool) → (a || b) ≡ false → (a ≡ false) × (b ≡ false)
-no_or true b h = cc
-no_or false b h = (refl, h)
+use Rattle.std.proofs.lemmas.Bool.{or_parts}
+use Rattle.shared_lemmas.proofs.Booleans.{both_true}
 
 -- sets that stay keep a condition consistent
-same_sets : (f g : Family) (changed scope : List ℕ) → All (λ v. v < 128) scope → DifferAt changed f g → list_any (has changed) scope ≡ false → sets_on g scope ≡ sets_on f scope
+same_sets : (f g : Family) (changed scope : List ℕ) → All (λ v. v < 128) scope → DifferOnlyAt changed f g → list_any (has changed) scope ≡ false → sets_on g scope ≡ sets_on f scope
 same_sets f g changed [] small differ none = refl
 same_sets f g changed (v ∷ scope) small differ none =
-    let parts = no_or (has changed v) (list_any (has changed) scope) none in
+    let parts = or_parts (has changed v) (list_any (has changed) scope) none in
     let here = differ v (small 0 0 (omega arith)) parts.0 in
     let rest = same_sets f g changed scope (λ k d low. tail k d low) differ parts.1 in
     λ i. here i ∷ rest i
@@ -20,7 +18,7 @@ same_sets f g changed (v ∷ scope) small differ none =
     tail : (k d : ℕ) → k < length scope → slice_index_or scope k d < 128
     tail k d low = small (suc k) d (omega arith)
 
-pub stays_consistent : (a : Arc) (f g : Family) (changed : List ℕ) → All (λ v. v < 128) a.scope → DifferAt changed f g → list_any (has changed) a.scope ≡ false →
+pub stays_consistent : (a : Arc) (f g : Family) (changed : List ℕ) → All (λ v. v < 128) a.scope → DifferOnlyAt changed f g → list_any (has changed) a.scope ≡ false →
     is_consistent f a.scope a.accepted ≡ true → is_consistent g a.scope a.accepted ≡ true
 stays_consistent a f g changed small differ none ok =
     ap (λ (sets : List (List ℕ)). list_all (λ i. list_all (has_support sets a.accepted i) (slice_index_or sets i [])) (numbers (length a.scope))) (same_sets f g changed a.scope small differ none) ∙ ok
@@ -126,7 +124,7 @@ pass_over arcs changed from i next f small is apart = record { underway = is.und
         is_consistent f (slice_index_or arcs k d).scope (slice_index_or arcs k d).accepted ≡ true
     go k d low none (inr free) which = is.settled k d low none (inr free)
     go k d low none (inl before) (inr other) = is.settled k d low none (inl (omega arith))
-    go k d low none (inl before) (inl same) = is.settled k d low none (inr (no_or _ _ (sym (touch_union changed next (slice_index_or arcs k d).scope (small k d low))
+    go k d low none (inl before) (inl same) = is.settled k d low none (inr (or_parts _ _ (sym (touch_union changed next (slice_index_or arcs k d).scope (small k d low))
         ∙ ap (λ (j : ℕ). list_any (has (union changed next)) (slice_index_or arcs j d).scope) same ∙ apart d)).0)
 
 pub fewer_more : (next lost : List ℕ) (from f g : Family) → AreFewer next from f → AreFewer lost f g → AreFewer (union next lost) from g
@@ -135,16 +133,16 @@ fewer_more next lost from f g (inl one) (inl two) = inl (λ v. none v (cases_lt 
     none : (v : ℕ) → (v < 128) ⊎ (128 ≤ v) → has (union next lost) v ≡ false
     none v (inl low) = has-set_where (λ w. has next w || has lost w) v low ∙ (λ i. one.0 v i || two.0 v i)
     none v (inr high) = has-set_where_above (λ w. has next w || has lost w) v high
-fewer_more next lost from f g (inl one) (inr two) = inr (let same = ap size_of one.1 in omega arith)
-fewer_more next lost from f g (inr one) (inl two) = inr (let same = ap size_of two.1 in omega arith)
+fewer_more next lost from f g (inl one) (inr two) = inr (let same = ap family_size one.1 in omega arith)
+fewer_more next lost from f g (inr one) (inl two) = inr (let same = ap family_size two.1 in omega arith)
 fewer_more next lost from f g (inr one) (inr two) = inr (omega arith)
 
 pub pass_on : (arcs : List Arc) (changed : List ℕ) (from : Family) (i : ℕ) (next lost : List ℕ) (f g : Family) → AreSmall arcs → i < length arcs → IsPassing arcs changed from i next f →
-    ((d : Arc) → IsRevised (slice_index_or arcs i d) f g) → IsCut lost f g → IsPassing arcs changed from (i + 1) (union next lost) g
+    ((d : Arc) → IsRevised (slice_index_or arcs i d) f g) → IsCutAt lost f g → IsPassing arcs changed from (i + 1) (union next lost) g
 pass_on arcs changed from i next lost f g small low is to cut = record {
   underway = underway_step arcs from f g i (record { scope = []; accepted = λ t. true }) low is.underway (to _);
   fewer = fewer_more next lost from f g is.fewer cut.fewer;
-  settled = λ k d below none where_. go k d below (no_or _ _ (sym (touch_union next lost (slice_index_or arcs k d).scope (small k d below)) ∙ none)) where_ (cases_eq k i);
+  settled = λ k d below none where_. go k d below (or_parts _ _ (sym (touch_union next lost (slice_index_or arcs k d).scope (small k d below)) ∙ none)) where_ (cases_eq k i);
 }
   where
     go : (k : ℕ) (d : Arc) → k < length arcs → (list_any (has next) (slice_index_or arcs k d).scope ≡ false) × (list_any (has lost) (slice_index_or arcs k d).scope ≡ false) →
@@ -186,14 +184,14 @@ settled_largest arcs from f changed over is settled = record {
 
 -- twice the values, and one more where variables have changed
 abbrev pub turns_left : Family → List ℕ → ℕ
-turns_left f changed = size_of f + size_of f + min 1 (length changed)
+turns_left f changed = family_size f + family_size f + min 1 (length changed)
 
 pub no_members : (xs : List ℕ) → ((v : ℕ) → has xs v ≡ false) → length xs ≡ 0
 no_members [] h = refl
 no_members (x ∷ xs) h = absurd (both_ways _ (h x) (or_left _ _ (eq-eqb x x refl)))
 
 pub turn_falls : (f g : Family) (changed next : List ℕ) → 1 ≤ length changed → AreFewer next f g → turns_left g next < turns_left f changed
-turn_falls f g changed next some (inl same) = (let size = ap size_of same.1 in let none = no_members next same.0 in omega arith)
+turn_falls f g changed next some (inl same) = (let size = ap family_size same.1 in let none = no_members next same.0 in omega arith)
 turn_falls f g changed next some (inr less) = omega arith
 
 -- ---- two families, and what the largest in each tells
@@ -204,14 +202,9 @@ tells_more arcs fewer more long sub full =
     full_above (largest arcs fewer) (largest arcs more) (largest_long arcs fewer ∙ long ∙ sym (largest_long arcs more))
     ((largest_is arcs more).greatest (largest arcs fewer) (sub_sub (largest arcs fewer) fewer more old.within sub) old.consistent) full
 
-same_truth : (a b : Bool) → (a ≡ true → b ≡ true) → (b ≡ true → a ≡ true) → a ≡ b
-same_truth true b h k = sym (h refl)
-same_truth false true h k = k refl
-same_truth false false h k = refl
-
 pub tells_with : (arcs : List Arc) (from g : Family) → length g ≡ length from → IsLargest arcs from g → list_all is_not_empty (largest arcs from) ≡ list_all is_not_empty g
 tells_with arcs from g long is =
     let old = largest_is arcs from in
-    same_truth _ _
+    both_true _ _
     (full_above (largest arcs from) g (largest_long arcs from ∙ sym long) (is.greatest (largest arcs from) old.within old.consistent))
     (full_above g (largest arcs from) (long ∙ sym (largest_long arcs from)) (old.greatest g is.within is.consistent))

@@ -1,5 +1,5 @@
 -- The value of a variable is taken away from another one that has to differ from it.
-use Rattle.propagators.proofs.Prelude.{◌≡◌, ◌≢◌, ℕ, zero, suc, ◌<◌, ◌==◌, Bool, true, false, not, List, [], ◌∷◌, length, refl, sym, ◌∙◌, ap, subst, arith, inl, inr, ◌⊎◌, slice_index_or, All, Option, union, has, Candidate, Language, IsLanguage, AreConstraints, Family, Arc, arcs_of, size_of, AreDifferent, IsRevised, IsEntailed, IsValueOf, IsBeside, IsNarrowed, HasMore, IsApartOf, IsApartAt, AreBothOf, IsBriefOf, TellsApart, IsParted, is_with, HasTwo, IsFamilyOf, IsThrough, is_consistent, sets_on, both_ways, arc_by, Pair, Brief, Plan, IsLooked, RunsEmpty, cases_eq, eq-eqb, ne_eqb}
+use Rattle.propagators.proofs.Prelude.{◌≡◌, ◌≢◌, ℕ, zero, suc, ◌<◌, ◌==◌, Bool, true, false, not, List, [], ◌∷◌, length, refl, sym, ◌∙◌, ap, subst, arith, inl, inr, ◌⊎◌, slice_index_or, All, Option, union, has, Candidate, Language, IsLanguage, AreConstraints, Family, Arc, arcs_of, family_size, AreDifferent, IsRevised, IsEntailed, IsValueOf, IsBeside, IsNarrowed, HasMore, IsApartOf, IsApartAt, AreBothOf, IsBriefOf, TellsApart, IsParted, is_with, HasTwo, IsFamilyOf, IsThrough, is_consistent, sets_on, both_ways, arc_by, Pair, Brief, Plan, IsLooked, RunsEmpty, cases_eq, eq-eqb, ne_eqb}
 use Rattle.propagators.specs.Propagated.{AreSome, IsWholePlanOf}
 use Rattle.propagators.specs.declared.briefs.Brief.TheVariants.{Two, Apart, Other}
 use Rattle.propagators.proofs.Standing.{stood_consistent, stood_dead}
@@ -170,10 +170,10 @@ module _ (l : Language) (list : List Candidate) (against : Option Candidate) (la
     pub struck_same : (waiting : List ℕ) → g ≡ f → IsLooked arcs k waiting waiting f g
     struck_same waiting same = beside_same arcs k waiting f g (arcs_small l list against lawful are) low some.full revised same
 
-    pub struck_fewer : (waiting : List ℕ) → size_of g < size_of f → IsLooked arcs k waiting (union waiting (u ∷ [])) f g
+    pub struck_fewer : (waiting : List ℕ) → family_size g < family_size f → IsLooked arcs k waiting (union waiting (u ∷ [])) f g
     struck_fewer waiting less = beside_fewer arcs k waiting f g u (but x) (arcs_small l list against lawful are) low some.full revised narrowed less
 
-    pub struck_lazy : (waiting : List ℕ) → size_of g < size_of f → HasMore (slice_index_or p.limits.items u 0) (slice_index_or g u []) → IsLooked arcs k waiting waiting f g
+    pub struck_lazy : (waiting : List ℕ) → family_size g < family_size f → HasMore (slice_index_or p.limits.items u 0) (slice_index_or g u []) → IsLooked arcs k waiting waiting f g
     struck_lazy waiting less more =
         beside_lazy l arcs k waiting f g u (but x) p.limits.items (let few = lawful.few_values in omega arith) (arcs_small l list against lawful are) (arcs_different l list against lawful are) low some.full revised narrowed less some.family more
         (λ i a under there. capped l arcs p.briefs.items p.limits.items plan.plan.briefs plan.plan.limits i u a under (let room = plan.room in omega arith) there more.low)

@@ -1,7 +1,7 @@
 -- Collecting supported values, one value of the first set after another.
-use Rattle.propagators.proofs.Prelude.{◌≡◌, ℕ, zero, suc, ◌<◌, Bool, true, false, ◌&&◌, ◌||◌, not, List, [], ◌∷◌, ◌+◌, ◌*◌, ◌^◌, ◌≤◌, refl, sym, ◌∙◌, ap, subst, arith, inl, inr, ◌⊎◌, ◌==◌, slice_index_or, filter, and_parts, and_from, or_left, or_right, or_cases, both_ways, eq-eqb, eqb-true, not-true, mul-le-mul_right, mul_assoc, pow-succ', pow-zero, has, ones_of, is_not_empty, IsWithin, IsThrough, AreSupported, AreSupportedBeside, HasTuple, HasNoTuple}
-use Rattle.propagators.proofs.Ones.{has-filter, ones_of-zero}
+use Rattle.propagators.proofs.Prelude.{◌≡◌, ℕ, zero, suc, ◌<◌, Bool, true, false, ◌&&◌, ◌||◌, not, List, [], ◌∷◌, ◌+◌, ◌*◌, ◌^◌, ◌≤◌, refl, sym, ◌∙◌, ap, subst, arith, inl, inr, ◌⊎◌, ◌==◌, slice_index_or, filter, and_parts, and_from, or_left, or_right, or_cases, both_ways, eq-eqb, eqb-true, not-true, mul-le-mul_right, mul_assoc, pow-succ', pow-zero, has, ones_of, is_not_empty, IsWithin, IsThrough, AreSupported, AreSupportedBeside, HasTuple, HasNoTuple, ones_of-zero, has-filter}
 use Rattle.propagators.proofs.Pruned.{has_head}
+use Rattle.propagators.proofs.Replacing.{member_of_some, some_of_member}
 
 -- each has the members of the one at its place
 abbrev pub AreMore : List (List ℕ) → List (List ℕ) → Type 0
@@ -50,14 +50,6 @@ either_cases (x ∷ xs) [] zs h i v at = absurd h
 either_cases (x ∷ xs) (y ∷ ys) [] h i v at = absurd h
 either_cases (x ∷ xs) (y ∷ ys) (z ∷ zs) h zero v at = or_cases (has x v) (has y v) (sym (h.0 v) ∙ at)
 either_cases (x ∷ xs) (y ∷ ys) (z ∷ zs) h (suc i) v at = either_cases xs ys zs h.1 i v at
-
-some_member : (xs : List ℕ) → is_not_empty xs ≡ true → (x : ℕ) × (has xs x ≡ true)
-some_member [] h = cc
-some_member (x ∷ xs) h = (x, has_head x xs)
-
-not_empty : (xs : List ℕ) (x : ℕ) → has xs x ≡ true → is_not_empty xs ≡ true
-not_empty [] x h = cc
-not_empty (y ∷ xs) x h = refl
 
 -- ---- one set
 
@@ -164,7 +156,7 @@ sweep_step first rest s sets accepted a found x later b c below next is there go
 
     through_first : (y : ℕ) → (x == y) ≡ true → is_not_empty (ones_of b) ≡ true → IsThrough (gone first later ∷ s ∷ sets) accepted 0 y
     through_first y same some =
-        let z = some_member (ones_of b) some in
+        let z = member_of_some (ones_of b) some in
         let t = under.some z.0 z.1 in
         record { tuple = x ∷ t.tuple; within = (now, t.within); at = eqb-true x y same; is = t.is }
 
@@ -186,7 +178,7 @@ sweep_step first rest s sets accepted a found x later b c below next is there go
 
     begins : (tuple : List ℕ) → IsWithin (ones_of b ∷ below) tuple → is_not_empty (ones_of b) ≡ true
     begins [] h = absurd h
-    begins (z ∷ tuple) h = not_empty (ones_of b) z h.0
+    begins (z ∷ tuple) h = some_of_member (ones_of b) z h.0
 
     with_x : (tuple : List ℕ) → IsWithin (s ∷ sets) tuple → accepted (x ∷ tuple) ≡ true → IsWithin (ones_of c ∷ next) (x ∷ tuple)
     with_x tuple h at =
@@ -283,14 +275,14 @@ tuple_there first rest sets accepted x is there t = record { tuple = x ∷ t.tup
 
 -- whether there is one is told by what is supported
 pub some_supported : (sets : List (List ℕ)) (accepted : List ℕ → Bool) (m : ℕ) → AreSupported sets accepted (ones_of m ∷ []) → is_not_empty (ones_of m) ≡ true → HasTuple sets accepted
-some_supported sets accepted m is some = (let z = some_member (ones_of m) some in let t = is.only 0 z.0 z.1 in record { tuple = t.tuple; within = t.within; is = t.is })
+some_supported sets accepted m is some = (let z = member_of_some (ones_of m) some in let t = is.only 0 z.0 z.1 in record { tuple = t.tuple; within = t.within; is = t.is })
 
 pub none_supported : (sets : List (List ℕ)) (accepted : List ℕ → Bool) (m : ℕ) → AreSupported sets accepted (ones_of m ∷ []) → is_not_empty (ones_of m) ≡ false → HasNoTuple sets accepted
 none_supported sets accepted m is none = λ tuple h at. begins tuple (is.all tuple h at)
   where
     begins : (tuple : List ℕ) → IsWithin (ones_of m ∷ []) tuple → ⊥
     begins [] h = h
-    begins (z ∷ tuple) h = both_ways _ none (not_empty (ones_of m) z h.0)
+    begins (z ∷ tuple) h = both_ways _ none (some_of_member (ones_of m) z h.0)
 
 pub both_true : (a b : Bool) → a ≡ true → (a && b) ≡ b
 both_true true b h = refl
@@ -313,7 +305,7 @@ place_fits at d x rest size low fits =
 pub power_one : (d : ℕ) → d ^ 1 ≡ d
 power_one d = pow-succ' d 0 ∙ ap (λ k. d * k) (pow-zero d) ∙ (let e : d * 1 ≡ d = omega arith in e)
 
-power_two : (d : ℕ) → d ^ 2 ≡ d * d
+pub power_two : (d : ℕ) → d ^ 2 ≡ d * d
 power_two d = pow-succ' d 1 ∙ ap (λ k. d * k) (power_one d)
 
 pub power_three : (d : ℕ) → d ^ 3 ≡ d * (d * d)

@@ -1,16 +1,15 @@
 -- Looking at the conditions of changed variables.
-use Rattle.propagators.proofs.Prelude.{◌≡◌, ℕ, zero, suc, ◌+◌, ◌-◌, ◌*◌, ◌/◌, ◌%◌, ◌<◌, ◌≤◌, Bool, true, false, ◌&&◌, ◌||◌, not, List, [], ◌∷◌, length, drop, Some, refl, sym, ◌∙◌, ap, subst, arith, inl, inr, ◌⊎◌, ◌==◌, ◌≢◌, slice_index_or, All, min, list_any, list_all, All-head, All-tail, both_ways, cases_eq, cases_lt, eq-eqb, eqb-true, ne_eqb, div-mul-add, mod-mul-add, has, union, without, least_of, Rises, IsSet, has-set_where, set_where-same, canonical, rises_lower, lacks, ones_of, bit_at, Family, Arc, is_consistent, is_not_empty, is_wanted, size_of, AreEntailed, Entailed, IsRevised, AreSettled, AreFewer, IsCut, IsUnderway, AreNoted, AreLeft, IsLooked, IsLeftOrLooked, AreLooked, IsApart, is_with, Brief, Plan}
+use Rattle.propagators.proofs.Prelude.{◌≡◌, ℕ, zero, suc, ◌+◌, ◌-◌, ◌*◌, ◌/◌, ◌%◌, ◌<◌, ◌≤◌, Bool, true, false, ◌&&◌, ◌||◌, not, List, [], ◌∷◌, length, drop, Some, refl, sym, ◌∙◌, ap, subst, arith, inl, inr, ◌⊎◌, ◌==◌, ◌≢◌, slice_index_or, All, min, list_any, list_all, All-head, All-tail, both_ways, cases_eq, cases_lt, eq-eqb, eqb-true, ne_eqb, div-mul-add, mod-mul-add, has, union, without, least_of, Rises, IsSet, has-set_where, set_where-same, canonical, rises_lower, lacks, ones_of, bit_at, Family, Arc, is_consistent, is_not_empty, is_wanted, family_size, AreEntailed, Entailed, IsRevised, AreSettled, AreFewer, IsCutAt, IsUnderway, AreNoted, AreLeft, IsLooked, IsLeftOrLooked, AreLooked, IsApart, is_with, Brief, Plan}
+use Rattle.assign.proofs.Masks.{rises_few}
 use Rattle.propagators.specs.declared.briefs.Brief.TheVariants.{Other}
-use Rattle.propagators.proofs.Ones.{ones_of-zero, has-ones_of}
+use Rattle.propagators.proofs.Words.{one_less}
+use Rattle.assign.proofs.Ones.{ones_of-zero, has-ones_of}
 use Rattle.propagators.proofs.Entailing.{entailed_now}
 use Rattle.propagators.proofs.Rounds.{stays_consistent, touch_union, underway_begin, underway_step, underway_more, AreSmall, no_members}
+use Rattle.std.proofs.lemmas.Bool.{or_parts}
 
 none : Arc
 none = record { scope = []; accepted = λ t. true }
-
-no_or : (a b : Bool) → (a || b) ≡ false → (a ≡ false) × (b ≡ false)
-no_or true b h = cc
-no_or false b h = (refl, h)
 
 -- ---- one look
 
@@ -30,7 +29,7 @@ underway_one arcs i f g low full to = underway_step arcs f f g i none low (under
 
 -- the condition was revised, and no variable lost a value
 pub looked_same : (arcs : List Arc) (i : ℕ) (waiting lost : List ℕ) (f g : Family) → AreSmall arcs → i < length arcs → list_all is_not_empty f ≡ true →
-    ((a : Arc) → IsRevised (slice_index_or arcs i a) f g) → IsCut lost f g → length lost ≡ 0 → IsLooked arcs i waiting waiting f g
+    ((a : Arc) → IsRevised (slice_index_or arcs i a) f g) → IsCutAt lost f g → length lost ≡ 0 → IsLooked arcs i waiting waiting f g
 looked_same arcs i waiting lost f g small low full to cut nothing = record {
   underway = underway_one arcs i f g low full to;
   left = left cut.fewer;
@@ -50,7 +49,7 @@ looked_same arcs i waiting lost f g small low full to cut nothing = record {
 
 -- the condition was revised, and some variable lost a value
 pub looked_changed : (arcs : List Arc) (i : ℕ) (waiting lost : List ℕ) (f g : Family) → AreSmall arcs → i < length arcs → list_all is_not_empty f ≡ true →
-    ((a : Arc) → IsRevised (slice_index_or arcs i a) f g) → IsCut lost f g → length lost ≢ 0 → IsLooked arcs i waiting (union waiting lost) f g
+    ((a : Arc) → IsRevised (slice_index_or arcs i a) f g) → IsCutAt lost f g → length lost ≢ 0 → IsLooked arcs i waiting (union waiting lost) f g
 looked_changed arcs i waiting lost f g small low full to cut some = record {
   underway = underway_one arcs i f g low full to;
   left = left cut.fewer;
@@ -61,7 +60,7 @@ looked_changed arcs i waiting lost f g small low full to cut some = record {
   where
     parts : (k : ℕ) (a : Arc) → k < length arcs → list_any (has (union waiting lost)) (slice_index_or arcs k a).scope ≡ false →
         (list_any (has waiting) (slice_index_or arcs k a).scope ≡ false) × (list_any (has lost) (slice_index_or arcs k a).scope ≡ false)
-    parts k a below h = no_or _ _ (sym (touch_union waiting lost (slice_index_or arcs k a).scope (small k a below)) ∙ h)
+    parts k a below h = or_parts _ _ (sym (touch_union waiting lost (slice_index_or arcs k a).scope (small k a below)) ∙ h)
 
     left : AreFewer lost f g → AreLeft waiting (union waiting lost) f g
     left (inl same) = absurd (some (no_members lost same.0))
@@ -116,15 +115,15 @@ same_item (x ∷ xs) (suc k) a b low = same_item xs k a b (omega arith)
 
 pub left_more : (begun waiting next : List ℕ) (from f g : Family) → AreLeft begun waiting from f → AreLeft waiting next f g → AreLeft begun next from g
 left_more begun waiting next from f g (inl one) (inl two) = inl (two.0 ∙ one.0, two.1 ∙ one.1)
-left_more begun waiting next from f g (inl one) (inr two) = inr (let same = ap size_of one.1 in omega arith)
-left_more begun waiting next from f g (inr one) (inl two) = inr (let same = ap size_of two.1 in omega arith)
+left_more begun waiting next from f g (inl one) (inr two) = inr (let same = ap family_size one.1 in omega arith)
+left_more begun waiting next from f g (inr one) (inl two) = inr (let same = ap family_size two.1 in omega arith)
 left_more begun waiting next from f g (inr one) (inr two) = inr (omega arith)
 
 touch_without : (changed : List ℕ) (v : ℕ) (scope : List ℕ) → All (λ u. u < 128) scope → has scope v ≡ false → list_any (has (without changed v)) scope ≡ false → list_any (has changed) scope ≡ false
 touch_without changed v [] small lacking h = refl
 touch_without changed v (u ∷ scope) small lacking h =
-    let here = no_or (u == v) (has scope v) lacking in
-    let parts = no_or (has (without changed v) u) (list_any (has (without changed v)) scope) h in
+    let here = or_parts (u == v) (has scope v) lacking in
+    let parts = or_parts (has (without changed v) u) (list_any (has (without changed v)) scope) h in
     let low = All-head (λ u. u < 128) u scope small in
     let not_u : has changed u ≡ false = keep (has changed u) (v == u) (other here.0) (sym (has-set_where (λ w. has changed w && not (has (v ∷ []) w)) u low) ∙ parts.0) in
     (λ i. not_u i || touch_without changed v scope (All-tail (λ u. u < 128) u scope small) here.1 parts.1 i)
@@ -271,37 +270,17 @@ visit_end arcs briefs v w begun from waiting f all is = λ k a low h. is.settled
 
 -- the values and the variables that are left
 abbrev pub visits_left : Family → List ℕ → ℕ
-visits_left f changed = size_of f * 129 + min 128 (length changed)
+visits_left f changed = family_size f * 129 + min 128 (length changed)
 
-without_least : (v : ℕ) (rest : List ℕ) → Rises 0 (v ∷ rest) → without (v ∷ rest) v ≡ rest
-without_least v rest r = set_where-same _ (has rest) (λ w low. go w (v == w) refl) ∙ canonical rest (rises_lower 0 (v + 1) rest (omega arith) r.2)
+pub visits_fall : (f g : Family) (changed next : List ℕ) (v : ℕ) → IsSet changed → v < 128 → has changed v ≡ true → AreLeft (without changed v) next f g → visits_left g next < visits_left f changed
+visits_fall f g changed next v set low there to = go to
   where
-    and_true : (b : Bool) → (b && true) ≡ b
-    and_true true = refl
-    and_true false = refl
+    few : length changed ≤ 128
+    few = (let all = rises_few 0 changed (omega arith) set in omega arith)
 
-    go : (w : ℕ) (b : Bool) → (v == w) ≡ b → ((b || has rest w) && not (b || false)) ≡ has rest w
-    go w true same = sym (subst (λ (u : ℕ). has rest u ≡ false) (eqb-true v w same) (lacks (v + 1) v rest (omega arith) r.2))
-    go w false other = and_true (has rest w)
+    fewer : length (without changed v) < length changed
+    fewer = one_less changed v set low there
 
--- the least member stands first
-pub others_rest : (set : List ℕ) (v : ℕ) → IsSet set → least_of set ≡ Some v → drop 1 set ≡ without set v
-others_rest [] v is least = cc
-others_rest (u ∷ rest) v is least = sym (subst (λ (w : ℕ). without (u ∷ rest) w ≡ rest) same (without_least u rest is))
-  where
-    same : u ≡ v
-    same = cc
-
-pub visits_fall : (f g : Family) (changed next : List ℕ) (v : ℕ) → length changed ≤ 128 → IsSet changed → least_of changed ≡ Some v → AreLeft (without changed v) next f g → visits_left g next < visits_left f changed
-visits_fall f g [] next v few set least to = cc
-visits_fall f g (u ∷ rest) next v few set least to = go to
-  where
-    same : u ≡ v
-    same = cc
-
-    fewer : length (without (u ∷ rest) v) ≡ length rest
-    fewer = ap length (subst (λ (w : ℕ). without (u ∷ rest) w ≡ rest) same (without_least u rest set))
-
-    go : AreLeft (without (u ∷ rest) v) next f g → visits_left g next < visits_left f (u ∷ rest)
-    go (inl is) = (let size = ap size_of is.1 in let long : length next ≡ length rest = ap length is.0 ∙ fewer in omega arith)
-    go (inr less) = omega arith
+    go : AreLeft (without changed v) next f g → visits_left g next < visits_left f changed
+    go (inl is) = (let size = ap family_size is.1 in let long : length next ≡ length (without changed v) = ap length is.0 in omega (arith, few, fewer))
+    go (inr less) = omega (arith, few)

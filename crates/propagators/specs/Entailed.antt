@@ -1,8 +1,7 @@
 -- Conditions that stay consistent.
 use Rattle.std.specs.Prelude.{ℕ, ◌/◌, ◌%◌, ◌≡◌, ◌≢◌, ◌<◌, Bool, true, List, [], length, slice_index_or}
 use Rattle.std.specs.List.{list_all}
-use Rattle.assign.specs.Sets.{has}
-use Rattle.propagators.specs.Values.{ones_of}
+use Rattle.assign.specs.Sets.{has, ones_of}
 use Rattle.propagators.specs.Families.{Family, Arc, is_consistent, is_not_empty, IsSubfamily}
 use Rattle.propagators.specs.Pairs.{IsOnly}
 use Rattle.propagators.specs.Briefs.{IsApart}
@@ -19,13 +18,13 @@ abbrev pub is_noted_in : Entailed → ℕ → Bool
 is_noted_in e k = has (ones_of (slice_index_or e.words (k / 64) 0)) (k % 64)
 
 -- the variable is among those that are struck
-abbrev pub is_struck : Entailed → ℕ → Bool
-is_struck e v = has (ones_of (slice_index_or e.struck (v / 64) 0)) (v % 64)
+abbrev pub is_among_struck : Entailed → ℕ → Bool
+is_among_struck e v = has (ones_of (slice_index_or e.struck (v / 64) 0)) (v % 64)
 
 -- each condition that is among them is entailed, and so is each that says that a struck variable differs from another one
 pub record AreEntailed (arcs : List Arc) (p : Plan) (e : Entailed) (f : Family) : Type 0 where
   pub noted : (k : ℕ) (a : Arc) → k < length arcs → is_noted_in e k ≡ true → IsEntailed (slice_index_or arcs k a) f
-  pub struck : (k v : ℕ) (a : Arc) (b : Brief) → k < length arcs → k < length p.briefs.items → is_struck e v ≡ true → has (slice_index_or arcs k a).scope v ≡ true → IsApart (slice_index_or p.briefs.items k b) → IsEntailed (slice_index_or arcs k a) f
+  pub struck : (k v : ℕ) (a : Arc) (b : Brief) → k < length arcs → k < length p.briefs.items → is_among_struck e v ≡ true → has (slice_index_or arcs k a).scope v ≡ true → IsApart (slice_index_or p.briefs.items k b) → IsEntailed (slice_index_or arcs k a) f
 
 -- one member alone
 pub record HasOne (xs : List ℕ) : Type 0 where

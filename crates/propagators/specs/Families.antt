@@ -104,9 +104,9 @@ abbrev pub prune : List Arc → Family → Family
 prune arcs family = prune_from arcs family 0 family
 
 -- how many values there are
-abbrev pub size_of : Family → ℕ
-size_of [] = 0
-size_of (xs ∷ family) = length xs + size_of family
+abbrev pub family_size : Family → ℕ
+family_size [] = 0
+family_size (xs ∷ family) = length xs + family_size family
 
 -- so often
 abbrev pub pruned : ℕ → List Arc → Family → Family
@@ -115,4 +115,4 @@ pruned (suc k) arcs family = pruned k arcs (prune arcs family)
 
 -- once for each value there is: the largest arc-consistent family within this one
 abbrev pub largest : List Arc → Family → Family
-largest arcs family = pruned (size_of family) arcs family
+largest arcs family = pruned (family_size family) arcs family

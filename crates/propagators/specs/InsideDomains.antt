@@ -3,9 +3,8 @@ use Rattle.std.specs.Prelude.{◌≡◌, ℕ, ◌-◌, ◌<◌, ◌≤◌, ◌^�
 use Rattle.std.proofs.Common.{sym, ◌∙◌, ap, arith}
 use Rattle.std.proofs.lemmas.List.{length-map, length-take, take-append-drop}
 use Rattle.std.proofs.lemmas.List.Elements.{All-take}
-use Rattle.assign.specs.Sets.{mask_of}
-use Rattle.propagators.specs.Values.{ones_of}
-use Rattle.propagators.specs.ValueLemmas.{masks_of-ones_of}
+use Rattle.assign.specs.Sets.{mask_of, ones_of}
+use Rattle.assign.specs.SetLemmas.{masks_of-ones_of}
 use Rattle.propagators.specs.Families.{Family}
 use Rattle.propagators.specs.declared.domains.Domains.TheInside.{Inside}
 

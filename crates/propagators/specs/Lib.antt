@@ -1,9 +1,8 @@
 pub mod Allowed
 pub mod Families
 pub mod Laws
-pub mod Values
-pub mod ValueLemmas
 pub mod InsideDomains
+pub mod InsideWaiting
 pub mod Supports
 pub mod Chains
 pub mod Loose

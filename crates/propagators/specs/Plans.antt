@@ -1,10 +1,9 @@
 -- Which conditions each variable has, and what looking at one of them does.
 use Rattle.std.specs.Prelude.{ℕ, Bool, ◌+◌, ◌*◌, ◌/◌, ◌%◌, ◌≡◌, ◌<◌, ◌≤◌, ◌⊎◌, true, false, List, length, min, slice_index_or}
 use Rattle.std.specs.List.{list_any}
-use Rattle.assign.specs.Sets.{has}
+use Rattle.assign.specs.Sets.{has, ones_of}
 use Rattle.language.specs.Language.{Language}
-use Rattle.propagators.specs.Values.{ones_of}
-use Rattle.propagators.specs.Families.{Family, Arc, is_consistent, size_of}
+use Rattle.propagators.specs.Families.{Family, Arc, is_consistent, family_size}
 use Rattle.propagators.specs.Supports.{IsUnderway}
 use Rattle.propagators.specs.Briefs.{IsBriefOf, AreBriefs, bound_at, IsApart, IsApartAt}
 use Rattle.propagators.specs.declared.briefs.Brief.{Brief}
@@ -33,8 +32,8 @@ pub record HasApart (briefs : List Brief) (i v u : ℕ) : Type 0 where
   pub is : (b : Brief) → IsApartAt (slice_index_or briefs place b) v u
 
 -- no others are with each other than those that have to differ by the first conditions, so many
-abbrev pub AreApart : List Brief → List ℕ → ℕ → Type 0
-AreApart briefs aparts i = (v u : ℕ) → v < 128 → is_with aparts v u ≡ true → HasApart briefs i v u
+abbrev pub AreApartSoFar : List Brief → List ℕ → ℕ → Type 0
+AreApartSoFar briefs aparts i = (v u : ℕ) → v < 128 → is_with aparts v u ≡ true → HasApart briefs i v u
 
 -- the limit of each variable is at least each bound that the first conditions have at it
 abbrev pub AreLimits : List Arc → List Brief → List ℕ → Type 0
@@ -48,7 +47,7 @@ pub record AreTakenIn (l : Language) (arcs : List Arc) (bs : List Brief) (sets l
   pub limits : (k j : ℕ) (a : Arc) (b : Brief) → k < i → j < length (slice_index_or arcs k a).scope → bound_at (slice_index_or bs k b) j ≤ slice_index_or ls (slice_index_or (slice_index_or arcs k a).scope j 0) 0
   pub noted : (k v : ℕ) (a : Arc) (b : Brief) → k < i → has (slice_index_or arcs k a).scope v ≡ true → (is_with sets v k ≡ true) ⊎ IsApart (slice_index_or bs k b)
   pub parted : (k : ℕ) (b : Brief) → k < i → IsParted aps (slice_index_or bs k b)
-  pub apart : AreApart bs aps i
+  pub apart : AreApartSoFar bs aps i
 
 -- each variable of a condition is below 128
 abbrev pub AreNarrow : List Arc → Type 0
@@ -60,11 +59,11 @@ pub record IsPlanOf (l : Language) (arcs : List Arc) (p : Plan) : Type 0 where
   pub noted : AreNoted arcs p.briefs.items p.words p.sets.items
   pub limits : AreLimits arcs p.briefs.items p.limits.items
   pub parted : (k : ℕ) (b : Brief) → k < length p.briefs.items → k < length arcs → IsParted p.aparts.items (slice_index_or p.briefs.items k b)
-  pub apart : AreApart p.briefs.items p.aparts.items (min (length p.briefs.items) (length arcs))
+  pub apart : AreApartSoFar p.briefs.items p.aparts.items (min (length p.briefs.items) (length arcs))
 
 -- the same variables are waiting and nothing has changed, or values were taken away
 abbrev pub AreLeft : List ℕ → List ℕ → Family → Family → Type 0
-AreLeft waiting next f g = ((next ≡ waiting) × (g ≡ f)) ⊎ (size_of g < size_of f)
+AreLeft waiting next f g = ((next ≡ waiting) × (g ≡ f)) ⊎ (family_size g < family_size f)
 
 -- g is f after a look at condition i, and next are the variables that are waiting then
 pub record IsLooked (arcs : List Arc) (i : ℕ) (waiting next : List ℕ) (f g : Family) : Type 0 where

@@ -5,7 +5,7 @@ use Rattle.assign.specs.Sets.{has}
 use Rattle.rel_table.specs.Table.{TruthTable, truth_at}
 use Rattle.language.specs.Ranges.{is_in}
 use Rattle.language.specs.Language.{Language, variable_count, range_of}
-use Rattle.propagators.specs.Families.{Family, Arc, is_wanted, is_consistent, is_arc_consistent, is_not_empty, size_of, IsSubfamily}
+use Rattle.propagators.specs.Families.{Family, Arc, is_wanted, is_consistent, is_arc_consistent, is_not_empty, family_size, IsSubfamily}
 
 -- a tuple takes each of its values from the set at its place
 abbrev pub IsWithin : List (List ℕ) → List ℕ → Type 0
@@ -78,8 +78,8 @@ pub record IsDead (a : Arc) (f : Family) : Type 0 where
   pub empty : (other : Family) → IsSubfamily other f → is_consistent other a.scope a.accepted ≡ true → slice_index_or other variable [] ≡ []
 
 -- the second differs from the first at these variables alone
-abbrev pub DifferAt : List ℕ → Family → Family → Type 0
-DifferAt changed f g = (v : ℕ) → v < 128 → has changed v ≡ false → slice_index_or g v [] ≡ slice_index_or f v []
+abbrev pub DifferOnlyAt : List ℕ → Family → Family → Type 0
+DifferOnlyAt changed f g = (v : ℕ) → v < 128 → has changed v ≡ false → slice_index_or g v [] ≡ slice_index_or f v []
 
 -- each condition is consistent that has none of these variables
 abbrev pub AreSettled : List Arc → List ℕ → Family → Type 0
@@ -98,11 +98,11 @@ replaced (v ∷ scope) (xs ∷ found) f = replaced scope found (slice_set f v xs
 
 -- no variable has changed, or values were taken away
 abbrev pub AreFewer : List ℕ → Family → Family → Type 0
-AreFewer changed f g = (((v : ℕ) → has changed v ≡ false) × (g ≡ f)) ⊎ (size_of g < size_of f)
+AreFewer changed f g = (((v : ℕ) → has changed v ≡ false) × (g ≡ f)) ⊎ (family_size g < family_size f)
 
 -- the variables that have changed, where values were taken away from f alone
-pub record IsCut (changed : List ℕ) (f g : Family) : Type 0 where
-  pub differ : DifferAt changed f g
+pub record IsCutAt (changed : List ℕ) (f g : Family) : Type 0 where
+  pub differ : DifferOnlyAt changed f g
   pub fewer : AreFewer changed f g
 
 -- values were taken away, but none of an arc-consistent subfamily, and no set is empty

@@ -1,16 +1,16 @@
 ghost use Rattle.std.specs.Prelude.{◌≡◌, ◌<◌, ◌≤◌, ◌==◌, ◌&&◌, ℕ, [], true, false, not, nat_lt, length, map, take, slice_index_or, slice_set, All, IfSome, None};
 ghost use Rattle.std.specs.List.{filter, list_all, list_any};
 ghost use Rattle.std.specs.Int.{bit_at};
-ghost use Rattle.assign.specs.Sets.{numbers, has, IsSet};
+ghost use Rattle.assign.specs.Sets.{numbers, has, IsSet, ones_of};
 ghost use Rattle.language.specs.Language.{Language, variable_count, values_of};
-ghost use Rattle.propagators.specs.Values.{ones_of};
-ghost use Rattle.propagators.specs.Families.{is_not_empty, is_wanted, sets_on, size_of};
+ghost use Rattle.propagators.specs.Families.{is_not_empty, is_wanted, sets_on, family_size};
 ghost use Rattle.propagators.specs.Supports.{IsFamilyOf};
 ghost use Rattle.propagators.specs.Loose.{HasTwo, HasMore};
 ghost use Rattle.propagators.specs.Pairs.{IsOnly};
 
 use crate::values::{
-    are_more, has_value, least_from, only_member, only_value, others, passing, values_between,
+    are_more, has_value, least_from, least_value, only_member, only_value, others, passing,
+    values_between,
 };
 use language::Language;
 use std::marker::Model;
@@ -104,6 +104,25 @@ impl Domains {
         least_from(self.sets[v as usize], x)
     }
 
+    /// The variable's least value.
+    #[inline]
+    pub(crate) fn least(&self, v: u8) -> u8
+        requires known { v < length self.now }
+        requires some { is_not_empty (slice_index_or self.now v []) ≡ true }
+        ensures { has (slice_index_or self.now v []) result ≡ true }
+    {
+        least_value(self.sets[v as usize])
+    }
+
+    /// The mask of the variable's values.
+    #[inline]
+    pub(crate) fn values(&self, v: u8) -> u64
+        requires { v < length self.now }
+        ensures { ones_of result ≡ slice_index_or self.now v [] }
+    {
+        self.sets[v as usize]
+    }
+
     /// Whether some set is empty.
     pub(crate) fn has_empty(&self) -> bool
         ensures { result ≡ not (list_all is_not_empty self.now) }
@@ -169,7 +188,7 @@ impl Domains {
         requires within { (x : ℕ) → has (ones_of values) x ≡ true → has (slice_index_or self.old v []) x ≡ true }
         ensures is { self.new ≡ slice_set self.old v (ones_of values) }
         ensures same { result ≡ false → self.new ≡ self.old }
-        ensures less { result ≡ true → size_of self.new < size_of self.old }
+        ensures less { result ≡ true → family_size self.new < family_size self.old }
     {
         let had = self.sets[v as usize];
         self.sets[v as usize] = values;

@@ -3,7 +3,7 @@
 ghost use Rattle.std.specs.Prelude.{◌≡◌, ◌<◌, ◌⊎◌, ℕ, List, [], true, All, IfSome, length, slice_index_or};
 ghost use Rattle.propagators.specs.Families.{Family, Arc};
 ghost use Rattle.propagators.specs.declared.plan.Plan.{Plan};
-ghost use Rattle.propagators.specs.Entailed.{is_noted_in, is_struck, AreEntailed, HasOne, IsAlmostFixed, AreFixedBut};
+ghost use Rattle.propagators.specs.Entailed.{is_noted_in, is_among_struck, AreEntailed, HasOne, IsAlmostFixed, AreFixedBut};
 
 use crate::domains::Domains;
 use crate::values::add_value;
@@ -110,7 +110,7 @@ impl Entailed {
     pub(crate) fn strike(&mut self, v: u8)
         requires { v < 128 }
         ensures noted { (k : ℕ) → is_noted_in self.new k ≡ is_noted_in self.old k }
-        ensures struck { (u : ℕ) → is_struck self.new u ≡ true → (is_struck self.old u ≡ true) ⊎ (u ≡ v) }
+        ensures struck { (u : ℕ) → is_among_struck self.new u ≡ true → (is_among_struck self.old u ≡ true) ⊎ (u ≡ v) }
     {
         let h = usize::from(v / 64);
         self.struck[h] = add_value(self.struck[h], v % 64);

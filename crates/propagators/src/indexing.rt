@@ -10,12 +10,13 @@ ghost use Rattle.propagators.specs.Plans.{IsPlanOf};
 ghost use Rattle.propagators.specs.Propagated.{IsPropagated, RunsEmpty};
 ghost use Rattle.propagators.specs.Indexes.{all_values, list_in, IsRoot, IsRootBefore, IsIndexOf};
 
+use crate::arranging::copy_front;
 use crate::constraints::Constraints;
 use crate::domains::Domains;
 use crate::index::Index;
 use crate::plan::Plan;
 use crate::revising::Alive;
-use crate::visits::{copy_front, propagate_after, propagate_all};
+use crate::visits::{propagate_after, propagate_all};
 use assign::VarSet;
 use language::{Candidate, Language, Memory};
 use std::alloc::Global;

@@ -9,6 +9,7 @@
 //! AC-3bit (Lecoutre and Vion, Constraint Programming Letters 2, 2008).
 #![tactic(auto)]
 
+mod arranging;
 mod briefs;
 mod constraints;
 mod domains;
@@ -22,6 +23,7 @@ mod revising;
 mod supports;
 mod values;
 mod visits;
+mod waiting;
 
 pub use constraints::Constraints;
 pub use domains::Domains;

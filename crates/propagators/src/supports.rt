@@ -2,23 +2,26 @@
 
 ghost use Rattle.std.specs.Prelude.{◌≡◌, ◌+◌, ◌*◌, ◌^◌, ◌<◌, ◌≤◌, ◌==◌, ◌&&◌, ◌||◌, ℕ, Bool, true, false, List, [], ◌∷◌, length, map, take, slice_index_or, All};
 ghost use Rattle.std.specs.Int.{bit_at};
-ghost use Rattle.assign.specs.Sets.{has};
-ghost use Rattle.propagators.specs.Values.{ones_of};
+ghost use Rattle.std.specs.List.{list_all};
+ghost use Rattle.assign.specs.Sets.{has, ones_of};
 ghost use Rattle.propagators.specs.Supports.{AreSupported, AreAlong, AreBelow, AreSupportedBeside, HasTuple, HasNoTuple, continues};
-ghost use Rattle.propagators.specs.Families.{is_wanted, is_not_empty};
+ghost use Rattle.propagators.specs.Families.{is_wanted, is_not_empty, sets_on};
 ghost use Rattle.propagators.specs.Loose.{IsBounded};
 ghost use Rattle.propagators.specs.Chains.{IsChain};
 ghost use Rattle.propagators.specs.Pairs.{goes_by, AreSides};
 ghost use Rattle.propagators.specs.Briefs.{by_pair};
 ghost use Rattle.rel_table.specs.Relation.{Relation};
+ghost use Rattle.rel_table.specs.Table.{truth_at};
 ghost use Rattle.language.specs.Pairs.{ArePairTables, IsPairTable};
 
 use crate::briefs::Pair;
+use crate::domains::Domains;
 use crate::values::{
-    add_where, either, greatest_value, is_empty, least_value, passing, with_value, without_value,
+    add_where, either, greatest_value, is_empty, least_value, only_member, passing, with_value,
+    without_value,
 };
 use language::Language;
-use rel_table::Table;
+use rel_table::{Table, place_of};
 
 /// The supported values of one set.
 #[inline]
@@ -193,6 +196,10 @@ fn in_three(
     ensures { AreSupported (ones_of first ∷ ones_of second ∷ ones_of last ∷ []) (continues table.now holding at) (ones_of result.0 ∷ ones_of result.1 ∷ ones_of result.2 ∷ []) }
 {
     let d = u32::from(table.value_count());
+    if let Some(x) = only_member(first) {
+        let below = in_two(table, holding, at * d + u32::from(x), second, last);
+        return (with_value(0, x, below.0), below.0, below.1);
+    }
     let (mut a, mut b, mut c) = (0, 0, 0);
     let mut rest = first;
     while rest != 0 {
@@ -279,6 +286,10 @@ fn in_four(
     requires last { AreBelow table.now.value_count (ones_of last) }
     ensures { AreSupported (ones_of first ∷ ones_of second ∷ ones_of third ∷ ones_of last ∷ []) (continues table.now holding 0) (ones_of result.0 ∷ ones_of result.1 ∷ ones_of result.2 ∷ ones_of result.3 ∷ []) }
 {
+    if let Some(x) = only_member(first) {
+        let below = in_three(table, holding, u32::from(x), second, third, last);
+        return (with_value(0, x, below.0), below.0, below.1, below.2);
+    }
     let (mut a, mut b, mut c, mut e) = (0, 0, 0, 0);
     let mut rest = first;
     while rest != 0 {
@@ -325,40 +336,82 @@ fn is_right(held: bool, holding: bool) -> bool
     if holding { held } else { !held }
 }
 
-/// The least value of each of the first sets, so many.
+/// The least value of each variable of a scope.
 #[inline]
-fn least_values(sets: &[u64; 4], count: usize) -> [u8; 4]
-    requires few { count ≤ 4 }
-    requires some { (j : ℕ) → j < count → is_not_empty (ones_of (slice_index_or sets.now j 0)) ≡ true }
-    ensures there { (j : ℕ) → j < count → has (ones_of (slice_index_or sets.now j 0)) (slice_index_or result j 0) ≡ true }
+fn least_values(doms: &Domains, scope: &[u8]) -> [u8; 4]
+    requires short { length scope.now ≤ 4 }
+    requires known { All (λ v. v < length doms.now) scope.now }
+    requires full { list_all is_not_empty doms.now ≡ true }
+    ensures there { (j : ℕ) → j < length scope.now → has (slice_index_or doms.now (slice_index_or scope.now j 0) []) (slice_index_or result j 0) ≡ true }
     ensures size { length result ≡ 4 }
 {
     let mut values = [0; 4];
-    for j in 0..count {
-        values[j] = least_value(sets[j]);
+    for j in 0..scope.len() {
+        values[j] = doms.least(scope[j]);
     }
     values
 }
 
-/// The values of the set at one place of a scope that go with some values of the others.
+/// How far apart two tuples stand that differ by one at a place before so many others.
 #[inline]
-pub(crate) fn going_along(table: &Table, holding: bool, sets: &[u64; 4], place: usize) -> u64
-    requires place { place < table.now.arity }
-    requires some { (j : ℕ) → j < table.now.arity → is_not_empty (ones_of (slice_index_or sets.now j 0)) ≡ true }
-    requires below { (j : ℕ) → j < table.now.arity → AreBelow table.now.value_count (ones_of (slice_index_or sets.now j 0)) }
-    ensures { AreAlong (take table.now.arity (map ones_of sets.now)) (continues table.now holding 0) place (ones_of result) }
+fn step_of(d: u8, after: usize) -> u32
+    requires some { 1 ≤ after }
+    requires few { after ≤ 3 }
+    requires small { d ≤ 64 }
+    ensures { result ≡ d ^ after }
 {
-    let arity = usize::from(table.arity());
-    let others = least_values(sets, arity);
+    let d = u32::from(d);
+    if after == 1 {
+        d
+    } else if after == 2 {
+        d * d
+    } else {
+        d * d * d
+    }
+}
+
+/// The values of a set at whose places a table says what is wanted. Value x has the place that stands x steps after the first one.
+#[inline]
+fn in_steps(table: &Table, holding: bool, first: u32, step: u32, values: u64) -> u64
+    requires fits { (x : ℕ) → has (ones_of values) x ≡ true → first + x * step < length table.now.truth }
+    requires small { length table.now.truth ≤ 65536 }
+    ensures { (x : ℕ) → has (ones_of result) x ≡ (has (ones_of values) x && is_wanted holding (truth_at table.now (first + x * step))) }
+{
     let mut found = 0;
-    let mut rest = sets[place];
+    let mut rest = values;
     while rest != 0 {
         let x = least_value(rest);
         rest = without_value(rest, x);
-        let mut tuple = others;
-        tuple[place] = x;
-        let right = is_right(table.accepts(&tuple[..arity]), holding);
+        let right = is_right(table.at(first + u32::from(x) * step), holding);
         found = add_where(found, x, right);
     }
     found
+}
+
+/// The values of the variable at one place of a scope that go with some values of the others.
+#[inline]
+pub(crate) fn going_along(
+    table: &Table,
+    holding: bool,
+    doms: &Domains,
+    scope: &[u8],
+    place: usize,
+) -> u64
+    requires arity { length scope.now ≡ table.now.arity }
+    requires place { place < length scope.now }
+    requires known { All (λ v. v < length doms.now) scope.now }
+    requires full { list_all is_not_empty doms.now ≡ true }
+    requires below { (v : ℕ) → AreBelow table.now.value_count (slice_index_or doms.now v []) }
+    ensures { AreAlong (sets_on doms.now scope.now) (continues table.now holding 0) place (ones_of result) }
+{
+    let arity = usize::from(table.arity());
+    let d = table.value_count();
+    let mut tuple = least_values(doms, scope);
+    tuple[place] = 0;
+    let first = place_of(d, &tuple[..arity]) as u32;
+    if place + 1 == arity {
+        return doms.passing(scope[place], table.row(first), holding);
+    }
+    let step = step_of(d, arity - 1 - place);
+    in_steps(table, holding, first, step, doms.values(scope[place]))
 }

@@ -2,9 +2,8 @@
 
 ghost use Rattle.std.specs.Prelude.{◌≡◌, ◌≢◌, ◌<◌, ◌≤◌, ◌==◌, ℕ, true, false, not, nat_le, nat_lt, ◌&&◌, ◌||◌, IfSome, None, length};
 ghost use Rattle.std.specs.List.{filter};
-ghost use Rattle.assign.specs.Sets.{numbers, has};
+ghost use Rattle.assign.specs.Sets.{numbers, has, ones_of};
 ghost use Rattle.std.specs.Int.{bit_at};
-ghost use Rattle.propagators.specs.Values.{ones_of};
 ghost use Rattle.propagators.specs.Families.{is_not_empty, is_wanted};
 ghost use Rattle.propagators.specs.Loose.{HasTwo};
 ghost use Rattle.propagators.specs.Pairs.{IsOnly};

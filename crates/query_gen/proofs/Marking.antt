@@ -1,8 +1,7 @@
 -- How marks change, and stay true.
-use Rattle.query_gen.proofs.Prelude.{◌≡◌, ℕ, ◌+◌, ◌<◌, ◌≤◌, Bool, true, false, ◌&&◌, cond, List, [], ◌∷◌, ◌++◌, length, map, refl, sym, ◌∙◌, ap, arith, inl, inr, ◌⊎◌, ◌==◌, length-map, length-append, get_or-map, get_or_past, append-nil, cases_lt, eqb-true, and_parts, Candidate, Language, IsCandidate, number_of, outcome_of_candidate, AbsentStays, Mark, Blank, Implied, Remembered, IsMadeFor, MarksHold, mark_of, begun, without_spent, IsBegun, NoMarksHold, MarksStay}
+use Rattle.query_gen.proofs.Prelude.{◌≡◌, ℕ, ◌+◌, ◌<◌, ◌≤◌, Bool, true, false, ◌&&◌, cond, List, [], ◌∷◌, ◌++◌, length, map, refl, sym, ◌∙◌, ap, arith, inl, inr, ◌⊎◌, ◌==◌, length-map, length-append, get_or-map, get_or_past, append-nil, cases_lt, eqb-true, and_parts, Candidate, Language, IsCandidate, number_of, outcome_of_candidate, AbsentStays, Mark, Blank, Implied, Remembered, AreMarksFor, MarksHold, mark_of, remembered_begun, without_spent, IsBegun, NoMarksHold, MarksStay, number_below}
 use Rattle.fd_solver.specs.declared.outcome.Outcome.TheVariants as outcomes
 use Rattle.query_gen.specs.declared.screen.Mark.TheVariants.{Spent}
-use Rattle.query_gen.proofs.Numbers.{number_below}
 
 -- ---- What a mark says
 
@@ -18,7 +17,7 @@ never_spent Spent h = cc
 
 -- ---- Where a search begins
 
-module _ (l : Language) (network : List Candidate) (budget : ℕ) (s : Remembered) (learned : ℕ) (made : IsMadeFor l s) (holds : MarksHold l network budget s) (is : learned ≡ length network) where
+module _ (l : Language) (network : List Candidate) (budget : ℕ) (s : Remembered) (learned : ℕ) (made : AreMarksFor l s) (holds : MarksHold l network budget s) (is : learned ≡ length network) where
   abbrev forgotten : Remembered
   forgotten = record { first = s.first; marks = map without_spent s.marks; learned = learned; budget = budget; index = s.index }
 
@@ -32,10 +31,10 @@ module _ (l : Language) (network : List Candidate) (budget : ℕ) (s : Remembere
     earlier = λ c known h. omega arith;
   }
 
-  forgotten_made : IsMadeFor l forgotten
+  forgotten_made : AreMarksFor l forgotten
   forgotten_made = record { first = made.first; marks = length-map s.marks without_spent ∙ made.marks; index = made.index }
 
-  pub has_begun : IsBegun l network budget (begun s learned budget)
+  pub has_begun : IsBegun l network budget (remembered_begun s learned budget)
   has_begun = go ((s.learned == learned) && (s.budget == budget)) refl
     where
       go : (b : Bool) → ((s.learned == learned) && (s.budget == budget)) ≡ b → IsBegun l network budget (cond b s forgotten)

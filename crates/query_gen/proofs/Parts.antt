@@ -1,9 +1,9 @@
 -- Parts of the candidates: what they say, and how their marks are found and taken over.
-use Rattle.query_gen.proofs.Prelude.{◌≡◌, ℕ, ◌+◌, ◌-◌, ◌<◌, ◌≤◌, Bool, true, false, not, ◌&&◌, ◌||◌, cond, List, [], ◌∷◌, ◌++◌, length, map, take, drop, get_or, set, refl, sym, ◌∙◌, ap, subst, arith, inl, inr, ◌⊎◌, append_assoc, get_or-set_same, get_or-set_other, ◌==◌, ◌≢◌, slice_range, filter, filter_map, list_any, drop_more, take_all, map-append, append_cancel_right, length-set, length-map, get_or_read, get_or-take, get_or-drop, filter-append, filter_map-append, list_any-append, drop_split, cases_eq, cases_lt, and_from, eq-eqb, both_ways, Assignment, Candidate, Language, IsCandidate, candidates, number_of, numbered, Outcome, outcome_of_candidate, Query, Ask, AllImplied, Undecided, Mark, Blank, Implied, is_among, is_spent, found_in, query_from, query_of, next_query, Remembered, IsMadeFor, MarksHold, mark_of, is_mark_spent, is_open, begun, without_spent, IsBegun, PartsAreJoined, WholeIsNext, query_in, query_then, is_ask, is_looked_at, byte_for, IsSearched, IsSearchedTo, AreTrue, mark_taken, AreTaken, HasTaken}
+use Rattle.query_gen.proofs.Prelude.{◌≡◌, ℕ, ◌+◌, ◌-◌, ◌<◌, ◌≤◌, Bool, true, false, not, ◌&&◌, ◌||◌, cond, List, [], ◌∷◌, ◌++◌, length, map, take, drop, get_or, set, refl, sym, ◌∙◌, ap, subst, arith, inl, inr, ◌⊎◌, append_assoc, get_or-set_same, get_or-set_other, ◌==◌, ◌≢◌, slice_range, filter, filter_map, list_any, drop_more, take_all, map-append, append_cancel_right, length-set, length-map, get_or_read, get_or-take, get_or-drop, filter-append, filter_map-append, list_any-append, drop_split, cases_eq, cases_lt, and_from, eq-eqb, both_ways, Assignment, Candidate, Language, IsCandidate, candidates, number_of, numbered, Outcome, outcome_of_candidate, Query, Ask, AllImplied, Undecided, Mark, Blank, Implied, is_among, is_spent, found_in, query_from, query_of, next_query, Remembered, AreMarksFor, MarksHold, mark_of, is_mark_spent, is_open, remembered_begun, without_spent, IsBegun, PartsAreJoined, WholeIsNext, query_in, query_then, is_ask, is_looked_at, byte_for, IsSearched, IsSearchedTo, AreTrue, mark_taken, AreTaken, HasTaken, number_below}
 use Rattle.propagators.specs.Indexes.{IsIndexOf}
 use Rattle.fd_solver.specs.declared.outcome.Outcome.TheVariants as outcomes
 use Rattle.query_gen.specs.declared.screen.Mark.TheVariants as marks
-use Rattle.query_gen.proofs.Numbers.{same_number, number_below}
+use Rattle.query_gen.proofs.Numbers.{same_number}
 use Rattle.query_gen.proofs.Marking.{has_begun}
 
 -- ---- Ranges
@@ -221,15 +221,15 @@ pub spent_next : (answer : Query) (o : Outcome) → is_ask answer ≡ false → 
 spent_next answer o none is = sym (ap (λ x. query_then answer (query_of (x ∷ []))) is ∙ then_open answer none)
 
 -- a mark that counts under this network and budget is true
-module _ (l : Language) (network : List Candidate) (budget : ℕ) (s : Remembered) (learned number : ℕ) (c : Candidate) (m : Mark) (made : IsMadeFor l s) (holds : MarksHold l network budget s) (is : learned ≡ length network)
-    (known : IsCandidate l c) (at : number_of l c ≡ number) (read : m ≡ get_or (begun s learned budget).marks number m) where
-  here : IsBegun l network budget (begun s learned budget)
+module _ (l : Language) (network : List Candidate) (budget : ℕ) (s : Remembered) (learned number : ℕ) (c : Candidate) (m : Mark) (made : AreMarksFor l s) (holds : MarksHold l network budget s) (is : learned ≡ length network)
+    (known : IsCandidate l c) (at : number_of l c ≡ number) (read : m ≡ get_or (remembered_begun s learned budget).marks number m) where
+  here : IsBegun l network budget (remembered_begun s learned budget)
   here = has_begun l network budget s learned made holds is
 
-  mark_read : mark_of l (begun s learned budget) c ≡ m
+  mark_read : mark_of l (remembered_begun s learned budget) c ≡ m
   mark_read =
-      ap (λ n. get_or (begun s learned budget).marks n Blank) at
-      ∙ sym (get_or_read (begun s learned budget).marks number m (let size = here.made.marks in let low = number_below l c known in omega arith) read Blank)
+      ap (λ n. get_or (remembered_begun s learned budget).marks n Blank) at
+      ∙ sym (get_or_read (remembered_begun s learned budget).marks number m (let size = here.made.marks in let low = number_below l c known in omega arith) read Blank)
 
   pub under_implied : m ≡ Implied → outcome_of_candidate l network c budget ≡ outcomes.Absent
   under_implied h = here.holds.implied c known (mark_read ∙ h)
@@ -308,7 +308,7 @@ spent_outcome outcomes.Spent h = refl
 
 -- The screen has taken over the marks of the candidates below a number.
 pub record IsTakenTo (l : Language) (network kept : List Candidate) (budget number : ℕ) (s : Remembered) : Type 0 where
-  pub made : IsMadeFor l s
+  pub made : AreMarksFor l s
   pub holds : MarksHold l network budget s
   -- it is a screen of this network and budget, once one part has been taken over
   pub learned : 0 < number → s.learned ≡ length network
@@ -334,9 +334,9 @@ pub part_range_true : (l : Language) (network kept : List Candidate) (budget fir
 part_range_true l network kept budget first end from to bytes answer low high part =
     range_true l network budget first end from to bytes low high (searched_true l network kept budget first end bytes answer part)
 
-module _ (l : Language) (network : List Candidate) (budget first end : ℕ) (bytes : List ℕ) (old new : Remembered) (begun : IsBegun l network budget old) (taken : HasTaken bytes first end old new) where
-  pub made_taken : IsMadeFor l new
-  made_taken = record { first = taken.numbers ∙ begun.made.first; marks = taken.size ∙ begun.made.marks; index = subst (IsIndexOf l) (sym taken.index) begun.made.index }
+module _ (l : Language) (network : List Candidate) (budget first end : ℕ) (bytes : List ℕ) (old new : Remembered) (remembered_begun : IsBegun l network budget old) (taken : HasTaken bytes first end old new) where
+  pub made_taken : AreMarksFor l new
+  made_taken = record { first = taken.numbers ∙ remembered_begun.made.first; marks = taken.size ∙ remembered_begun.made.marks; index = subst (IsIndexOf l) (sym taken.index) remembered_begun.made.index }
 
   abbrev inner : Candidate → Outcome
   inner c = outcome_of_candidate l network c budget
@@ -345,7 +345,7 @@ module _ (l : Language) (network : List Candidate) (budget first end : ℕ) (byt
   holds_taken are = record {
     implied = λ c is h. implied c is h (cases_lt (number_of l c) first) (cases_lt (number_of l c) end);
     spent = λ c is h e f. spent c is h (cases_lt (number_of l c) first) (cases_lt (number_of l c) end);
-    earlier = λ c is h. (let same = taken.learned in let here = begun.learned in omega arith);
+    earlier = λ c is h. (let same = taken.learned in let here = remembered_begun.learned in omega arith);
   }
     where
       mark_inside : (c : Candidate) → IsCandidate l c → (from : first ≤ number_of l c) → (below : number_of l c < end) → (b : Bool) × (mark_of l new c ≡ mark_taken (mark_of l old c) (cond b (byte_for (inner c)) 0))
@@ -356,22 +356,22 @@ module _ (l : Language) (network : List Candidate) (budget first end : ℕ) (byt
         where
           either : (inner c ≡ outcomes.Absent) ⊎ (mark_of l old c ≡ Implied) → inner c ≡ outcomes.Absent
           either (inl absent) = absent
-          either (inr before) = begun.holds.implied c is before
-      told false c is h = begun.holds.implied c is (taken_nothing (mark_of l old c) h)
+          either (inr before) = remembered_begun.holds.implied c is before
+      told false c is h = remembered_begun.holds.implied c is (taken_nothing (mark_of l old c) h)
 
       implied : (c : Candidate) → IsCandidate l c → mark_of l new c ≡ Implied → (number_of l c < first) ⊎ (first ≤ number_of l c) → (number_of l c < end) ⊎ (end ≤ number_of l c) → inner c ≡ outcomes.Absent
-      implied c is h (inl before) side = begun.holds.implied c is (sym (taken.outside (number_of l c) (inl before)) ∙ h)
+      implied c is h (inl before) side = remembered_begun.holds.implied c is (sym (taken.outside (number_of l c) (inl before)) ∙ h)
       implied c is h (inr from) (inl below) = let mark = mark_inside c is from below in told mark.0 c is (sym mark.1 ∙ h)
-      implied c is h (inr from) (inr past) = begun.holds.implied c is (sym (taken.outside (number_of l c) (inr past)) ∙ h)
+      implied c is h (inr from) (inr past) = remembered_begun.holds.implied c is (sym (taken.outside (number_of l c) (inr past)) ∙ h)
 
       said : (b : Bool) (c : Candidate) → is_mark_spent (mark_taken (mark_of l old c) (cond b (byte_for (inner c)) 0)) ≡ true → inner c ≡ outcomes.Spent
       said true c h = spent_outcome (inner c) (sym (taken_spent (mark_of l old c) (inner c)) ∙ h)
       said false c h = absurd (both_ways (is_mark_spent (mark_taken (mark_of l old c) 0)) (unset_spent (mark_of l old c)) h)
 
       spent : (c : Candidate) → IsCandidate l c → mark_of l new c ≡ marks.Spent → (number_of l c < first) ⊎ (first ≤ number_of l c) → (number_of l c < end) ⊎ (end ≤ number_of l c) → inner c ≡ outcomes.Spent
-      spent c is h (inl before) side = begun.holds.spent c is (sym (taken.outside (number_of l c) (inl before)) ∙ h) begun.learned begun.budgeted
+      spent c is h (inl before) side = remembered_begun.holds.spent c is (sym (taken.outside (number_of l c) (inl before)) ∙ h) remembered_begun.learned remembered_begun.budgeted
       spent c is h (inr from) (inl below) = let mark = mark_inside c is from below in said mark.0 c (sym (ap is_mark_spent mark.1) ∙ ap is_mark_spent h)
-      spent c is h (inr from) (inr past) = begun.holds.spent c is (sym (taken.outside (number_of l c) (inr past)) ∙ h) begun.learned begun.budgeted
+      spent c is h (inr from) (inr past) = remembered_begun.holds.spent c is (sym (taken.outside (number_of l c) (inr past)) ∙ h) remembered_begun.learned remembered_begun.budgeted
 
   -- a part's candidates are open where they were looked at and their outcome is spent
   open_inside : (kept : List Candidate) (answer : Query) → IsSearched l network kept budget first end bytes answer → (c : Candidate) → IsCandidate l c → first ≤ number_of l c → number_of l c < end →
@@ -384,33 +384,24 @@ module _ (l : Language) (network : List Candidate) (budget first end : ℕ) (byt
       go false = unset_spent (mark_of l old c)
 
 -- a search under the same network and budget forgets nothing
-begun_same : (s : Remembered) (learned budget : ℕ) → s.learned ≡ learned → s.budget ≡ budget → begun s learned budget ≡ s
+begun_same : (s : Remembered) (learned budget : ℕ) → s.learned ≡ learned → s.budget ≡ budget → remembered_begun s learned budget ≡ s
 begun_same s learned budget e f =
     ap (λ b. cond b s (record { first = s.first; marks = map without_spent s.marks; learned = learned; budget = budget; index = s.index }))
     (and_from (s.learned == learned) (s.budget == budget) (eq-eqb s.learned learned e) (eq-eqb s.budget budget f))
 
-pub taken_to_none : (l : Language) (network kept : List Candidate) (budget : ℕ) (s : Remembered) → IsMadeFor l s → MarksHold l network budget s → IsTakenTo l network kept budget 0 s
-taken_to_none l network kept budget s made holds = record {
-  made = made;
-  holds = holds;
-  learned = λ some. absurd (omega arith);
-  budgeted = λ some. absurd (omega arith);
-  opened = λ none c is below. absurd (omega arith);
-}
-
 -- one part more
 pub taken_further : (l : Language) (network kept : List Candidate) (budget first end : ℕ) (bytes : List ℕ) (answer : Query) (old new : Remembered) → first ≤ end →
-    IsTakenTo l network kept budget first old → HasTaken bytes first end (begun old (length network) budget) new → IsSearched l network kept budget first end bytes answer →
+    IsTakenTo l network kept budget first old → HasTaken bytes first end (remembered_begun old (length network) budget) new → IsSearched l network kept budget first end bytes answer →
     IsTakenTo l network kept budget end new
 taken_further l network kept budget first end bytes answer old new rising before taken part = record {
-  made = made_taken l network budget first end bytes (begun old (length network) budget) new here taken;
-  holds = holds_taken l network budget first end bytes (begun old (length network) budget) new here taken (searched_true l network kept budget first end bytes answer part);
+  made = made_taken l network budget first end bytes (remembered_begun old (length network) budget) new here taken;
+  holds = holds_taken l network budget first end bytes (remembered_begun old (length network) budget) new here taken (searched_true l network kept budget first end bytes answer part);
   learned = λ some. taken.learned ∙ here.learned;
   budgeted = λ some. taken.budgeted ∙ here.budgeted;
   opened = λ none c is below. opened none c is below (cases_lt (number_of l c) first);
 }
   where
-    here : IsBegun l network budget (begun old (length network) budget)
+    here : IsBegun l network budget (remembered_begun old (length network) budget)
     here = has_begun l network budget old (length network) before.made before.holds refl
 
     says : ℕ → ℕ → Query
@@ -429,45 +420,13 @@ taken_further l network kept budget first end bytes answer old new rising before
         ap is_mark_spent (taken.outside (number_of l c) (inl earlier) ∙ ap (λ (s : Remembered). mark_of l s c) (begun_same old (length network) budget (before.learned (omega arith)) (before.budgeted (omega arith))))
         ∙ before.opened (parts none).0 c is earlier
     opened none c is below (inr from) =
-        open_inside l network budget first end bytes (begun old (length network) budget) new here taken kept answer part c is from below
+        open_inside l network budget first end bytes (remembered_begun old (length network) budget) new here taken kept answer part c is from below
         ∙ ap (λ a. (is_among kept c && not a) && is_spent (outcome_of_candidate l network c budget)) (none_before l network kept budget first end c from below (parts none).1)
         ∙ kept_as (is_among kept c) (outcome_of_candidate l network c budget)
 
 -- ---- What the call that takes them over says
 
-length-begun : (s : Remembered) (learned budget : ℕ) → length (begun s learned budget).marks ≡ length s.marks
-length-begun s learned budget = go ((s.learned == learned) && (s.budget == budget))
-  where
-    go : (b : Bool) → length (Remembered.marks (cond b s (record { first = s.first; marks = map without_spent s.marks; learned = learned; budget = budget; index = s.index }))) ≡ length s.marks
-    go true = refl
-    go false = length-map s.marks without_spent
-
-first-begun : (s : Remembered) (learned budget : ℕ) → (begun s learned budget).first ≡ s.first
-first-begun s learned budget = go ((s.learned == learned) && (s.budget == budget))
-  where
-    go : (b : Bool) → Remembered.first (cond b s (record { first = s.first; marks = map without_spent s.marks; learned = learned; budget = budget; index = s.index })) ≡ s.first
-    go true = refl
-    go false = refl
-
-index-begun : (s : Remembered) (learned budget : ℕ) → (begun s learned budget).index ≡ s.index
-index-begun s learned budget = go ((s.learned == learned) && (s.budget == budget))
-  where
-    go : (b : Bool) → Remembered.index (cond b s (record { first = s.first; marks = map without_spent s.marks; learned = learned; budget = budget; index = s.index })) ≡ s.index
-    go true = refl
-    go false = refl
-
--- there is a mark of each number
-pub taken_room : (bytes : List ℕ) (first end learned budget : ℕ) (old new : Remembered) → HasTaken bytes first end (begun old learned budget) new → length new.marks ≡ length old.marks
-taken_room bytes first end learned budget old new taken = taken.size ∙ length-begun old learned budget
-
-pub made_over : (l : Language) (bytes : List ℕ) (first end learned budget : ℕ) (old new : Remembered) → HasTaken bytes first end (begun old learned budget) new → IsMadeFor l old → IsMadeFor l new
-made_over l bytes first end learned budget old new taken made = record {
-  first = taken.numbers ∙ first-begun old learned budget ∙ made.first;
-  marks = taken_room bytes first end learned budget old new taken ∙ made.marks;
-  index = subst (IsIndexOf l) (sym (taken.index ∙ index-begun old learned budget)) made.index;
-}
-
-pub holds_over : (l : Language) (network : List Candidate) (budget first end : ℕ) (bytes : List ℕ) (old new : Remembered) → HasTaken bytes first end (begun old (length network) budget) new →
-    IsMadeFor l old → MarksHold l network budget old → AreTrue l network budget first end bytes → MarksHold l network budget new
+pub holds_over : (l : Language) (network : List Candidate) (budget first end : ℕ) (bytes : List ℕ) (old new : Remembered) → HasTaken bytes first end (remembered_begun old (length network) budget) new →
+    AreMarksFor l old → MarksHold l network budget old → AreTrue l network budget first end bytes → MarksHold l network budget new
 holds_over l network budget first end bytes old new taken made holds are =
-    holds_taken l network budget first end bytes (begun old (length network) budget) new (has_begun l network budget old (length network) made holds refl) taken are
+    holds_taken l network budget first end bytes (remembered_begun old (length network) budget) new (has_begun l network budget old (length network) made holds refl) taken are

@@ -8,24 +8,24 @@ pub use Rattle.std.specs.List.{filter, filter_map, list_any, range_with_len}
 pub use Rattle.std.specs.Prelude.{All, Any, Contains, IsTrue, slice_index_or, slice_range, ◌==◌, ◌↔◌, ◌≢◌}
 pub use Rattle.assign.specs.Assignment.{Assignment}
 pub use Rattle.assign.specs.Sets.{has, numbers}
+unfoldable pub use Rattle.assign.specs.Sets.{ones_of}
+pub use Rattle.assign.proofs.Ones.{ones_of-zero}
 pub use Rattle.bias_store.proofs.Members.{candidate_at}
-pub use Rattle.bias_store.proofs.Ones.{ones_of-zero}
 pub use Rattle.bias_store.specs.KeptSet.{kept_relations}
-unfoldable pub use Rattle.bias_store.specs.Masks.{ones_of}
 pub use Rattle.fd_solver.proofs.Outcomes.{absent_is_implied, absent_stays, found_is_lawful, spent_is_long}
 pub use Rattle.fd_solver.specs.Laws.{AbsentIsImplied, AbsentStays, FoundIsLawful, IsQuestionAgainst, SpentIsLong}
 pub use Rattle.fd_solver.specs.Outcomes.{IsOrder, outcome_of_candidate, search_outcome}
 pub use Rattle.fd_solver.specs.declared.outcome.Outcome.{Outcome}
 pub use Rattle.fd_solver.specs.declared.outcome.Outcome.TheVariants.{Absent, Found, Spent}
-pub use Rattle.language.proofs.Counting.{count, count_more, count_rises, numbered}
+pub use Rattle.language.proofs.Counting.{count, count_more, count_rises, number_below, numbered}
 pub use Rattle.language.proofs.Members.{any-filter, any-map}
 pub use Rattle.language.specs.Answers.{IsNetwork}
 pub use Rattle.language.specs.Language.{IsCandidate, IsImplied, Language, candidates, number_of, relations_on, variable_count}
 pub use Rattle.language.specs.declared.candidates.Candidate.{Candidate}
-pub use Rattle.query_gen.specs.Inside.{IsBegun, begun, seen, without_spent}
+pub use Rattle.query_gen.specs.Inside.{IsBegun, remembered_begun, seen, without_spent}
 pub use Rattle.query_gen.specs.Laws.{AllAreImplied, AskedIsLawful, MarksStay, NoMarksHold, PartsAreJoined, PickedAreInOrder, UndecidedIsSpent, WholeIsNext}
-pub use Rattle.query_gen.specs.Marks.{IsMadeFor, MarksHold, Remembered, is_mark_spent, is_open, mark_of}
-pub use Rattle.query_gen.specs.Parts.{AreTaken, AreTrue, HasTaken, IsScopeOf, IsSearched, IsSearchedBefore, IsSearchedTo, byte_for, is_ask, is_looked_at, mark_taken, query_in, query_then, reach, start_of}
+pub use Rattle.query_gen.specs.Marks.{AreMarksFor, MarksHold, Remembered, is_mark_spent, is_open, mark_of}
+pub use Rattle.query_gen.specs.Parts.{AreTaken, AreTrue, HasTaken, IsScopeOf, IsSearched, IsSearchedBefore, IsSearchedTo, byte_for, is_ask, is_looked_at, mark_taken, query_in, query_then, reach, scope_start}
 pub use Rattle.query_gen.specs.Questions.{found_in, is_among, is_spent, next_query, query_from, query_of}
 pub use Rattle.query_gen.specs.declared.query.Query.{Query}
 pub use Rattle.query_gen.specs.declared.query.Query.TheVariants.{AllImplied, Ask, Undecided}

@@ -1,5 +1,5 @@
 -- A part's search, one scope after another.
-use Rattle.query_gen.proofs.Prelude.{◌≡◌, ℕ, zero, suc, ◌+◌, ◌-◌, ◌<◌, ◌≤◌, Bool, true, false, cond, ◌||◌, List, [], ◌∷◌, length, get_or, replicate, refl, sym, ◌∙◌, ap, subst, arith, inl, inr, ◌⊎◌, ◌==◌, ◌≢◌, filter, range_with_len, cases_lt, cases_eq, ne_eqb, eq-eqb, false_from_ne_true, get_or-replicate, length-replicate, All-contains, has, Candidate, Language, IsCandidate, relations_on, number_of, IsNetwork, any-map, any-filter, count, count_more, count_rises, ones_of, kept_relations, candidate_at, Query, Ask, AllImplied, Undecided, is_among, is_ask, reach, start_of, IsScopeOf, IsSearchedTo, IsSearchedBefore}
+use Rattle.query_gen.proofs.Prelude.{◌≡◌, ℕ, zero, suc, ◌+◌, ◌-◌, ◌<◌, ◌≤◌, Bool, true, false, cond, ◌||◌, List, [], ◌∷◌, length, get_or, replicate, refl, sym, ◌∙◌, ap, subst, arith, inl, inr, ◌⊎◌, ◌==◌, ◌≢◌, filter, range_with_len, cases_lt, cases_eq, ne_eqb, eq-eqb, false_from_ne_true, get_or-replicate, length-replicate, All-contains, has, Candidate, Language, IsCandidate, relations_on, number_of, IsNetwork, any-map, any-filter, count, count_more, count_rises, ones_of, kept_relations, candidate_at, Query, Ask, AllImplied, Undecided, is_among, is_ask, reach, scope_start, IsScopeOf, IsSearchedTo, IsSearchedBefore}
 use Rattle.std.specs.Int.{bit_at}
 use Rattle.std.proofs.Math.ListN.{get_or-eq_default}
 use Rattle.query_gen.proofs.Among.{among_contained}
@@ -7,19 +7,19 @@ use Rattle.query_gen.proofs.Parts.{next_other}
 
 -- ---- Where scopes begin
 
-start_is : (l : Language) (s : ℕ) → start_of l s ≡ count l s
+start_is : (l : Language) (s : ℕ) → scope_start l s ≡ count l s
 start_is l s = omega arith
 
-pub start_next : (l : Language) (s : ℕ) → start_of l (s + 1) ≡ start_of l s + length (relations_on l s)
+pub start_next : (l : Language) (s : ℕ) → scope_start l (s + 1) ≡ scope_start l s + length (relations_on l s)
 start_next l s =
     let more = count_more l s in let here = start_is l s in let next = start_is l (s + 1) in omega arith
 
-pub start_rises : (l : Language) (s t : ℕ) → s ≤ t → start_of l s ≤ start_of l t
+pub start_rises : (l : Language) (s t : ℕ) → s ≤ t → scope_start l s ≤ scope_start l t
 start_rises l s t low =
     let rises = count_rises l s t low in let here = start_is l s in let there = start_is l t in omega arith
 
 -- a candidate's number, from where its scope begins
-pub from_start : (l : Language) (c : Candidate) → number_of l c ≡ start_of l c.scope + c.rel
+pub from_start : (l : Language) (c : Candidate) → number_of l c ≡ scope_start l c.scope + c.rel
 from_start l c = let here = start_is l c.scope in omega arith
 
 -- the scopes of a part's first and last candidate, and those between them
@@ -50,21 +50,21 @@ pub kept_known : (l : Language) (kept : List Candidate) (s r : ℕ) → IsNetwor
 kept_known l kept s r known there = All-contains (IsCandidate l) kept (candidate_at s r) known (among_contained kept (candidate_at s r) (among_has kept s r ∙ there))
 
 -- some numbers of the scope's candidates, none of which is kept
-passed : (l : Language) (network kept : List Candidate) (budget first s : ℕ) (bytes : List ℕ) (answer : Query) → s < length l.scopes → (k n : ℕ) → first ≤ n → start_of l s ≤ n →
-    n + k ≤ start_of l s + length (relations_on l s) → ((r : ℕ) → n ≤ start_of l s + r → start_of l s + r < n + k → has (kept_relations kept s) r ≡ false) →
+passed : (l : Language) (network kept : List Candidate) (budget first s : ℕ) (bytes : List ℕ) (answer : Query) → s < length l.scopes → (k n : ℕ) → first ≤ n → scope_start l s ≤ n →
+    n + k ≤ scope_start l s + length (relations_on l s) → ((r : ℕ) → n ≤ scope_start l s + r → scope_start l s + r < n + k → has (kept_relations kept s) r ≡ false) →
     IsSearchedTo l network kept budget first n bytes answer → IsSearchedTo l network kept budget first (n + k) bytes answer
 passed l network kept budget first s bytes answer low zero n from on within none before =
     subst (λ (m : ℕ). IsSearchedTo l network kept budget first m bytes answer) (let e : n ≡ n + 0 = omega arith in e) before
 passed l network kept budget first s bytes answer low (suc k) n from on within none before =
-    let c : Candidate = record { scope = s; rel = n - start_of l s } in
+    let c : Candidate = record { scope = s; rel = n - scope_start l s } in
     let is : IsCandidate l c = record { scope = low; rel = omega arith } in
     let at : number_of l c ≡ n = (let number = from_start l c in omega arith) in
-    let off : is_among kept c ≡ false = among_has kept s (n - start_of l s) ∙ none (n - start_of l s) (omega arith) (omega arith) in
+    let off : is_among kept c ≡ false = among_has kept s (n - scope_start l s) ∙ none (n - scope_start l s) (omega arith) (omega arith) in
     subst (λ (m : ℕ). IsSearchedTo l network kept budget first m bytes answer) (let e : (n + 1) + k ≡ n + suc k = omega arith in e)
     (passed l network kept budget first s bytes answer low k (n + 1) (omega arith) (omega arith) (omega arith) (λ r after below. none r (omega arith) (omega arith)) (next_other l network kept budget first n c bytes answer is at from off before))
 
-pub passed_to : (l : Language) (network kept : List Candidate) (budget first s n m : ℕ) (bytes : List ℕ) (answer : Query) → s < length l.scopes → first ≤ n → start_of l s ≤ n → n ≤ m →
-    m ≤ start_of l s + length (relations_on l s) → ((r : ℕ) → n ≤ start_of l s + r → start_of l s + r < m → has (kept_relations kept s) r ≡ false) →
+pub passed_to : (l : Language) (network kept : List Candidate) (budget first s n m : ℕ) (bytes : List ℕ) (answer : Query) → s < length l.scopes → first ≤ n → scope_start l s ≤ n → n ≤ m →
+    m ≤ scope_start l s + length (relations_on l s) → ((r : ℕ) → n ≤ scope_start l s + r → scope_start l s + r < m → has (kept_relations kept s) r ≡ false) →
     IsSearchedTo l network kept budget first n bytes answer → IsSearchedTo l network kept budget first m bytes answer
 passed_to l network kept budget first s n m bytes answer low from on rising within none before =
     subst (λ (k : ℕ). IsSearchedTo l network kept budget first k bytes answer) (let e : n + (m - n) ≡ m = omega arith in e)
@@ -77,7 +77,7 @@ scope_passed l network kept budget first end s bytes answer inside none before =
     let ends = inside.ends in
     let begins = inside.begins in
     let rising = inside.rising in
-    passed_to l network kept budget first s (reach first end (start_of l s)) (reach first end (start_of l (s + 1))) bytes answer inside.known (omega arith) (omega arith) (omega arith) (omega arith)
+    passed_to l network kept budget first s (reach first end (scope_start l s)) (reach first end (scope_start l (s + 1))) bytes answer inside.known (omega arith) (omega arith) (omega arith) (omega arith)
     (λ r after below. ap (λ rs. has rs r) none) before
 
 -- ---- The least relation of some

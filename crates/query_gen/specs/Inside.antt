@@ -4,7 +4,7 @@ use Rattle.language.specs.declared.candidates.Candidate.{Candidate}
 use Rattle.language.specs.Language.{Language}
 use Rattle.query_gen.specs.declared.screen.Mark.{Mark}
 use Rattle.query_gen.specs.declared.screen.Mark.TheVariants.{Blank, Implied, Spent}
-use Rattle.query_gen.specs.Marks.{Remembered, IsMadeFor, MarksHold}
+use Rattle.query_gen.specs.Marks.{Remembered, AreMarksFor, MarksHold}
 use Rattle.query_gen.specs.declared.screen.Screen.TheInside.{Inside}
 
 abbrev pub seen : Inside → Remembered
@@ -17,14 +17,14 @@ without_spent Implied = Implied
 without_spent Spent = Blank
 
 -- what is left where a search with so many learned candidates and this budget begins
-abbrev pub begun : Remembered → ℕ → ℕ → Remembered
-begun s learned budget =
+abbrev pub remembered_begun : Remembered → ℕ → ℕ → Remembered
+remembered_begun s learned budget =
     if (s.learned == learned) && (s.budget == budget) then s
     else record { first = s.first; marks = map without_spent s.marks; learned = learned; budget = budget; index = s.index }
 
 -- The marks are true, and those "spent" are of this network and budget.
 pub record IsBegun (l : Language) (network : List Candidate) (budget : ℕ) (s : Remembered) : Type 0 where
-  pub made : IsMadeFor l s
+  pub made : AreMarksFor l s
   pub holds : MarksHold l network budget s
   pub learned : s.learned ≡ length network
   pub budgeted : s.budget ≡ budget

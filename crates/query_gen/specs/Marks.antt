@@ -22,7 +22,7 @@ pub record Remembered : Type 0 where
   pub index : Index
 
 -- the numbers of the language's candidates, a mark for each of these, and an index of such candidates
-pub record IsMadeFor (l : Language) (s : Remembered) : Type 0 where
+pub record AreMarksFor (l : Language) (s : Remembered) : Type 0 where
   pub first : s.first ≡ map (λ scope. number_of l (record { scope = scope; rel = 0 })) (numbers (length l.scopes))
   pub marks : length s.marks ≡ length (candidates l)
   pub index : IsIndexOf l s.index

@@ -77,19 +77,19 @@ abbrev pub reach : ℕ → ℕ → ℕ → ℕ
 reach first end number = max first (min end number)
 
 -- the number of the first candidate on a scope
-abbrev pub start_of : Language → ℕ → ℕ
-start_of l scope = number_of l (record { scope = scope; rel = 0 })
+abbrev pub scope_start : Language → ℕ → ℕ
+scope_start l scope = number_of l (record { scope = scope; rel = 0 })
 
 -- some candidates on the scope may be of the part
 pub record IsScopeOf (l : Language) (first end scope : ℕ) : Type 0 where
   pub known : scope < length l.scopes
-  pub ends : first < start_of l (scope + 1)
-  pub begins : start_of l scope < end
+  pub ends : first < scope_start l (scope + 1)
+  pub begins : scope_start l scope < end
   pub rising : first ≤ end
 
 -- a part is searched as far as the scope
 abbrev pub IsSearchedBefore : Language → List Candidate → List Candidate → ℕ → ℕ → ℕ → ℕ → List ℕ → Query → Type 0
-IsSearchedBefore l network kept budget first end scope bytes answer = IsSearchedTo l network kept budget first (reach first end (start_of l scope)) bytes answer
+IsSearchedBefore l network kept budget first end scope bytes answer = IsSearchedTo l network kept budget first (reach first end (scope_start l scope)) bytes answer
 
 -- a mark, once the byte of a search is there: "spent" counts no longer, and "implied" stays
 abbrev pub mark_taken : Mark → ℕ → Mark

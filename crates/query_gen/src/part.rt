@@ -7,7 +7,7 @@ ghost use Rattle.bias_store.specs.KeptSet.{kept_relations, IsMadeFor as IsKeptOf
 ghost use Rattle.propagators.specs.Indexes.{IsIndexOf};
 ghost use Rattle.fd_solver.specs.Outcomes.{outcome_of_candidate};
 ghost use Rattle.query_gen.specs.Questions.{query_of};
-ghost use Rattle.query_gen.specs.Marks.{IsMadeFor, MarksHold};
+ghost use Rattle.query_gen.specs.Marks.{AreMarksFor, MarksHold};
 ghost use Rattle.query_gen.specs.Parts.{byte_for, is_ask, query_then, IsScopeOf, IsSearched, IsSearchedBefore, IsSearchedTo};
 
 use crate::query::Query;
@@ -127,7 +127,7 @@ fn look_at(
     number: u32,
     c: Candidate,
 )
-    requires screen { IsMadeFor lang.now screen.now }
+    requires screen { AreMarksFor lang.now screen.now }
     requires marks { MarksHold lang.now net.now.list budget screen.now }
     requires kept { IsKeptOf lang.now kept.now }
     requires network { IsNetwork lang.now net.now.list }
@@ -166,7 +166,7 @@ fn search_scope(
     end: u32,
     scope: ScopeId,
 )
-    requires screen { IsMadeFor lang.now screen.now }
+    requires screen { AreMarksFor lang.now screen.now }
     requires marks { MarksHold lang.now net.now.list budget screen.now }
     requires kept { IsKeptOf lang.now kept.now }
     requires network { IsNetwork lang.now net.now.list }
@@ -236,7 +236,7 @@ pub(crate) fn search_part(
     first: u32,
     end: u32,
 ) -> Query
-    requires screen { IsMadeFor lang.now screen.now }
+    requires screen { AreMarksFor lang.now screen.now }
     requires marks { MarksHold lang.now net.now.list budget screen.now }
     requires kept { IsKeptOf lang.now kept.now }
     requires network { IsNetwork lang.now net.now.list }

@@ -6,7 +6,7 @@ ghost use Rattle.language.specs.Answers.{IsNetwork};
 ghost use Rattle.bias_store.specs.KeptSet.{IsMadeFor as IsKeptOf};
 ghost use Rattle.fd_solver.specs.Outcomes.{outcome_of_candidate};
 ghost use Rattle.query_gen.specs.Questions.{is_among, is_spent, next_query};
-ghost use Rattle.query_gen.specs.Marks.{IsMadeFor, MarksHold, is_open};
+ghost use Rattle.query_gen.specs.Marks.{AreMarksFor, MarksHold, is_open};
 ghost use Rattle.query_gen.specs.Parts.{query_then};
 
 use crate::part::search_part;
@@ -56,7 +56,7 @@ pub fn next_query(
     net: &Network,
     budget: u32,
 ) -> Query
-    requires screen { IsMadeFor lang.now screen.old }
+    requires screen { AreMarksFor lang.now screen.old }
     // the marks were set under this budget, and under networks that this one begins with
     requires marks { MarksHold lang.now net.now.list budget screen.old }
     requires kept { IsKeptOf lang.now kept.now }
@@ -64,7 +64,7 @@ pub fn next_query(
     requires some_budget { 1 ≤ budget }
     requires small_budget { budget ≤ 1000000000 }
     ensures is { result ≡ next_query lang.now net.now.list kept.now.members budget }
-    ensures screen { IsMadeFor lang.now screen.new }
+    ensures screen { AreMarksFor lang.now screen.new }
     ensures marks { MarksHold lang.now net.now.list budget screen.new }
     // exactly the kept candidates whose search was spent are open
     ensures open { result ≡ Query.Undecided → (c : Candidate) → IsCandidate lang.now c → is_open lang.now screen.new c ≡ (is_among kept.now.members c && is_spent (outcome_of_candidate lang.now net.now.list c budget)) }

@@ -4,8 +4,8 @@ ghost use Rattle.std.specs.Prelude.{◌≡◌, ◌<◌, ◌≤◌, ◌+◌, ◌-
 ghost use Rattle.assign.specs.Sets.{numbers};
 ghost use Rattle.language.specs.Language.{Language, IsCandidate, number_of};
 ghost use Rattle.language.specs.Answers.{IsNetwork};
-ghost use Rattle.query_gen.specs.Marks.{IsMadeFor, HasNoMarks, MarksHold, is_mark_spent, is_open};
-ghost use Rattle.query_gen.specs.Inside.{begun, without_spent};
+ghost use Rattle.query_gen.specs.Marks.{AreMarksFor, HasNoMarks, MarksHold, is_mark_spent, is_open};
+ghost use Rattle.query_gen.specs.Inside.{remembered_begun, without_spent};
 ghost use Rattle.query_gen.specs.Parts.{mark_taken, searched_from, searched_end, AreTaken, AreTrue, IsSearched, HasTaken};
 
 use crate::part::{IMPLIED, SPENT};
@@ -116,7 +116,7 @@ fn take_bytes(marks: &mut [Mark], first: usize, bytes: &[u8], count: usize)
 impl Screen {
     /// No marks, a byte for each candidate, and some 32 bytes for each scope. `Memory` where there is none for them.
     pub fn new(alloc: Global, lang: &Language) -> Result<Screen, Memory>
-        ensures made { IfOk result (IsMadeFor lang.now) }
+        ensures made { IfOk result (AreMarksFor lang.now) }
         ensures unmarked { IfOk result HasNoMarks }
     {
         let Ok(first) = first_numbers(alloc, lang) else {
@@ -137,7 +137,7 @@ impl Screen {
 
     /// Takes all marks away, as when answers were taken back.
     pub fn clear(&mut self)
-        ensures made { (l : Language) → IsMadeFor l self.old → IsMadeFor l self.new }
+        ensures made { (l : Language) → AreMarksFor l self.old → AreMarksFor l self.new }
         ensures unmarked { HasNoMarks self.new }
     {
         self.marks.fill(Mark::Blank);
@@ -145,7 +145,7 @@ impl Screen {
 
     /// Whether the last search of a candidate was spent. A scope that the language lacks has no such candidate.
     pub fn is_open(&self, c: Candidate) -> bool
-        ensures { (l : Language) → IsMadeFor l self.now → IsCandidate l c → result ≡ is_open l self.now c }
+        ensures { (l : Language) → AreMarksFor l self.now → IsCandidate l c → result ≡ is_open l self.now c }
     {
         let scope = usize::from(c.scope);
         if scope >= self.first.len() {
@@ -157,9 +157,9 @@ impl Screen {
 
     /// Brings what is known before searches up to a network. Whether this was done tells nothing but how long a search takes.
     pub fn follow(&mut self, lang: &Language, net: &Network)
-        requires made { IsMadeFor lang.now self.old }
+        requires made { AreMarksFor lang.now self.old }
         requires network { IsNetwork lang.now net.now.list }
-        ensures made { IsMadeFor lang.now self.new }
+        ensures made { AreMarksFor lang.now self.new }
         ensures holds { (network : List Candidate) (budget : ℕ) → MarksHold lang.now network budget self.old → MarksHold lang.now network budget self.new }
     {
         self.index.follow(lang, net.list());
@@ -174,7 +174,7 @@ impl Screen {
 
     /// Begins a search with so many learned candidates and this budget: marks "spent" of others go.
     pub(crate) fn begin(&mut self, learned: u32, budget: u32)
-        ensures { self.new ≡ begun self.old learned budget }
+        ensures { self.new ≡ remembered_begun self.old learned budget }
     {
         if self.learned != learned || self.budget != budget {
             forget_spent(&mut self.marks);
@@ -187,7 +187,7 @@ impl Screen {
     /// one that says "spent" counts only under these.
     pub(crate) fn mark_under(&self, number: u32, learned: u32, budget: u32) -> Mark
         requires { number < length self.now.marks }
-        ensures { result ≡ slice_index_or (begun self.now learned budget).marks number result }
+        ensures { result ≡ slice_index_or (remembered_begun self.now learned budget).marks number result }
     {
         let mark = self.marks[number as usize];
         if self.learned == learned && self.budget == budget {
@@ -205,9 +205,9 @@ impl Screen {
     pub fn take_marks(&mut self, place: &Place, first: u32, end: u32, net: &Network, budget: u32)
         requires part { (first ≤ end) × (end ≤ length self.old.marks) }
         requires room { end - first ≤ vec_len place.now.marks }
-        ensures taken { HasTaken place.now.marks.items first end (begun self.old (length net.now.list) budget) self.new }
-        ensures made { (l : Language) → IsMadeFor l self.old → IsMadeFor l self.new }
-        ensures holds { (l : Language) (kept : List Candidate) → IsMadeFor l self.old → MarksHold l net.now.list budget self.old → IsSearched l net.now.list kept budget first end place.now.marks.items place.now.answer → MarksHold l net.now.list budget self.new }
+        ensures taken { HasTaken place.now.marks.items first end (remembered_begun self.old (length net.now.list) budget) self.new }
+        ensures made { (l : Language) → AreMarksFor l self.old → AreMarksFor l self.new }
+        ensures holds { (l : Language) (kept : List Candidate) → AreMarksFor l self.old → MarksHold l net.now.list budget self.old → IsSearched l net.now.list kept budget first end place.now.marks.items place.now.answer → MarksHold l net.now.list budget self.new }
     {
         self.take_part(&place.marks, first, end, net, budget);
     }
@@ -220,10 +220,10 @@ impl Screen {
     pub fn take_searched(&mut self, place: &Place, first: u32, end: u32, net: &Network, budget: u32)
         requires part { (first ≤ end) × (end ≤ length self.old.marks) }
         requires room { end - first ≤ vec_len place.now.marks }
-        ensures taken { searched_from place.now first < searched_end place.now end → HasTaken (slice_range place.now.marks.items (searched_from place.now first - first) (searched_end place.now end - first)) (searched_from place.now first) (searched_end place.now end) (begun self.old (length net.now.list) budget) self.new }
+        ensures taken { searched_from place.now first < searched_end place.now end → HasTaken (slice_range place.now.marks.items (searched_from place.now first - first) (searched_end place.now end - first)) (searched_from place.now first) (searched_end place.now end) (remembered_begun self.old (length net.now.list) budget) self.new }
         ensures same { searched_end place.now end ≤ searched_from place.now first → self.new ≡ self.old }
-        ensures made { (l : Language) → IsMadeFor l self.old → IsMadeFor l self.new }
-        ensures holds { (l : Language) (kept : List Candidate) → IsMadeFor l self.old → MarksHold l net.now.list budget self.old → IsSearched l net.now.list kept budget first end place.now.marks.items place.now.answer → MarksHold l net.now.list budget self.new }
+        ensures made { (l : Language) → AreMarksFor l self.old → AreMarksFor l self.new }
+        ensures holds { (l : Language) (kept : List Candidate) → AreMarksFor l self.old → MarksHold l net.now.list budget self.old → IsSearched l net.now.list kept budget first end place.now.marks.items place.now.answer → MarksHold l net.now.list budget self.new }
     {
         let from = first.max(place.searched.least);
         let to = end.min(place.searched.greatest.saturating_add(1));
@@ -245,9 +245,9 @@ impl Screen {
     )
         requires part { (first ≤ end) × (end ≤ length self.old.marks) }
         requires room { end - first ≤ length bytes.now }
-        ensures taken { HasTaken bytes.now first end (begun self.old (length net.now.list) budget) self.new }
-        ensures made { (l : Language) → IsMadeFor l self.old → IsMadeFor l self.new }
-        ensures holds { (l : Language) → IsMadeFor l self.old → MarksHold l net.now.list budget self.old → AreTrue l net.now.list budget first end bytes.now → MarksHold l net.now.list budget self.new }
+        ensures taken { HasTaken bytes.now first end (remembered_begun self.old (length net.now.list) budget) self.new }
+        ensures made { (l : Language) → AreMarksFor l self.old → AreMarksFor l self.new }
+        ensures holds { (l : Language) → AreMarksFor l self.old → MarksHold l net.now.list budget self.old → AreTrue l net.now.list budget first end bytes.now → MarksHold l net.now.list budget self.new }
     {
         self.begin(net.len(), budget);
         let count = (end - first) as usize;

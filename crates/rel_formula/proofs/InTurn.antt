@@ -1,5 +1,5 @@
 -- Operands that are read in turn and joined from the left.
-use Rattle.rel_formula.proofs.Prelude.{◌≡◌, ℕ, ◌+◌, ◌*◌, ◌≤◌, List, [], ◌∷◌, ◌++◌, length, Result, Ok, Err, refl, sym, ◌∙◌, ap, arith, append_assoc, length-append, fold, view, items_view, Value, FormulaFault, Reading, Step, then_on, Adds}
+use Rattle.rel_formula.proofs.Prelude.{◌≡◌, ℕ, ◌+◌, ◌*◌, ◌≤◌, List, [], ◌∷◌, ◌++◌, length, Result, Ok, Err, refl, sym, ◌∙◌, ap, arith, append_assoc, length-append, fold, view, items_view, Value, FormulaFault, Reading, Step, then_on, AddsSteps}
 use Rattle.serde_json.specs.Data.{Data, Items, no_items, item}
 
 -- what is read in turn, and how it is joined
@@ -45,7 +45,7 @@ module _ {Tree : Type 0} (w : Way Tree) where
       w.all_more node (view value) (items_view rest) ∙ ap (λ r. then_on r (λ first. then_on (w.all first.1 (items_view rest)) (λ more. Ok (first.0 ∷ more.0, more.1)))) e
 
   pub one_more : (operands left : List Value) (value : Value) (rest : List Value) (old mid read new : Reading) → left ≡ value ∷ rest → SoFar w operands left old mid →
-      Adds w.steps_of (w.one mid.next (view value)) mid.next mid read → new.steps.items ≡ read.steps.items ++ w.joint ∷ [] → new.next ≡ read.next → SoFar w operands rest old new
+      AddsSteps w.steps_of (w.one mid.next (view value)) mid.next mid read → new.steps.items ≡ read.steps.items ++ w.joint ∷ [] → new.next ≡ read.next → SoFar w operands rest old new
   one_more operands left value rest old mid read new e so_far adds put same =
       let size : length new.steps.items ≡ length read.steps.items + 1 = ap length put ∙ length-append read.steps.items (w.joint ∷ []) in
       let before = so_far.few in

@@ -5,3 +5,4 @@ pub mod Operands
 pub mod TruthOperands
 pub mod InTurn
 pub mod Ways
+pub mod TextsRead

@@ -1,5 +1,5 @@
 -- The operands of an array.
-use Rattle.rel_formula.proofs.Prelude.{◌≡◌, ℕ, ◌+◌, ◌-◌, ◌≤◌, suc, Bool, true, false, List, [], ◌∷◌, ◌++◌, length, get_or, take, drop, Result, Ok, Err, OnOk, IfErr, if◌then◌else◌, refl, sym, ◌∙◌, ap, subst, arith, eqb-true, append_assoc, length-append, drop-cons, take_all, ⊤, view, items_view, Value, FormulaFault, BadShape, Memory, Reading, Step, Operator, Absolute, Adds, ReadsSteps, then_on, Term, absolute, operand_count, operator_in, term_takes, as_term_operator, term_operator_in, read_term, read_terms, read_term_call, applied, term_steps}
+use Rattle.rel_formula.proofs.Prelude.{◌≡◌, ℕ, ◌+◌, ◌-◌, ◌≤◌, suc, Bool, true, false, List, [], ◌∷◌, ◌++◌, length, get_or, take, drop, Result, Ok, Err, OnOk, IfErr, if◌then◌else◌, refl, sym, ◌∙◌, ap, subst, arith, eqb-true, append_assoc, length-append, drop-cons, take_all, ⊤, view, items_view, Value, FormulaFault, BadShape, Memory, Reading, Step, Operator, Absolute, AddsSteps, ReadsSteps, then_on, Term, absolute, operand_count, operator_in, term_takes, as_term_operator, term_operator_in, read_term, read_terms, read_term_call, applied, term_steps}
 use Rattle.serde_json.proofs.Views.{items_len-items_view}
 use Rattle.rel_formula.specs.declared.step.Step.TheVariants as step
 use Rattle.rel_formula.specs.declared.step.Operator.TheVariants as kind
@@ -65,7 +65,7 @@ one_term arity depth node next value tree e =
 
 -- the one operand of an absolute value
 pub absolute_read : (arity depth : ℕ) (operands : List Value) (value : Value) (old mid new : Reading) (result : Result ⊤ FormulaFault) → operands ≡ value ∷ [] → 1 ≤ old.next →
-    Adds term_steps (read_term arity depth old.next (view value)) old.next old mid → OnOk result (new.steps.items ≡ mid.steps.items ++ step.Absolute ∷ []) → new.next ≡ mid.next →
+    AddsSteps term_steps (read_term arity depth old.next (view value)) old.next old mid → OnOk result (new.steps.items ≡ mid.steps.items ++ step.Absolute ∷ []) → new.next ≡ mid.next →
     IfErr result (λ fault. fault ≡ Memory) →
     ReadsSteps term_steps (then_on (read_terms arity depth old.next (items_view operands)) (λ read. Ok (applied Absolute read.0, read.1))) (old.next - 1) old new result
 absolute_read arity depth operands value old mid new (Ok u) e low adds put same memory =

@@ -1,5 +1,5 @@
 -- A formula's truth, place by place.
-use Rattle.rel_formula.proofs.Prelude.{◌≡◌, ℕ, zero, suc, ◌+◌, ◌*◌, ◌/◌, ◌%◌, ◌^◌, ◌<◌, ◌≤◌, ℤ, Bool, true, false, List, [], ◌∷◌, ◌++◌, length, take, set, get_or, pos, ◌+ℤ◌, Option, Some, None, if◌then◌else◌, refl, sym, subst, ◌∙◌, ap, arith, add-one, lt-ltb, le-ltb, position_or_len, take-suc, length-map, get_or-map, take_all, take_more_set, map_more, tuples, tuple_at, length-tuples, get_or-tuples, Truth, is_true, is_too_big, shown_tuple, relation_of, first_too_big}
+use Rattle.rel_formula.proofs.Prelude.{◌≡◌, ℕ, zero, suc, ◌+◌, ◌*◌, ◌/◌, ◌%◌, ◌^◌, ◌<◌, ◌≤◌, ℤ, Bool, true, false, List, [], ◌∷◌, ◌++◌, length, take, set, get_or, pos, ◌+ℤ◌, Option, Some, None, if◌then◌else◌, refl, sym, subst, ◌∙◌, ap, arith, add-one, lt-ltb, le-ltb, position_or_len, take-suc, length-map, get_or-map, take_all, take_more_set, map_more, tuples, tuple_at, length-tuples, get_or-tuples, Truth, is_true, is_too_big, shown_tuple, relation_from_formula, first_too_big}
 use Rattle.std.proofs.Common.{div-one, div-add-mod', pow-suc}
 use Rattle.std.proofs.Math.Nat.{pow-zero}
 use Rattle.std.proofs.lemmas.List.{map-append}
@@ -7,23 +7,23 @@ use Rattle.std.proofs.lemmas.Nat.{div-mul-add, mod-mul-add, mod_below, mul-add-l
 use Rattle.std.proofs.lemmas.List.Sums.{position_or_len_is}
 use Rattle.rel_formula.specs.Places.{AreTruthsTo}
 
-pub length-relation_of : (f : Truth) (a : ℕ) (lo : ℤ) (d : ℕ) → length (relation_of f a lo d) ≡ d ^ a
+pub length-relation_of : (f : Truth) (a : ℕ) (lo : ℤ) (d : ℕ) → length (relation_from_formula f a lo d) ≡ d ^ a
 length-relation_of f a lo d = length-map (tuples d a) (λ tuple. is_true (shown_tuple lo tuple) f) ∙ length-tuples d a
 
-pub relation_of-at : (f : Truth) (a : ℕ) (lo : ℤ) (d at : ℕ) → at < d ^ a → get_or (relation_of f a lo d) at false ≡ is_true (shown_tuple lo (tuple_at d a at)) f
+pub relation_of-at : (f : Truth) (a : ℕ) (lo : ℤ) (d at : ℕ) → at < d ^ a → get_or (relation_from_formula f a lo d) at false ≡ is_true (shown_tuple lo (tuple_at d a at)) f
 relation_of-at f a lo d at h =
     get_or-map (λ tuple. is_true (shown_tuple lo tuple) f) (tuples d a) at [] false (omega (arith, length-tuples d a))
     ∙ ap (λ tuple. is_true (shown_tuple lo tuple) f) (get_or-tuples d a at h)
 
 -- one place more
-pub relation_of-more : (f : Truth) (a : ℕ) (lo : ℤ) (d at : ℕ) (truths : List Bool) (b : Bool) → at < d ^ a → truths ≡ take at (relation_of f a lo d) →
-    b ≡ is_true (shown_tuple lo (tuple_at d a at)) f → truths ++ b ∷ [] ≡ take (at + 1) (relation_of f a lo d)
+pub relation_of-more : (f : Truth) (a : ℕ) (lo : ℤ) (d at : ℕ) (truths : List Bool) (b : Bool) → at < d ^ a → truths ≡ take at (relation_from_formula f a lo d) →
+    b ≡ is_true (shown_tuple lo (tuple_at d a at)) f → truths ++ b ∷ [] ≡ take (at + 1) (relation_from_formula f a lo d)
 relation_of-more f a lo d at truths b h e is =
-    let within : at < length (relation_of f a lo d) = omega (arith, length-relation_of f a lo d) in
+    let within : at < length (relation_from_formula f a lo d) = omega (arith, length-relation_of f a lo d) in
     ap (λ xs. xs ++ b ∷ []) e
-    ∙ ap (λ x. take at (relation_of f a lo d) ++ x ∷ []) (is ∙ sym (relation_of-at f a lo d at h))
-    ∙ sym (take-suc (relation_of f a lo d) at false within)
-    ∙ ap (λ k. take k (relation_of f a lo d)) (sym (add-one at))
+    ∙ ap (λ x. take at (relation_from_formula f a lo d) ++ x ∷ []) (is ∙ sym (relation_of-at f a lo d at h))
+    ∙ sym (take-suc (relation_from_formula f a lo d) at false within)
+    ∙ ap (λ k. take k (relation_from_formula f a lo d)) (sym (add-one at))
 
 -- the test of a place, as the tuple that stands there
 at_tuple : (f : Truth) (a : ℕ) (lo : ℤ) (d at : ℕ) (b : Bool) → at < d ^ a → is_too_big (shown_tuple lo (tuple_at d a at)) f ≡ b → is_too_big (shown_tuple lo (get_or (tuples d a) at [])) f ≡ b
@@ -61,8 +61,8 @@ pub passed_more : (test : ℕ → Bool) (at : ℕ) → ((k : ℕ) → k < at →
 passed_more test at passed here k h = grind (arith, passed k)
 
 -- all places
-pub relation_of-all : (f : Truth) (a : ℕ) (lo : ℤ) (d at : ℕ) (truths : List Bool) → d ^ a ≤ at → truths ≡ take at (relation_of f a lo d) → truths ≡ relation_of f a lo d
-relation_of-all f a lo d at truths h e = e ∙ take_all at (relation_of f a lo d) (omega (arith, length-relation_of f a lo d))
+pub relation_of-all : (f : Truth) (a : ℕ) (lo : ℤ) (d at : ℕ) (truths : List Bool) → d ^ a ≤ at → truths ≡ take at (relation_from_formula f a lo d) → truths ≡ relation_from_formula f a lo d
+relation_of-all f a lo d at truths h e = e ∙ take_all at (relation_from_formula f a lo d) (omega (arith, length-relation_of f a lo d))
 
 -- one value more is shown
 pub shown_more : (lo : ℤ) (shown : List ℤ) (tuple : List ℕ) (i : ℕ) (v : ℤ) → i < length shown → i < length tuple → take i shown ≡ shown_tuple lo (take i tuple) →

@@ -9,10 +9,10 @@ pub use Rattle.rel_table.proofs.PlaceLemmas.{get_or-tuples, length-tuple_at, len
 pub use Rattle.rel_table.specs.Relation.{tuple_at, tuples}
 pub use Rattle.serde_json.specs.View.{items_view, view}
 pub use Rattle.serde_json.specs.declared.value.Value.{Value}
-pub use Rattle.rel_formula.specs.Adding.{Adds, ReadsSteps}
+pub use Rattle.rel_formula.specs.Adding.{AddsSteps, ReadsSteps}
 pub use Rattle.rel_formula.specs.Answers.{then_on}
-pub use Rattle.rel_formula.specs.Formula.{Term, Truth, absolute, combined, compared, first_too_big, fits, is_too_big, is_true, joined, opposite, parts, parts_of, relation_of, shown, shown_tuple, some_too_big, value, whole}
-pub use Rattle.rel_formula.specs.Machine.{End, run}
+pub use Rattle.rel_formula.specs.Formula.{Term, Truth, absolute, combined, compared, first_too_big, fits, is_too_big, is_true, joined, opposite, parts, parts_of, relation_from_formula, shown, shown_tuple, some_too_big, value, whole}
+pub use Rattle.rel_formula.specs.Machine.{MachineEnd, run}
 pub use Rattle.rel_formula.specs.Names.{as_term_operator, as_truth_operator, operand_count, operator_in, term_operator_in, term_takes, truth_operator_in, truth_takes}
 pub use Rattle.rel_formula.specs.Reading.{applied, comparison_of, connected, negated, read_term, read_term_call, read_terms, read_truth, read_truth_call, read_truths, truth_by}
 pub use Rattle.rel_formula.specs.StepLemmas.{formula_of-steps, regrouped, steps-formula_of}

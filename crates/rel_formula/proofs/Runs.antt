@@ -1,22 +1,22 @@
 -- The steps of a formula end with its truth, or with a part that leaves 64 bits.
-use Rattle.rel_formula.proofs.Prelude.{◌≡◌, ℤ, Bool, true, false, not, ◌||◌, List, [], ◌∷◌, ◌++◌, Option, Some, None, is_some, IsSome, if◌then◌else◌, refl, sym, ◌∙◌, ap, append_assoc, append-nil, Term, whole, shown, absolute, combined, Truth, compared, joined, opposite, value, is_true, parts_of, parts, fits, some_too_big, is_too_big, term_steps, truth_steps, regrouped, run, End, Step, Combine, Compare, Join, Negate}
+use Rattle.rel_formula.proofs.Prelude.{◌≡◌, ℤ, Bool, true, false, not, ◌||◌, List, [], ◌∷◌, ◌++◌, Option, Some, None, is_some, IsSome, if◌then◌else◌, refl, sym, ◌∙◌, ap, append_assoc, append-nil, Term, whole, shown, absolute, combined, Truth, compared, joined, opposite, value, is_true, parts_of, parts, fits, some_too_big, is_too_big, term_steps, truth_steps, regrouped, run, MachineEnd, Step, Combine, Compare, Join, Negate}
 use Rattle.std.proofs.lemmas.List.Folds.{list_any-append}
 use Rattle.rel_formula.specs.declared.step.Step.TheVariants.{Absolute}
 
 -- what comes unless something is too big
-abbrev pub guarded : Bool → End → End
+abbrev pub guarded : Bool → MachineEnd → MachineEnd
 guarded too_big end = if too_big then Some None else end
 
-own_test : (f : Bool) (end : End) → (if f then end else Some None) ≡ guarded (not f || false) end
+own_test : (f : Bool) (end : MachineEnd) → (if f then end else Some None) ≡ guarded (not f || false) end
 own_test true end = refl
 own_test false end = refl
 
-either_test : (a b : Bool) (end : End) → guarded a (guarded b end) ≡ guarded (a || b) end
+either_test : (a b : Bool) (end : MachineEnd) → guarded a (guarded b end) ≡ guarded (a || b) end
 either_test true b end = refl
 either_test false b end = refl
 
 -- tests of two lists of terms, one after the other
-both_tests : (tuple : List ℤ) (xs ys : List Term) (end : End) → guarded (some_too_big tuple xs) (guarded (some_too_big tuple ys) end) ≡ guarded (some_too_big tuple (xs ++ ys)) end
+both_tests : (tuple : List ℤ) (xs ys : List Term) (end : MachineEnd) → guarded (some_too_big tuple xs) (guarded (some_too_big tuple ys) end) ≡ guarded (some_too_big tuple (xs ++ ys)) end
 both_tests tuple xs ys end =
     either_test (some_too_big tuple xs) (some_too_big tuple ys) end
     ∙ ap (λ b. guarded b end) (sym (list_any-append (λ term. not (fits (value tuple term))) xs ys))
@@ -26,13 +26,13 @@ pub run-term : (tuple : List ℤ) (a : Term) (rest : List Step) (numbers : List 
 run-term tuple (whole x) rest numbers truths = own_test (fits x) (run tuple rest (x ∷ numbers) truths)
 run-term tuple (shown at) rest numbers truths = own_test (fits (value tuple (shown at))) (run tuple rest (value tuple (shown at) ∷ numbers) truths)
 run-term tuple (absolute a) rest numbers truths =
-    let after : End = run tuple rest (value tuple (absolute a) ∷ numbers) truths in
+    let after : MachineEnd = run tuple rest (value tuple (absolute a) ∷ numbers) truths in
     ap (λ steps. run tuple steps numbers truths) (append_assoc (term_steps a) (Absolute ∷ []) rest)
     ∙ run-term tuple a (Absolute ∷ rest) numbers truths
     ∙ ap (λ end. guarded (some_too_big tuple (parts_of a)) end) (own_test (fits (value tuple (absolute a))) after)
     ∙ both_tests tuple (parts_of a) (absolute a ∷ []) after
 run-term tuple (combined op a b) rest numbers truths =
-    let after : End = run tuple rest (value tuple (combined op a b) ∷ numbers) truths in
+    let after : MachineEnd = run tuple rest (value tuple (combined op a b) ∷ numbers) truths in
     ap (λ steps. run tuple steps numbers truths) (regrouped (term_steps a) (term_steps b) (Combine op) rest)
     ∙ run-term tuple a (term_steps b ++ Combine op ∷ rest) numbers truths
     ∙ ap (λ end. guarded (some_too_big tuple (parts_of a)) end)
@@ -44,13 +44,13 @@ run-term tuple (combined op a b) rest numbers truths =
 pub run-truth : (tuple : List ℤ) (p : Truth) (rest : List Step) (numbers : List ℤ) (truths : List Bool) →
     run tuple (truth_steps p ++ rest) numbers truths ≡ guarded (is_too_big tuple p) (run tuple rest numbers (is_true tuple p ∷ truths))
 run-truth tuple (compared op a b) rest numbers truths =
-    let after : End = run tuple rest numbers (is_true tuple (compared op a b) ∷ truths) in
+    let after : MachineEnd = run tuple rest numbers (is_true tuple (compared op a b) ∷ truths) in
     ap (λ steps. run tuple steps numbers truths) (regrouped (term_steps a) (term_steps b) (Compare op) rest)
     ∙ run-term tuple a (term_steps b ++ Compare op ∷ rest) numbers truths
     ∙ ap (λ end. guarded (some_too_big tuple (parts_of a)) end) (run-term tuple b (Compare op ∷ rest) (value tuple a ∷ numbers) truths)
     ∙ both_tests tuple (parts_of a) (parts_of b) after
 run-truth tuple (joined op p q) rest numbers truths =
-    let after : End = run tuple rest numbers (is_true tuple (joined op p q) ∷ truths) in
+    let after : MachineEnd = run tuple rest numbers (is_true tuple (joined op p q) ∷ truths) in
     ap (λ steps. run tuple steps numbers truths) (regrouped (truth_steps p) (truth_steps q) (Join op) rest)
     ∙ run-truth tuple p (truth_steps q ++ Join op ∷ rest) numbers truths
     ∙ ap (λ end. guarded (is_too_big tuple p) end) (run-truth tuple q (Join op ∷ rest) numbers (is_true tuple p ∷ truths))
@@ -71,5 +71,5 @@ guarded-is false p = refl
 pub end_is : (tuple : List ℤ) (steps : List Step) (p : Truth) → steps ≡ truth_steps p → run tuple steps [] [] ≡ Some (if is_too_big tuple p then None else Some (is_true tuple p))
 end_is tuple steps p e = ap (λ xs. run tuple xs [] []) e ∙ run-formula tuple p ∙ guarded-is (is_too_big tuple p) (is_true tuple p)
 
-pub ends : (end : End) (x : Option Bool) → end ≡ Some x → IsSome end
+pub ends : (end : MachineEnd) (x : Option Bool) → end ≡ Some x → IsSome end
 ends end x e = ap is_some e

@@ -1,5 +1,5 @@
 -- The operands of an operator that gives a truth.
-use Rattle.rel_formula.proofs.Prelude.{◌≡◌, ℕ, ◌+◌, ◌-◌, ◌≤◌, true, List, [], ◌∷◌, ◌++◌, length, get_or, Result, Ok, Err, OnOk, IfErr, sym, ◌∙◌, ap, subst, arith, eqb-true, append_assoc, length-append, ⊤, view, items_view, Value, FormulaFault, BadShape, Memory, Reading, Operator, Connective, Adds, ReadsSteps, then_on, Term, Truth, compared, opposite, operand_count, operator_in, truth_takes, as_truth_operator, truth_operator_in, read_term, read_terms, read_truth, read_truths, read_truth_call, truth_by, comparison_of, connected, negated, term_steps, truth_steps}
+use Rattle.rel_formula.proofs.Prelude.{◌≡◌, ℕ, ◌+◌, ◌-◌, ◌≤◌, true, List, [], ◌∷◌, ◌++◌, length, get_or, Result, Ok, Err, OnOk, IfErr, sym, ◌∙◌, ap, subst, arith, eqb-true, append_assoc, length-append, ⊤, view, items_view, Value, FormulaFault, BadShape, Memory, Reading, Operator, Connective, AddsSteps, ReadsSteps, then_on, Term, Truth, compared, opposite, operand_count, operator_in, truth_takes, as_truth_operator, truth_operator_in, read_term, read_terms, read_truth, read_truths, read_truth_call, truth_by, comparison_of, connected, negated, term_steps, truth_steps}
 use Rattle.rel_formula.specs.declared.step.Step.TheVariants as step
 use Rattle.rel_formula.specs.declared.step.Operator.TheVariants as kind
 use Rattle.rel_formula.specs.declared.step.TruthOperator.{TruthOperator}
@@ -58,7 +58,7 @@ two_terms arity depth node middle next first second a b e f =
     ∙ ap (λ r. then_on r (λ more. Ok (a ∷ more.0, more.1))) (one_term arity depth middle next second b f)
 
 pub negated_read : (arity depth : ℕ) (operands : List Value) (value : Value) (old mid new : Reading) (result : Result ⊤ FormulaFault) → operands ≡ value ∷ [] → 1 ≤ old.next →
-    Adds truth_steps (read_truth arity depth old.next (view value)) old.next old mid → OnOk result (new.steps.items ≡ mid.steps.items ++ step.Negate ∷ []) → new.next ≡ mid.next →
+    AddsSteps truth_steps (read_truth arity depth old.next (view value)) old.next old mid → OnOk result (new.steps.items ≡ mid.steps.items ++ step.Negate ∷ []) → new.next ≡ mid.next →
     IfErr result (λ fault. fault ≡ Memory) →
     ReadsSteps truth_steps (then_on (read_truths arity depth old.next (items_view operands)) (λ read. Ok (negated read.0, read.1))) (old.next - 1) old new result
 negated_read arity depth operands value old mid new (Ok u) e low adds put same memory =
@@ -85,7 +85,7 @@ pair_of (v ∷ w ∷ []) first second two is too = ap (λ x. x ∷ w ∷ []) (sy
 pair_of (v ∷ w ∷ x ∷ more) first second two is too = absurd (omega arith)
 
 pub compared_read : (o : Comparison) (arity depth : ℕ) (operands : List Value) (first second : Value) (old mid late new : Reading) (result : Result ⊤ FormulaFault) → operands ≡ first ∷ second ∷ [] →
-    Adds term_steps (read_term arity depth old.next (view first)) old.next old mid → Adds term_steps (read_term arity depth mid.next (view second)) mid.next mid late →
+    AddsSteps term_steps (read_term arity depth old.next (view first)) old.next old mid → AddsSteps term_steps (read_term arity depth mid.next (view second)) mid.next mid late →
     OnOk result (new.steps.items ≡ late.steps.items ++ step.Compare o ∷ []) → new.next ≡ late.next → IfErr result (λ fault. fault ≡ Memory) →
     ReadsSteps truth_steps (then_on (read_terms arity depth old.next (items_view operands)) (λ read. Ok (comparison_of o read.0, read.1))) old.next old new result
 compared_read o arity depth operands first second old mid late new (Ok u) e a b put same memory =

@@ -95,8 +95,8 @@ abbrev pub shown_tuple : ℤ → List ℕ → List ℤ
 shown_tuple lo tuple = map (λ x. lo +ℤ pos x) tuple
 
 -- a formula's relation of this arity over d values from lo on: its truth at each tuple
-abbrev pub relation_of : Truth → ℕ → ℤ → ℕ → Relation
-relation_of formula arity lo d = map (λ tuple. is_true (shown_tuple lo tuple) formula) (tuples d arity)
+abbrev pub relation_from_formula : Truth → ℕ → ℤ → ℕ → Relation
+relation_from_formula formula arity lo d = map (λ tuple. is_true (shown_tuple lo tuple) formula) (tuples d arity)
 
 -- the least place at whose tuple some part leaves 64 bits
 abbrev pub first_too_big : Truth → ℕ → ℤ → ℕ → Option ℕ

@@ -1,3 +1,4 @@
+pub mod Json
 pub mod Formula
 pub mod Steps
 pub mod StepLemmas

@@ -5,11 +5,11 @@ use Rattle.rel_formula.specs.declared.step.Step.{Step}
 use Rattle.rel_formula.specs.declared.step.Step.TheVariants.{Whole, Shown, Absolute, Combine, Compare, Join, Negate}
 
 -- where steps end: with a truth, or with a number that leaves 64 bits; none where an operand is missing
-abbrev pub End : Type 0
-End = Option (Option Bool)
+abbrev pub MachineEnd : Type 0
+MachineEnd = Option (Option Bool)
 
 -- how steps end from these stacks, the latest first
-abbrev pub run : List ℤ → List Step → List ℤ → List Bool → End
+abbrev pub run : List ℤ → List Step → List ℤ → List Bool → MachineEnd
 run tuple [] numbers [] = None
 run tuple [] numbers (p ∷ truths) = Some (Some p)
 run tuple (Whole x ∷ steps) numbers truths = if fits x then run tuple steps (x ∷ numbers) truths else Some None

@@ -2,7 +2,7 @@
 ghost use Rattle.std.specs.Prelude.{◌≡◌, ◌≢◌, ◌+◌, ◌-◌, ◌*◌, ◌^◌, ◌<◌, ◌≤◌, ◌≤ℤ◌, ◌+ℤ◌, Some, None, pos, negsuc, take, IfOk, IfErr, OnOk};
 ghost use Rattle.std.specs.Option.{option_map};
 ghost use Rattle.rel_table.specs.Relation.{tuple_at};
-ghost use Rattle.rel_formula.specs.Formula.{shown_tuple, relation_of, first_too_big};
+ghost use Rattle.rel_formula.specs.Formula.{shown_tuple, relation_from_formula, first_too_big};
 ghost use Rattle.rel_formula.specs.Places.{AreTruthsTo};
 
 use crate::fault::TableOfFault;
@@ -90,7 +90,7 @@ fn truths_of(
     requires fits { d ^ arity ≤ 65536 }
     requires low { negsuc 999999 ≤ℤ lo }
     requires high { lo ≤ℤ pos 1000000 }
-    ensures truth { IfOk result (λ v. v.items ≡ relation_of f.now arity lo d) }
+    ensures truth { IfOk result (λ v. v.items ≡ relation_from_formula f.now arity lo d) }
     ensures fits { OnOk result (first_too_big f.now arity lo d ≡ None) }
     ensures refused { IfErr result (λ e. e ≢ TableOfFault.Memory → option_map TableOfFault.TooBig (first_too_big f.now arity lo d) ≡ Some e) }
 {
@@ -120,7 +120,7 @@ pub fn table_of(
     requires fits { d ^ arity ≤ 65536 }
     requires low { negsuc 999999 ≤ℤ lo }
     requires high { lo ≤ℤ pos 1000000 }
-    ensures table { IfOk result (λ t. t ≡ record { arity = arity; value_count = d; truth = relation_of f.now arity lo d }) }
+    ensures table { IfOk result (λ t. t ≡ record { arity = arity; value_count = d; truth = relation_from_formula f.now arity lo d }) }
     ensures fits { OnOk result (first_too_big f.now arity lo d ≡ None) }
     ensures refused { IfErr result (λ e. e ≢ TableOfFault.Memory → option_map TableOfFault.TooBig (first_too_big f.now arity lo d) ≡ Some e) }
 {

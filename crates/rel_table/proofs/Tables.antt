@@ -1,16 +1,13 @@
 -- Relations that agree on every tuple are the same.
 use Rattle.rel_table.proofs.Prelude.{◌≡◌, ℕ, zero, suc, ◌+◌, ◌*◌, ◌^◌, ◌<◌, Bool, true, false, List, [], ◌∷◌, ◌++◌, length, map, refl, sym, ◌∙◌, ap, arith, inl, inr, ◌⊎◌, pow-suc, AllPairs, slice_index_or, IsTrue, fold, flat_map, range_with_len, list_any, pow-zero, map-append, fill_by_all, cases_order, or_parts, both_ways, Relation, place, holds, tuples, is_above}
 use Rattle.std.proofs.lemmas.Simd.{map-map}
+use Rattle.shared_lemmas.proofs.Lists.{map-flat_map}
 
 range_append : (a m k : ℕ) → range_with_len a m ++ range_with_len (a + m) k ≡ range_with_len a (m + k)
 range_append a zero k = λ i. range_with_len ((let e : a + 0 ≡ a = omega arith in e) i) ((let e : k ≡ 0 + k = omega arith in e) i)
 range_append a (suc m) k =
     (λ i. a ∷ (range_with_len (a + 1) m ++ range_with_len ((let e : a + suc m ≡ (a + 1) + m = omega arith in e) i) k))
     ∙ ap (λ xs. a ∷ xs) (range_append (a + 1) m k) ∙ ap (range_with_len a) (let e : suc (m + k) ≡ suc m + k = omega arith in e)
-
-map-flat_map : {X Y Z : Type 0} (g : Y → Z) (f : X → List Y) (xs : List X) → map g (flat_map f xs) ≡ flat_map (λ x. map g (f x)) xs
-map-flat_map g f [] = refl
-map-flat_map g f (x ∷ xs) = map-append g (f x) (flat_map f xs) ∙ ap (λ ys. map g (f x) ++ ys) (map-flat_map g f xs)
 
 flat_map_same : {X Y : Type 0} (f g : X → List Y) (xs : List X) → ((x : X) → f x ≡ g x) → flat_map f xs ≡ flat_map g xs
 flat_map_same f g [] h = refl

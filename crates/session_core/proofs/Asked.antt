@@ -1,10 +1,12 @@
 -- The first question of plan Scopes tells its scope and its tuple.
-use Rattle.session_core.proofs.Prelude.{◌≡◌, ℕ, zero, suc, ◌+◌, ◌<◌, ◌≤◌, ◌^◌, Bool, true, false, cond, not, List, [], length, get_or, Option, Some, None, refl, sym, ◌∙◌, ap, subst, arith, inl, inr, ◌⊎◌, ◌≢◌, IsTrue, find, slice_index_or, range_with_len, option_map, and_parts, cases_eq, numbers, Assignment, covers, tuple_on, Scopes, place, tuple_at, tuples, Candidate, Language, IsLanguage, IsQuestion, scope_at, variable_count, place_on, IsNetwork, has_scope, scene_of, free_choices, on_scope, splitting_tuple, find_all, all_below, find_some, split_is_question, Run, IsRun, run_tuple, is_just, is_lawful, is_undecided, next_scope, same_assignment, tuple_on_assigned, FirstRun}
+use Rattle.session_core.proofs.Prelude.{◌≡◌, ℕ, zero, suc, ◌+◌, ◌<◌, ◌≤◌, ◌^◌, Bool, true, false, cond, not, List, [], length, get_or, Option, Some, None, refl, sym, ◌∙◌, ap, subst, arith, inl, inr, ◌⊎◌, ◌≢◌, IsTrue, find, slice_index_or, range_with_len, option_map, and_parts, cases_eq, numbers, Assignment, covers, tuple_on, Scopes, place, tuple_at, tuples, Candidate, Language, IsLanguage, IsQuestion, scope_at, variable_count, place_on, IsNetwork, has_scope, scene_of, free_choices, on_scope, splitting_tuple, find_all, all_below, find_some, split_is_question, TellingRun, IsRun, run_tuple, is_just, is_lawful, is_undecided, next_scope, same_assignment, tuple_on_assigned, FirstRun}
 use Rattle.rel_table.proofs.PlaceLemmas.{get_or-tuples, tuple_at-place, place-below}
 use Rattle.language.proofs.Fields.{scope_is_set}
 use Rattle.find_c.proofs.Starting.{free_known}
 use Rattle.session_core.proofs.Scoped.{about_tuple}
 use Rattle.session_core.proofs.Moving.{first_is}
+use Rattle.std.proofs.lemmas.Bool.{not-true}
+use Rattle.std.proofs.lemmas.Option.{cond_some}
 
 -- the scope and the tuple of a question that may be put
 record IsOpened (l : Language) (live network : List Candidate) (q : Assignment) : Type 0 where
@@ -42,19 +44,11 @@ find_before p a (suc n) s found k from below = go (p a) refl found (λ rest past
         here (inl same) = ap p (sym same) ∙ off
         here (inr other) = more rest (omega (arith, other))
 
-not_true : (b : Bool) → not b ≡ true → b ≡ false
-not_true true h = absurd (let bad : false ≡ true = h in cc)
-not_true false h = refl
-
-placed : (b : Bool) (p at : ℕ) → cond b (Some p) None ≡ Some at → (b ≡ true) × (p ≡ at)
-placed true p at h = (refl, cc)
-placed false p at h = (cc, cc)
-
 module _ (l : Language) (lawful : IsLanguage l) (live network : List Candidate) (known : IsNetwork l live) (q : Assignment) (may : IsTrue (is_lawful l Scopes live network q)) where
   told : IsOpened l live network q
   told = opened l live network q may
 
-  abbrev run : Run
+  abbrev run : TellingRun
   run = record { scope = told.scope; choices = free_choices live told.scope; tuple = told.tuple }
 
   undecided : is_undecided l live network told.scope ≡ true
@@ -73,10 +67,10 @@ module _ (l : Language) (lawful : IsLanguage l) (live network : List Candidate) 
       subst (IsQuestion l) told.asks (split_is_question l lawful told.scope low run.choices sound.choices told.tuple tuple.long tuple.values told.splits)
 
   -- a run on the scope that it covers, with its tuple, is the first one
-  pub run_asked : (s at : ℕ) (r : Run) → s < length l.scopes → place_on l s q ≡ Some at → r.scope ≡ s → r.choices ≡ free_choices live s →
+  pub run_asked : (s at : ℕ) (r : TellingRun) → s < length l.scopes → place_on l s q ≡ Some at → r.scope ≡ s → r.choices ≡ free_choices live s →
       r.tuple ≡ slice_index_or (tuples l.value_count (length (scope_at l s))) at [] → FirstRun l live network (Some r)
   run_asked s at r is_s here on left asks =
-      let there = placed (covers q (scope_at l s)) (place l.value_count (tuple_on q (scope_at l s))) at here in
+      let there = cond_some (covers q (scope_at l s)) (place l.value_count (tuple_on q (scope_at l s))) at here in
       let same : s ≡ told.scope = (about_tuple l lawful run sound).alone s is_s (subst (λ e. covers e (scope_at l s) ≡ true) (sym told.asks) there.0) in
       let scope = lawful.scopes told.scope [] low in
       let tuple = run_tuple l lawful run sound in
@@ -95,7 +89,7 @@ module _ (l : Language) (lawful : IsLanguage l) (live network : List Candidate) 
         choices = sym (left ∙ ap (free_choices live) same) i;
         tuple = sym (asks ∙ ap (λ k. slice_index_or (tuples l.value_count (length (scope_at l k))) at []) same ∙ listed) i;
       } in
-      subst (λ (x : Run). FirstRun l live network (Some x)) is
+      subst (λ (x : TellingRun). FirstRun l live network (Some x)) is
       (first_is l live network told.scope run
-      (record { sound = sound; scope = refl; choices = refl; free = not_true (has_scope network told.scope) (and_parts (not (has_scope network told.scope)) _ undecided).0 })
+      (record { sound = sound; scope = refl; choices = refl; free = not-true (has_scope network told.scope) (and_parts (not (has_scope network told.scope)) _ undecided).0 })
       undecided (λ k below. find_before (is_undecided l live network) 0 (length l.scopes) told.scope told.next k (omega arith) below) low)

@@ -1,5 +1,5 @@
 -- What a session knows after an answer.
-use Rattle.session_core.proofs.Prelude.{◌≡◌, ℕ, ◌+◌, ◌-◌, ◌^◌, ◌<◌, min, Bool, true, false, ◌||◌, ◌&&◌, not, cond, List, [], ◌∷◌, ◌++◌, map, length, refl, sym, ◌∙◌, ap, subst, arith, Option, Some, None, length-append, filter, ◌==◌, ◌≢◌, All-nil, All-cons, All-head, All-tail, All-filter, list_any-append, and_parts, eqb-true, or_parts, numbers, Assignment, restrict, Answer, Plan, Scopes, Quacq, Multi, Candidate, Language, IsLanguage, variable_count, violates, has_scope, kept, ScopeRun, standing_tells, Run, IsRun, Choice, splitting_tuple, after_reply, scene_of, free_choices, violated_choices, State, Idle, Choosing, At, begun, is_lawful, settle_choices, settle_halving, is_undecided, next_scope, read_on, state_after, one_answer_more, kept_steps, Knowledge, NoneBefore, AreUnlearned, IsNew, IsFirst, IsAnswered, IsFirstTuple, question_of, Knows, LeadsTo, IsNewAfter, WalksAfter, HalvesAfter, part_replied, IsLed, Stage, walk_in, first_asked}
+use Rattle.session_core.proofs.Prelude.{◌≡◌, ℕ, ◌+◌, ◌-◌, ◌^◌, ◌<◌, min, Bool, true, false, ◌||◌, ◌&&◌, not, cond, List, [], ◌∷◌, ◌++◌, map, length, refl, sym, ◌∙◌, ap, subst, arith, Option, Some, None, length-append, filter, ◌==◌, ◌≢◌, All-nil, All-cons, All-head, All-tail, All-filter, list_any-append, and_parts, eqb-true, or_parts, numbers, Assignment, restrict, Answer, Plan, Scopes, Quacq, Multi, Candidate, Language, IsLanguage, variable_count, violates, has_scope, kept, ScopeRun, standing_tells, TellingRun, IsRun, Choice, splitting_tuple, after_reply, scene_of, free_choices, violated_choices, State, Idle, Choosing, At, begun, is_lawful, settle_choices, settle_halving, is_undecided, next_scope, read_on, state_after, one_answer_more, kept_steps, Knowledge, NoneBefore, AreUnlearned, IsNew, BeginsOnFirst, IsAnswered, IsFirstTuple, run_question, Knows, LeadsTo, IsNewAfter, WalksAfter, HalvesAfter, part_replied, IsLed, Stage, walk_in, first_asked}
 use Rattle.session_laws.proofs.Counted.{answers_are_at_most}
 use Rattle.session_laws.proofs.Limits.{answers_fit}
 use Rattle.session_core.proofs.Deciding.{stays_decided}
@@ -50,8 +50,8 @@ decided_learned l p live live' network more c n is learned below =
     (λ s h. (or_parts (has_scope network s) (has_scope (c ∷ []) s) (sym (ap (λ cs. has_scope cs s) learned ∙ list_any-append (λ (d : Candidate). d.scope == s) network (c ∷ [])) ∙ h)).0) below
 
 -- a run that begins on the first undecided scope
-pub first_is : (l : Language) (live network : List Candidate) (s : ℕ) (run : Run) → IsNew l live network s run → is_undecided l live network s ≡ true → NoneBefore l live network s → s < length l.scopes →
-    IsFirst l live network run
+pub first_is : (l : Language) (live network : List Candidate) (s : ℕ) (run : TellingRun) → IsNew l live network s run → is_undecided l live network s ≡ true → NoneBefore l live network s → s < length l.scopes →
+    BeginsOnFirst l live network run
 first_is l live network s run new on below low =
     let at : s ≡ run.scope = sym new.scope in
     record {
@@ -171,29 +171,29 @@ part_led k k' e q set run reply t lawful same knows is h =
     (subst (λ x. state_after k.lang k.plan (t ++ said x reply ∷ []) ≡ At (settle_halving k.lang (t ++ said x reply ∷ []) e set (h.replies ++ reply ∷ []) k.network.list (walk_in k.tree))) (sym is) at))
 
 -- the choices that are left after a reply about a run's tuple
-abbrev pub left_after : Language → Run → Bool → List Choice
+abbrev pub left_after : Language → TellingRun → Bool → List Choice
 left_after l run reply = after_reply (scene_of l run.scope) run.tuple reply run.choices
 
-choices_led : (k k' : Knowledge) (q : Assignment) (run : Run) (reply : Bool) (t : List Answer) → IsLanguage k'.lang → IsAnswered k q reply k' → Knows k t → q ≡ question_of k.lang run →
-    state_after k.lang k.plan (t ++ said (question_of k.lang run) reply ∷ []) ≡ At (settle_choices k.lang (t ++ said (question_of k.lang run) reply ∷ []) run.scope (left_after k.lang run reply) k.network.list (walk_in k.tree)) →
+choices_led : (k k' : Knowledge) (q : Assignment) (run : TellingRun) (reply : Bool) (t : List Answer) → IsLanguage k'.lang → IsAnswered k q reply k' → Knows k t → q ≡ run_question k.lang run →
+    state_after k.lang k.plan (t ++ said (run_question k.lang run) reply ∷ []) ≡ At (settle_choices k.lang (t ++ said (run_question k.lang run) reply ∷ []) run.scope (left_after k.lang run reply) k.network.list (walk_in k.tree)) →
     IsLed k' (t ++ said q reply ∷ []) (settle_choices k'.lang (t ++ said q reply ∷ []) run.scope (left_after k'.lang run reply) k'.network.list (walk_in k'.tree))
 choices_led k k' q run reply t lawful same knows is at =
     led k k' q reply t _ lawful same knows
     (moved k k' q reply (t ++ said q reply ∷ []) (λ l network stage. settle_choices l (t ++ said q reply ∷ []) run.scope (left_after l run reply) network (walk_in stage)) same
     (subst (λ x. state_after k.lang k.plan (t ++ said x reply ∷ []) ≡ At (settle_choices k.lang (t ++ said x reply ∷ []) run.scope (left_after k.lang run reply) k.network.list (walk_in k.tree))) (sym is) at))
 
-pub tuple_led : (k k' : Knowledge) (q : Assignment) (run : Run) (reply : Bool) (t : List Answer) → IsLanguage k'.lang → IsAnswered k q reply k' → Knows k t → q ≡ question_of k.lang run → IsRun k.lang run →
+pub tuple_led : (k k' : Knowledge) (q : Assignment) (run : TellingRun) (reply : Bool) (t : List Answer) → IsLanguage k'.lang → IsAnswered k q reply k' → Knows k t → q ≡ run_question k.lang run → IsRun k.lang run →
     LeadsTo k t (Choosing run.scope run.choices k.network.list (walk_in k.tree)) →
     IsLed k' (t ++ said q reply ∷ []) (settle_choices k'.lang (t ++ said q reply ∷ []) run.scope (left_after k'.lang run reply) k'.network.list (walk_in k'.tree))
 tuple_led k k' q run reply t lawful same knows is sound at =
     choices_led k k' q run reply t lawful same knows is (open_step one_answer_more k.lang k.plan t run.scope run.choices k.network.list (walk_in k.tree) run.tuple reply at sound.tuple)
 
-pub first_led : (k k' : Knowledge) (q : Assignment) (run : Run) (reply : Bool) (t : List Answer) → IsLanguage k'.lang → IsAnswered k q reply k' → Knows k t → q ≡ question_of k.lang run → IsFirstTuple k run →
-    IsNewAfter k (question_of k.lang run) t →
+pub first_led : (k k' : Knowledge) (q : Assignment) (run : TellingRun) (reply : Bool) (t : List Answer) → IsLanguage k'.lang → IsAnswered k q reply k' → Knows k t → q ≡ run_question k.lang run → IsFirstTuple k run →
+    IsNewAfter k (run_question k.lang run) t →
     IsLed k' (t ++ said q reply ∷ []) (settle_choices k'.lang (t ++ said q reply ∷ []) run.scope (left_after k'.lang run reply) k'.network.list (walk_in k'.tree))
 first_led k k' q run reply t lawful same knows is due new =
     let l : Language = k.lang in
-    let a : Answer = said (question_of l run) reply in
+    let a : Answer = said (run_question l run) reply in
     let began = due.first in
     let as_kept : run.choices ≡ free_choices (kept l t k.network.list) run.scope = began.new.choices ∙ ap (λ cs. free_choices cs run.scope) knows.kept in
     let none : walk_in k.tree ≡ None = k.resting (λ multi. let no : Scopes ≡ Multi = sym due.plan ∙ multi in absurd (let bad : ⊥ = cc in bad)) in

@@ -1,5 +1,5 @@
 -- The question that is open is the one that is asked.
-use Rattle.session_core.proofs.Prelude.{List, Option, Some, ap, subst, IsTrue, option_map, Assignment, restrict, Answer, Candidate, on_scope, Halved, standing_tells, Idle, Halving, Choosing, Walking, is_lawful, wanted_set, walk_in, Knowledge, Put, Asking, IsPut, IsAskedAfter, Knows, PutAfter, Stands, question_of, question_put}
+use Rattle.session_core.proofs.Prelude.{List, Option, Some, ap, subst, IsTrue, option_map, Assignment, restrict, Answer, Candidate, on_scope, Halved, standing_tells, Idle, Halving, Choosing, Walking, is_lawful, wanted_set, walk_in, Knowledge, Put, Asking, IsPut, IsAskedAfter, Knows, PutAfter, Stands, run_question, question_put}
 use Rattle.session_core.specs.declared.put.Put.TheVariants as puts
 use Rattle.session_core.specs.declared.session.Session.TheVariants as sessions
 
@@ -18,7 +18,7 @@ put_asked k (puts.FirstTuple run) t sound after knows =
     record {
       state = Idle k.network.list after.end;
       at = after.idle;
-      asked = subst (λ (live : List Candidate). IsTrue (is_lawful k.lang k.plan live k.network.list (question_of k.lang run))) knows.kept after.lawful;
+      asked = subst (λ (live : List Candidate). IsTrue (is_lawful k.lang k.plan live k.network.list (run_question k.lang run))) knows.kept after.lawful;
     }
 put_asked k (puts.Tuple run) t sound after knows =
     record { state = Choosing run.scope run.choices k.network.list (walk_in k.tree); at = after; asked = ap (option_map (on_scope k.lang run.scope)) sound.sound.tuple }

@@ -12,7 +12,7 @@ pub use Rattle.assign.specs.Sets.{is_within, numbers}
 pub use Rattle.assign.specs.declared.events.Plan.{Plan}
 pub use Rattle.assign.specs.declared.events.Plan.TheVariants.{Multi, Quacq, Scopes}
 pub use Rattle.find_c.proofs.Replies.{run_tuple}
-pub use Rattle.find_c.specs.Run.{IsRun, Run}
+pub use Rattle.find_c.specs.Run.{IsRun, TellingRun}
 pub use Rattle.find_c.specs.Standing.{IsFound, IsFree, IsRunOn, LeavesChoices}
 pub use Rattle.find_scope.proofs.Moves.{standing_tells}
 pub use Rattle.find_scope.specs.Halving.{Halved, Wants, halve}
@@ -39,9 +39,9 @@ unfoldable pub use Rattle.session_laws.specs.Session.{read_on, with_quiet_replie
 pub use Rattle.session_laws.specs.Walk.{Asks, Ended, Ends, Turn, Walk, WalkEnd, next_turn, violates_some}
 pub use Rattle.session_core.specs.Known.{IsAbout, IsAnswered}
 pub use Rattle.session_core.specs.Leading.{IsLed, part_replied}
-pub use Rattle.session_core.specs.Putting.{IsExample, IsFirstTuple, IsPut, IsTelling, IsTupleOf}
-pub use Rattle.session_core.specs.Sound.{AreChoices, AreUnlearned, FirstRun, IsFirst, IsNew, NoneBefore, is_quiet_at}
-pub use Rattle.session_core.specs.Standing.{HalvesAfter, IsAskedAfter, IsNewAfter, Knows, LeadsTo, PutAfter, Stands, WalksAfter, knowledge_of, open_in, question_of, question_put}
+pub use Rattle.session_core.specs.Putting.{IsExample, IsFirstTuple, IsPut, IsTelling, IsTupleOf, question_put, run_question}
+pub use Rattle.session_core.specs.Sound.{AreChoices, AreUnlearned, FirstRun, BeginsOnFirst, IsNew, NoneBefore, is_quiet_at}
+pub use Rattle.session_core.specs.Standing.{HalvesAfter, IsAskedAfter, IsNewAfter, Knows, LeadsTo, PutAfter, Stands, WalksAfter, knowledge_of, open_in}
 pub use Rattle.session_core.specs.declared.knowledge.Knowledge.{Knowledge}
 pub use Rattle.session_core.specs.declared.put.Put.{Put}
 pub use Rattle.session_core.specs.declared.put.Put.TheVariants.{Example, FirstTuple, OnWalk, Part, Tuple}

@@ -1,16 +1,16 @@
 -- A question that may be put is the first of the next scope.
-use Rattle.session_core.proofs.Prelude.{◌≡◌, Bool, true, false, List, refl, sym, ◌∙◌, ap, subst, Some, IsTrue, Assignment, is_same_assignment, Plan, Scopes, Candidate, Language, Run, splitting_tuple, scene_of, is_just, is_lawful, scope_question, same_assignment, assignment_same, IsFirst, question_of}
+use Rattle.session_core.proofs.Prelude.{◌≡◌, Bool, true, false, List, refl, sym, ◌∙◌, ap, subst, Some, IsTrue, Assignment, is_same_assignment, Plan, Scopes, Candidate, Language, TellingRun, splitting_tuple, scene_of, is_just, is_lawful, scope_question, same_assignment, assignment_same, BeginsOnFirst, run_question}
 use Rattle.session_core.proofs.Steps.{lawful_there}
 
-is_first : (l : Language) (live network : List Candidate) (run : Run) → IsFirst l live network run → scope_question l live network ≡ Some (question_of l run)
+is_first : (l : Language) (live network : List Candidate) (run : TellingRun) → BeginsOnFirst l live network run → scope_question l live network ≡ Some (run_question l run)
 is_first l live network run first =
     lawful_there l live network run.scope run.tuple first.next (ap (splitting_tuple (scene_of l run.scope)) (sym first.new.choices) ∙ first.new.sound.tuple)
 
 -- the question that may be put is that of the first run
-pub first_asks : (l : Language) (plan : Plan) (live network : List Candidate) (run : Run) (q : Assignment) → plan ≡ Scopes → IsFirst l live network run → IsTrue (is_lawful l plan live network q) →
-    question_of l run ≡ q
+pub first_asks : (l : Language) (plan : Plan) (live network : List Candidate) (run : TellingRun) (q : Assignment) → plan ≡ Scopes → BeginsOnFirst l live network run → IsTrue (is_lawful l plan live network q) →
+    run_question l run ≡ q
 first_asks l plan live network run q is first lawful =
-    same_assignment (question_of l run) q
+    same_assignment (run_question l run) q
     (sym (ap (λ o. is_just o q) (is_first l live network run first)) ∙ sym (ap (λ p. is_lawful l p live network q) is) ∙ lawful)
 
 same_by : (x q : Assignment) (b : Bool) → (b ≡ true → x ≡ q) → (x ≡ q → b ≡ true) → b ≡ is_same_assignment x q

@@ -1,5 +1,5 @@
 -- What an answer makes of a session.
-use Rattle.session_core.proofs.Prelude.{◌≡◌, ℕ, zero, suc, ◌+◌, ◌<◌, ◌≤◌, Bool, true, false, cond, List, [], ◌∷◌, ◌++◌, refl, sym, ◌∙◌, ap, arith, inl, inr, ◌⊎◌, Option, Some, None, find, range_with_len, option_map, cases_eq, numbers, Assignment, restrict, Answer, Plan, Scopes, Quacq, Multi, Candidate, Language, IsLanguage, scope_number, variable_count, kept, Wants, halve, Run, IsRunOn, IsFound, IsFree, Choice, splitting_tuple, after_reply, scene_of, on_scope, free_choices, violated_choices, Walk, WalkEnd, State, Idle, Halving, Choosing, Walking, At, at_turn, replied, begun, learn, chosen, go_on, if_passes, is_just, replied_tuple, settle_choices, settle_halving, found, begin_choosing, Over, wanted_set, on_scope_asked, scope_question, is_undecided, next_scope, is_lawful, state_after, OneAnswerMore, assignment_same, Stage, Asked, walk_in, first_asked, NoneBefore, part_replied}
+use Rattle.session_core.proofs.Prelude.{◌≡◌, ℕ, zero, suc, ◌+◌, ◌<◌, ◌≤◌, Bool, true, false, cond, List, [], ◌∷◌, ◌++◌, refl, sym, ◌∙◌, ap, arith, inl, inr, ◌⊎◌, Option, Some, None, find, range_with_len, option_map, cases_eq, numbers, Assignment, restrict, Answer, Plan, Scopes, Quacq, Multi, Candidate, Language, IsLanguage, scope_number, variable_count, kept, Wants, halve, TellingRun, IsRunOn, IsFound, IsFree, Choice, splitting_tuple, after_reply, scene_of, on_scope, free_choices, violated_choices, Walk, WalkEnd, State, Idle, Halving, Choosing, Walking, At, at_turn, replied, begun, learn, chosen, go_on, if_passes, is_just, replied_tuple, settle_choices, settle_halving, found, begin_choosing, Over, wanted_set, on_scope_asked, scope_question, is_undecided, next_scope, is_lawful, state_after, OneAnswerMore, assignment_same, Stage, Asked, walk_in, first_asked, NoneBefore, part_replied}
 use Rattle.session_core.proofs.Walks.{first_turns, again_rests}
 
 abbrev pub said : Assignment → Bool → Answer
@@ -92,7 +92,7 @@ part_step more l plan t e set replies network walk w reply at wants =
 -- ---- where the choices stand
 
 -- the choices still differ
-pub still_choosing : (l : Language) (t : List Answer) (s : ℕ) (choices : List Choice) (network : List Candidate) (walk : Option Walk) (run : Run) → IsRunOn l s choices run →
+pub still_choosing : (l : Language) (t : List Answer) (s : ℕ) (choices : List Choice) (network : List Candidate) (walk : Option Walk) (run : TellingRun) → IsRunOn l s choices run →
     settle_choices l t s choices network walk ≡ Choosing run.scope run.choices network walk
 still_choosing l t s choices network walk run on =
     let differ : splitting_tuple (scene_of l s) choices ≡ Some run.tuple = (λ i. splitting_tuple (scene_of l (sym on.scope i)) (sym on.choices i)) ∙ on.sound.tuple in

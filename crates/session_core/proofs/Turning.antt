@@ -1,5 +1,5 @@
 -- The answer to what is put.
-use Rattle.session_core.proofs.Prelude.{◌≡◌, Bool, ℕ, List, [], ◌∷◌, ◌++◌, sym, subst, inl, inr, Some, numbers, Assignment, Answer, IsLanguage, variable_count, ScopeRun, Run, settle_choices, settle_halving, walk_in, Knowledge, Put, Example, OnWalk, Part, FirstTuple, Tuple, Asking, IsAnswered, IsExample, IsFirstTuple, IsTelling, IsPut, IsTupleOf, question_put, open_in, PutAfter, HalvesAfter, Stands, part_replied, IsLed}
+use Rattle.session_core.proofs.Prelude.{◌≡◌, Bool, ℕ, List, [], ◌∷◌, ◌++◌, sym, subst, inl, inr, Some, numbers, Assignment, Answer, IsLanguage, variable_count, ScopeRun, TellingRun, settle_choices, settle_halving, walk_in, Knowledge, Put, Example, OnWalk, Part, FirstTuple, Tuple, Asking, IsAnswered, IsExample, IsFirstTuple, IsTelling, IsPut, IsTupleOf, question_put, open_in, PutAfter, HalvesAfter, Stands, part_replied, IsLed}
 use Rattle.session_core.specs.declared.session.Session.TheVariants as sessions
 use Rattle.session_core.proofs.Steps.{said}
 use Rattle.session_core.proofs.Moving.{example_led, walk_led, part_led, tuple_led, first_led, left_after}
@@ -45,12 +45,12 @@ pub part_heard : (asking : Asking) (e q : Assignment) (set : List ℕ) (run : Sc
 part_heard asking e q set run reply t k' h =
     part_led asking.knowledge.value k' e q set run reply t h.lawful h.answered h.stands.knows (asks asking (Part e set run) q reply t k' h) (replies_of asking e q set run reply t k' h)
 
-pub first_heard : (asking : Asking) (q : Assignment) (run : Run) (reply : Bool) (t : List Answer) (k' : Knowledge) → IsHeard asking (FirstTuple run) q reply t k' →
+pub first_heard : (asking : Asking) (q : Assignment) (run : TellingRun) (reply : Bool) (t : List Answer) (k' : Knowledge) → IsHeard asking (FirstTuple run) q reply t k' →
     IsLed k' (t ++ said q reply ∷ []) (settle_choices k'.lang (t ++ said q reply ∷ []) run.scope (left_after k'.lang run reply) k'.network.list (walk_in k'.tree))
 first_heard asking q run reply t k' h =
     first_led asking.knowledge.value k' q run reply t h.lawful h.answered h.stands.knows (asks asking (FirstTuple run) q reply t k' h) (sound_of asking (FirstTuple run) h.put_is) (after asking (FirstTuple run) q reply t k' h)
 
-pub tuple_heard : (asking : Asking) (q : Assignment) (run : Run) (reply : Bool) (t : List Answer) (k' : Knowledge) → IsHeard asking (Tuple run) q reply t k' →
+pub tuple_heard : (asking : Asking) (q : Assignment) (run : TellingRun) (reply : Bool) (t : List Answer) (k' : Knowledge) → IsHeard asking (Tuple run) q reply t k' →
     IsLed k' (t ++ said q reply ∷ []) (settle_choices k'.lang (t ++ said q reply ∷ []) run.scope (left_after k'.lang run reply) k'.network.list (walk_in k'.tree))
 tuple_heard asking q run reply t k' h =
     let sound : IsTelling asking.knowledge.value run = sound_of asking (Tuple run) h.put_is in
@@ -72,14 +72,14 @@ heard asking put q reply t k' is asked stands lawful answered =
 -- ---- a tuple
 
 -- it is put on a scope where nothing is learned
-pub tuple_sound : (asking : Asking) (run : Run) → IsTupleOf run asking.put.value → IsTelling asking.knowledge.value run
+pub tuple_sound : (asking : Asking) (run : TellingRun) → IsTupleOf run asking.put.value → IsTelling asking.knowledge.value run
 tuple_sound asking run (inl is) =
     let sound : IsFirstTuple asking.knowledge.value run = sound_of asking (FirstTuple run) is in
     record { sound = sound.first.new.sound; free = sound.first.new.free }
 tuple_sound asking run (inr is) = sound_of asking (Tuple run) is
 
 -- the first on its scope or a further one
-pub any_tuple_heard : (asking : Asking) (q : Assignment) (run : Run) (reply : Bool) (t : List Answer) (k' : Knowledge) → IsTupleOf run asking.put.value → open_in (sessions.Asking asking) ≡ Some q →
+pub any_tuple_heard : (asking : Asking) (q : Assignment) (run : TellingRun) (reply : Bool) (t : List Answer) (k' : Knowledge) → IsTupleOf run asking.put.value → open_in (sessions.Asking asking) ≡ Some q →
     Stands (sessions.Asking asking) t → IsLanguage k'.lang → IsAnswered asking.knowledge.value (question_put asking.knowledge.value.lang asking.put.value) reply k' →
     IsLed k' (t ++ said q reply ∷ []) (settle_choices k'.lang (t ++ said q reply ∷ []) run.scope (left_after k'.lang run reply) k'.network.list (walk_in k'.tree))
 any_tuple_heard asking q run reply t k' (inl is) asked stands lawful answered =

@@ -4,7 +4,7 @@ use Rattle.language.proofs.Accepts.{accepted_at}
 use Rattle.session_laws.proofs.States.{put_is, first_turn, find_nothing}
 use Rattle.multi_tree.specs.declared.tree.TreeNext.{TreeNext}
 use Rattle.multi_tree.specs.declared.tree.TreeNext.TheVariants.{Ask, End, Capped}
-use Rattle.multi_tree.specs.Standing.{answer_to}
+use Rattle.multi_tree.specs.Standing.{next_of_turn}
 
 -- ---- the first turn
 
@@ -27,16 +27,16 @@ again_rests (Done end) h = h
 
 -- ---- the end of a walk
 
-ends_at : (network : List Candidate) (turn : Turn) (answer : TreeNext) → answer ≡ answer_to turn → (answer ≡ End) ⊎ (answer ≡ Capped) → (end : Option WalkEnd) × (at_turn network turn ≡ Idle network end)
+ends_at : (network : List Candidate) (turn : Turn) (answer : TreeNext) → answer ≡ next_of_turn turn → (answer ≡ End) ⊎ (answer ≡ Capped) → (end : Option WalkEnd) × (at_turn network turn ≡ Idle network end)
 ends_at network (Asks set walk) answer is (inl last) = absurd (let bad : Ask set ≡ End = sym is ∙ last in cc)
 ends_at network (Asks set walk) answer is (inr last) = absurd (let bad : Ask set ≡ Capped = sym is ∙ last in cc)
 ends_at network (Ends end) answer is last = (Some end, refl)
 
 -- where a turn comes to no set, nothing is open
-pub walk_ends : (l : Language) (t : List Answer) (live network : List Candidate) (stage : Stage) (answer : TreeNext) → live ≡ kept l t network → answer ≡ answer_to (turn_at l network live stage) →
+pub walk_ends : (l : Language) (t : List Answer) (live network : List Candidate) (stage : Stage) (answer : TreeNext) → live ≡ kept l t network → answer ≡ next_of_turn (turn_at l network live stage) →
     (answer ≡ End) ⊎ (answer ≡ Capped) → (end : Option WalkEnd) × (go_on l t network (walk_in stage) ≡ Idle network end)
 walk_ends l t live network (Ready w) answer same is last =
-    ends_at network (next_turn l network (kept l t network) w.example w.left w.waiting) answer (is ∙ ap (λ (cs : List Candidate). answer_to (next_turn l network cs w.example w.left w.waiting)) same) last
+    ends_at network (next_turn l network (kept l t network) w.example w.left w.waiting) answer (is ∙ ap (λ (cs : List Candidate). next_of_turn (next_turn l network cs w.example w.left w.waiting)) same) last
 walk_ends l t live network (Asked set w) answer same is last =
-    ends_at network (next_turn l network (kept l t network) w.example w.left w.waiting) answer (is ∙ ap (λ (cs : List Candidate). answer_to (next_turn l network cs w.example w.left w.waiting)) same) last
+    ends_at network (next_turn l network (kept l t network) w.example w.left w.waiting) answer (is ∙ ap (λ (cs : List Candidate). next_of_turn (next_turn l network cs w.example w.left w.waiting)) same) last
 walk_ends l t live network (Done end) answer same is last = (None, refl)

@@ -1,17 +1,30 @@
 -- What a session relies on of the question that is put.
 use Rattle.std.specs.Prelude.{◌≡◌, ◌≢◌, ◌⊎◌, ◌<◌, ℕ, List, length, Some, Bool, true, false, IsTrue}
 use Rattle.std.proofs.Props.{props}
-use Rattle.assign.specs.Assignment.{Assignment}
+use Rattle.assign.specs.Assignment.{Assignment, restrict}
 use Rattle.assign.specs.declared.events.Plan.TheVariants.{Scopes, Multi}
-use Rattle.language.specs.Language.{IsQuestion}
+use Rattle.language.specs.Language.{Language, IsQuestion}
 use Rattle.language.specs.Answers.{has_scope}
-use Rattle.find_c.specs.Run.{Run, IsRun}
+use Rattle.language.specs.Scenes.{on_scope}
+use Rattle.find_c.specs.Run.{TellingRun, IsRun}
 use Rattle.session_laws.specs.Session.{is_lawful}
 use Rattle.multi_tree.specs.Stage.{asked_in, first_asked}
 use Rattle.session_core.specs.declared.knowledge.Knowledge.{Knowledge}
 use Rattle.session_core.specs.declared.put.Put.{Put}
 use Rattle.session_core.specs.declared.put.Put.TheVariants.{Example, OnWalk, Part, FirstTuple, Tuple}
-use Rattle.session_core.specs.Sound.{IsFirst}
+use Rattle.session_core.specs.Sound.{BeginsOnFirst}
+
+-- the question of a run on a scope
+abbrev pub run_question : Language → TellingRun → Assignment
+run_question l run = on_scope l run.scope run.tuple
+
+-- the question that is put: an example, the part of it that a walk has come to or a halving wants, or a tuple on a scope
+abbrev pub question_put : Language → Put → Assignment
+question_put l (Example e) = e
+question_put l (OnWalk e set) = restrict e set
+question_put l (Part e set run) = restrict e run.base
+question_put l (FirstTuple run) = run_question l run
+question_put l (Tuple run) = run_question l run
 
 -- an example that may be put; in plan Multi its walk has come to all of it
 pub record IsExample (k : Knowledge) (e : Assignment) : Type 0 where
@@ -26,12 +39,12 @@ pub record IsOnWalk (k : Knowledge) (e : Assignment) (set : List ℕ) : Type 0 w
   pub asked : asked_in k.tree ≡ Some set
 
 -- the first question of plan Scopes
-pub record IsFirstTuple (k : Knowledge) (run : Run) : Type 0 where
+pub record IsFirstTuple (k : Knowledge) (run : TellingRun) : Type 0 where
   pub plan : k.plan ≡ Scopes
-  pub first : IsFirst k.lang k.kept.members k.network.list run
+  pub first : BeginsOnFirst k.lang k.kept.members k.network.list run
 
 -- a telling apart on a scope where nothing is learned
-pub record IsTelling (k : Knowledge) (run : Run) : Type 0 where
+pub record IsTelling (k : Knowledge) (run : TellingRun) : Type 0 where
   pub sound : IsRun k.lang run
   pub free : has_scope k.network.list run.scope ≡ false
 
@@ -44,7 +57,7 @@ is_tuple (FirstTuple run) = true
 is_tuple (Tuple run) = true
 
 -- this run's tuple is put
-abbrev pub IsTupleOf : Run → Put → Type 0
+abbrev pub IsTupleOf : TellingRun → Put → Type 0
 IsTupleOf run put = (put ≡ FirstTuple run) ⊎ (put ≡ Tuple run)
 
 abbrev pub IsPut : Knowledge → Put → Type 0

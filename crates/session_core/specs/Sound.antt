@@ -7,7 +7,7 @@ use Rattle.language.specs.Language.{Language}
 use Rattle.language.specs.Answers.{has_scope}
 use Rattle.find_scope.specs.declared.run.ScopeNext.{ScopeNext}
 use Rattle.find_scope.specs.declared.run.ScopeNext.TheVariants.{Wants, Found}
-use Rattle.find_c.specs.Run.{Run, IsRun}
+use Rattle.find_c.specs.Run.{TellingRun, IsRun}
 use Rattle.language.specs.TellingApart.{Choice}
 use Rattle.language.specs.Scenes.{free_choices}
 use Rattle.find_c.specs.Standing.{LeavesChoices}
@@ -33,26 +33,26 @@ IsWalkOn-prop l (Done end) = Prim.hlevel props
 -- ---- telling apart
 
 -- a run that begins on this scope
-pub record IsNew (l : Language) (live network : List Candidate) (s : ℕ) (run : Run) : Type 0 where
+pub record IsNew (l : Language) (live network : List Candidate) (s : ℕ) (run : TellingRun) : Type 0 where
   pub sound : IsRun l run
   pub scope : run.scope ≡ s
   pub choices : run.choices ≡ free_choices live s
   pub free : has_scope network s ≡ false
 
 -- the scope is decided, or a run begins on it
-abbrev pub RunsOn : Language → List Candidate → List Candidate → ℕ → Option Run → Type 0
+abbrev pub RunsOn : Language → List Candidate → List Candidate → ℕ → Option TellingRun → Type 0
 RunsOn l live network s None = is_undecided l live network s ≡ false
 RunsOn l live network s (Some run) = IsNew l live network s run × (is_undecided l live network s ≡ true)
 
 -- a run that begins on the first undecided scope
-pub record IsFirst (l : Language) (live network : List Candidate) (run : Run) : Type 0 where
+pub record BeginsOnFirst (l : Language) (live network : List Candidate) (run : TellingRun) : Type 0 where
   pub new : IsNew l live network run.scope run
   pub before : NoneBefore l live network run.scope
   pub next : next_scope l live network ≡ Some run.scope
 
-abbrev pub FirstRun : Language → List Candidate → List Candidate → Option Run → Type 0
+abbrev pub FirstRun : Language → List Candidate → List Candidate → Option TellingRun → Type 0
 FirstRun l live network None = next_scope l live network ≡ None
-FirstRun l live network (Some run) = IsFirst l live network run
+FirstRun l live network (Some run) = BeginsOnFirst l live network run
 
 -- where some choices stand, on a scope where nothing is learned
 pub record AreChoices (l : Language) (network : List Candidate) (next : RelNext) : Type 0 where

@@ -1,6 +1,6 @@
 -- Where a session stands, and after which answers.
 use Rattle.std.specs.Prelude.{◌≡◌, Bool, IsTrue, ℕ, List, length, Option, Some, None}
-use Rattle.assign.specs.Assignment.{Assignment, restrict}
+use Rattle.assign.specs.Assignment.{Assignment}
 use Rattle.assign.specs.Events.{Answer}
 use Rattle.assign.specs.declared.events.Plan.{Plan}
 use Rattle.language.specs.Language.{Language}
@@ -8,12 +8,11 @@ use Rattle.language.specs.Answers.{kept}
 use Rattle.find_scope.specs.Run.{Run as ScopeRun}
 use Rattle.find_scope.specs.Standing.{StandsFor}
 use Rattle.find_scope.specs.declared.run.ScopeNext.TheVariants.{Wants}
-use Rattle.find_c.specs.Run.{Run}
-use Rattle.language.specs.Scenes.{on_scope}
 use Rattle.session_laws.specs.Walk.{Walk, WalkEnd}
 use Rattle.multi_tree.specs.Stage.{Asked, walk_in}
 use Rattle.session_laws.specs.Session.{State, At, is_lawful, open_question, state_after, Idle as IdleState, Halving as HalvingState, Choosing as ChoosingState, Walking as WalkingState, Over as OverState}
 use Rattle.session_core.specs.declared.knowledge.Knowledge.{Knowledge}
+use Rattle.session_core.specs.Putting.{question_put, run_question}
 use Rattle.session_core.specs.declared.put.Put.{Put}
 use Rattle.session_core.specs.declared.put.Put.TheVariants as puts
 use Rattle.session_core.specs.declared.session.Session.{Session}
@@ -24,18 +23,6 @@ abbrev pub knowledge_of : Session → Knowledge
 knowledge_of (sessions.Idle idle) = idle.knowledge.value
 knowledge_of (sessions.Asking asking) = asking.knowledge.value
 knowledge_of (sessions.Over over) = over.knowledge.value
-
--- the question of a run on a scope
-abbrev pub question_of : Language → Run → Assignment
-question_of l run = on_scope l run.scope run.tuple
-
--- the question that is put: an example, the part of it that a walk has come to or a halving wants, or a tuple on a scope
-abbrev pub question_put : Language → Put → Assignment
-question_put l (puts.Example e) = e
-question_put l (puts.OnWalk e set) = restrict e set
-question_put l (puts.Part e set run) = restrict e run.base
-question_put l (puts.FirstTuple run) = question_of l run
-question_put l (puts.Tuple run) = question_of l run
 
 -- the question that is put, if one is
 abbrev pub open_in : Session → Option Assignment
@@ -75,7 +62,7 @@ abbrev pub PutAfter : Knowledge → Put → List Answer → Type 0
 PutAfter k (puts.Example e) t = IsNewAfter k e t
 PutAfter k (puts.OnWalk e set) t = WalksAfter k e set t
 PutAfter k (puts.Part e set run) t = HalvesAfter k e set run t
-PutAfter k (puts.FirstTuple run) t = IsNewAfter k (question_of k.lang run) t
+PutAfter k (puts.FirstTuple run) t = IsNewAfter k (run_question k.lang run) t
 PutAfter k (puts.Tuple run) t = LeadsTo k t (ChoosingState run.scope run.choices k.network.list (walk_in k.tree))
 
 -- the kind, the network, the open question and what it belongs to, the walk too, are those that the answers lead to

@@ -5,7 +5,7 @@ ghost use Rattle.assign.specs.Assignment.{Assignment};
 ghost use Rattle.language.specs.Language.{IsLanguage, IsQuestion, violates};
 ghost use Rattle.bias_store.specs.KeptSet.{IsMadeFor};
 ghost use Rattle.session_core.specs.Known.{IsAbout, IsAnswered};
-ghost use Rattle.session_core.specs.Standing.{question_put};
+ghost use Rattle.session_core.specs.Putting.{question_put};
 
 use crate::knowledge::Knowledge;
 use crate::put::Put;

@@ -40,6 +40,7 @@ fn walk_on(mut knowledge: Box<Knowledge>, mut room: Box<Put>) -> Session
     match known.tree.next_beside(&known.lang, &known.network, &known.kept, &mut known.listing) {
         TreeNext::Ask(set) => {
             let example = known.tree.example();
+            known.question = example.restrict(set);
             *room = Put::OnWalk { example, set };
             Session::Asking(Asking {
                 knowledge,
@@ -66,7 +67,11 @@ pub(crate) fn learn(mut knowledge: Box<Knowledge>, room: Box<Put>, c: Candidate)
 }
 
 /// Choices on a scope are told apart further, or what remains of them is learned.
-pub(crate) fn tell_apart(knowledge: Box<Knowledge>, mut room: Box<Put>, next: RelNext) -> Session
+pub(crate) fn tell_apart(
+    mut knowledge: Box<Knowledge>,
+    mut room: Box<Put>,
+    next: RelNext,
+) -> Session
     requires choices { AreChoices knowledge.value.lang knowledge.value.network.list next }
     requires some { next ≢ RelNext.Nothing }
     ensures lang { (knowledge_of result).lang ≡ knowledge.value.lang }
@@ -77,6 +82,8 @@ pub(crate) fn tell_apart(knowledge: Box<Knowledge>, mut room: Box<Put>, next: Re
 {
     match next {
         RelNext::Wants(run) => {
+            let known = knowledge.as_mut();
+            known.question = run.wants(&known.lang);
             room.put_tuple(run);
             Session::Asking(Asking {
                 knowledge,
@@ -109,7 +116,7 @@ fn take_found(knowledge: Box<Knowledge>, room: Box<Put>, example: Partial, set: 
 
 /// The halving of a set of an example's variables goes on by itself, and then asks or has found a set.
 pub(crate) fn halve_on(
-    knowledge: Box<Knowledge>,
+    mut knowledge: Box<Knowledge>,
     mut room: Box<Put>,
     example: Partial,
     set: VarSet,
@@ -126,6 +133,7 @@ pub(crate) fn halve_on(
     let known = knowledge.as_ref();
     match settle(&known.lang, &known.kept, &example, size, next) {
         ScopeNext::Wants(run) => {
+            knowledge.as_mut().question = example.restrict(run.wants());
             *room = Put::Part { example, set, run };
             Session::Asking(Asking {
                 knowledge,

@@ -6,7 +6,7 @@ ghost use Rattle.multi_tree.specs.Listed.{IsListing};
 ghost use Rattle.multi_tree.specs.Stage.{example_in, walk_in, IsWalkOn};
 ghost use Rattle.session_core.specs.Sound.{NoneBefore, AreUnlearned, IsWalkOn-prop};
 
-use assign::Plan;
+use assign::{Partial, Plan};
 use bias_store::Kept;
 use language::Language;
 use multi_tree::{Listing, Tree};
@@ -29,6 +29,8 @@ pub struct Knowledge {
     pub(crate) tree: Tree,
     /// The items that the example of the walk violates.
     pub(crate) listing: Listing,
+    /// The question that is open. While none is, it means nothing.
+    pub(crate) question: Partial,
     ghost walks: { IsWalkOn lang tree } by { IsWalkOn-prop lang tree },
     ghost listed: { IsListing lang network.list (example_in tree) listing },
     ghost resting: { plan ≢ Multi → walk_in tree ≡ None },

@@ -12,11 +12,11 @@ ghost use Rattle.session_laws.specs.Walk.{Ended};
 ghost use Rattle.session_laws.specs.Session.{is_lawful, scope_question, walk_end};
 ghost use Rattle.session_laws.specs.Laws.{IsWalked};
 ghost use Rattle.session_core.specs.Settled.{IsSettled, HasNoNew};
-ghost use Rattle.session_core.specs.Standing.{Stands, IsAskedAfter, knowledge_of, open_in, question_put};
+ghost use Rattle.session_core.specs.Standing.{Stands, IsAskedAfter, knowledge_of, open_in};
 ghost use Rattle.session_core.specs.Known.{IsAbout};
 ghost use Rattle.session_core.specs.Sound.{FirstRun};
 ghost use Rattle.session_core.specs.Leading.{StandsWhereIdle};
-ghost use Rattle.session_core.specs.Putting.{is_tuple};
+ghost use Rattle.session_core.specs.Putting.{is_tuple, question_put};
 
 use crate::examples::is_example;
 use crate::going::{halve_on, part_answered, tuple_answered};
@@ -56,6 +56,7 @@ pub fn begin(alloc: Global, lang: Language, plan: Plan) -> Result<Session, Memor
     ensures plan { IfOk result (λ session. (knowledge_of session).plan ≡ plan) }
 {
     let (kept, network, tree, listing) = empty_parts(alloc, &lang)?;
+    let question = Partial::blank(1);
     let knowledge = Knowledge {
         lang,
         plan,
@@ -65,6 +66,7 @@ pub fn begin(alloc: Global, lang: Language, plan: Plan) -> Result<Session, Memor
         next: 0,
         tree,
         listing,
+        question,
     };
     let Ok(knowledge) = Box::new(alloc, knowledge) else {
         return Err(Memory);
@@ -163,7 +165,9 @@ fn ask_first(mut knowledge: Box<Knowledge>, mut room: Box<Put>, q: Partial) -> A
 {
     match knowledge.run_asking(&q) {
         Some(run) => {
-            knowledge.next = u32::from(run.scope());
+            let known = knowledge.as_mut();
+            known.next = u32::from(run.scope());
+            known.question = q;
             *room = Put::FirstTuple(run);
             Asking {
                 knowledge,
@@ -175,7 +179,7 @@ fn ask_first(mut knowledge: Box<Knowledge>, mut room: Box<Put>, q: Partial) -> A
 }
 
 /// Puts an example.
-fn ask_whole(knowledge: Box<Knowledge>, mut room: Box<Put>, q: Partial) -> Asking
+fn ask_whole(mut knowledge: Box<Knowledge>, mut room: Box<Put>, q: Partial) -> Asking
     requires plan { knowledge.value.plan ≡ Plan.Quacq }
     requires lawful { let k = knowledge.value in IsTrue (is_lawful k.lang k.plan k.kept.members k.network.list q) }
     ensures question { open_in (Session.Asking result) ≡ Some q }
@@ -183,6 +187,7 @@ fn ask_whole(knowledge: Box<Knowledge>, mut room: Box<Put>, q: Partial) -> Askin
     ensures plan { (knowledge_of (Session.Asking result)).plan ≡ knowledge.value.plan }
     ensures stands { StandsWhereIdle knowledge.value (Session.Asking result) }
 {
+    knowledge.as_mut().question = q;
     *room = Put::Example(q);
     Asking {
         knowledge,
@@ -205,6 +210,7 @@ fn ask_walked(mut knowledge: Box<Knowledge>, mut room: Box<Put>, q: Partial) -> 
     known.listing.clear();
     // All of it is asked about: the network accepts it, and it violates a kept candidate.
     let _ = known.tree.next_beside(&known.lang, &known.network, &known.kept, &mut known.listing);
+    known.question = q;
     *room = Put::Example(q);
     Asking {
         knowledge,
@@ -273,13 +279,17 @@ impl Asking {
         ensures fits { IsQuestion (knowledge_of (Session.Asking self.now)).lang result }
         ensures asked { (t : List Answer) → let k = knowledge_of (Session.Asking self.now) in Stands (Session.Asking self.now) t → IsAskedAfter k.lang k.plan t result }
     {
+        *self.asked()
+    }
+
+    /// `question`, where it stands.
+    pub fn asked(&self) -> &Partial
+        ensures is { open_in (Session.Asking self.now) ≡ Some result.now }
+        ensures fits { IsQuestion (knowledge_of (Session.Asking self.now)).lang result.now }
+        ensures asked { (t : List Answer) → let k = knowledge_of (Session.Asking self.now) in Stands (Session.Asking self.now) t → IsAskedAfter k.lang k.plan t result.now }
+    {
         let _variables = self.knowledge.lang.n();
-        match &*self.put {
-            Put::Example(example) => *example,
-            Put::OnWalk { example, set } => example.restrict(*set),
-            Put::Part { example, run, .. } => example.restrict(run.wants()),
-            Put::FirstTuple(run) | Put::Tuple(run) => run.wants(&self.knowledge.lang),
-        }
+        &self.knowledge.question
     }
 
     /// The session after this answer to the open question.

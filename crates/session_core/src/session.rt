@@ -1,4 +1,5 @@
-ghost use Rattle.session_core.specs.Putting.{IsPut, IsPut-prop};
+ghost use Rattle.std.specs.Prelude.{◌≡◌};
+ghost use Rattle.session_core.specs.Putting.{IsPut, IsPut-prop, question_put};
 
 use crate::knowledge::Knowledge;
 use crate::put::Put;
@@ -18,6 +19,7 @@ pub struct Asking {
     /// The question, and what its answer goes on with.
     pub(crate) put: Box<Put>,
     ghost sound: { IsPut knowledge.value put.value } by { IsPut-prop knowledge.value put.value },
+    ghost asked: { knowledge.value.question ≡ question_put knowledge.value.lang put.value },
 }
 
 /// No network of candidates agrees with the answers.

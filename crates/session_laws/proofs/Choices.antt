@@ -1,9 +1,10 @@
 -- What holds while the choices on a scope are told apart.
-use Rattle.session_laws.proofs.Prelude.{◌≡◌, ℕ, zero, suc, ◌<◌, ◌≤◌, Bool, true, false, cond, ◌||◌, ◌&&◌, not, List, [], ◌∷◌, ◌++◌, length, map, Some, None, refl, sym, ◌∙◌, ap, subst, arith, inl, inr, ◌⊎◌, length-append, ◌==◌, All, Any, AllPairs, slice_index_or, is_some, is_none, beq, list_any, filter, All-head, All-tail, All-append, All-cons, All-nil, All-map, All-filter, All-push, All-weaker, filter_passes, Any-push, list_any-append, list_all-append, cases_Bool, and_parts, and_from, or_parts, or_left, or_right, both_ways, true_from_ne_false, not-true, not_from_false, eqb-true, eq-eqb, Candidate, numbers, variables_of, Relation, tuples, Language, IsLanguage, IsCandidate, candidates, candidates_on, relations_on, violates, accepts, Answer, IsNetwork, IsNoOn, has_scope, agrees, is_struck, kept, Choice, Scene, allows, tells_apart, splitting_tuple, after_reply, remaining, find_all, all_below, next_scope, learn, scene_of, on_scope, free_choices, IsTold, both_true, any-filter, any-map, any_candidate, find_none, find_some, all_pairs_push}
+use Rattle.session_laws.proofs.Prelude.{◌≡◌, ℕ, zero, suc, ◌<◌, ◌≤◌, Bool, true, false, cond, ◌||◌, ◌&&◌, not, List, [], ◌∷◌, ◌++◌, length, map, Some, None, refl, sym, ◌∙◌, ap, subst, arith, inl, inr, ◌⊎◌, length-append, ◌==◌, All, Any, AllPairs, slice_index_or, is_some, is_none, beq, list_any, filter, All-head, All-tail, All-append, All-cons, All-nil, All-map, All-filter, All-push, All-weaker, filter_passes, Any-push, list_any-append, list_all-append, cases_Bool, and_parts, and_from, or_parts, or_left, or_right, both_ways, true_from_ne_false, not-true, not_from_false, eqb-true, eq-eqb, Candidate, numbers, variables_of, Relation, tuples, Language, IsLanguage, IsCandidate, candidates, candidates_on, relations_on, violates, accepts, Answer, IsNetwork, IsNoOn, has_scope, agrees, is_struck, kept, Choice, Scene, allows, tells_apart, splitting_tuple, after_reply, remaining, find_all, all_below, next_scope, learn, scene_of, on_scope, free_choices, IsTold, both_true, any-filter, any-map, any_candidate, find_none, find_some, all_pairs_push, all_flat_map, all_candidates}
 use Rattle.session_laws.proofs.OnScope.{exact_question, violates_there, accepts_learned}
 use Rattle.rel_table.proofs.Tables.{same_table, one_number}
-use Rattle.session_laws.proofs.Lists.{any_more, some_left, all_flat_map, tuples_long, any_same}
+use Rattle.session_laws.proofs.Lists.{any_more, tuples_long, any_same}
 use Rattle.shared_lemmas.proofs.Booleans.{beq-false, beq-true}
+use Rattle.shared_lemmas.proofs.Lists.{some_kept}
 
 -- ---- the choices on a scope
 
@@ -118,7 +119,7 @@ module _ (l : Language) (lawful : IsLanguage l) where
     apart = half.apart;
     begun = All-weaker _ _ (λ c some. any_more (IsNoOn l c) t a some) network half.begun;
     told = All-weaker _ _ (told_more l t a) network half.told;
-    some = some_left test choices (reply_leaves (allows scene u) choices a.yes parts.0 parts.1);
+    some = some_kept test choices (reply_leaves (allows scene u) choices a.yes parts.0 parts.1);
     agreeing = λ k d h. agrees_more l _ t a (All-filter test (λ c. agrees l (learn network s c) t ≡ true) choices half.agreeing k d h)
         (beq_is _ (allows scene u (slice_index_or (filter test choices) k d)) a.yes
         (ap (accepts l (learn network s (slice_index_or (filter test choices) k d))) asked ∙ accepts_learned l lawful s half.low u long network half.legal half.free _)
@@ -264,12 +265,6 @@ agrees_with_fresh l network c (a ∷ t) h fresh =
     let new = or_parts (a.yes && violates l c a.question) (is_struck l t c) fresh in
     and_from _ _ (ap (λ x. beq x a.yes) (list_all-append (λ (d : Candidate). not (violates l d a.question)) network (c ∷ [])) ∙ still_agrees (accepts l network a.question) a.yes (violates l c a.question) old.0 new.0)
     (agrees_with_fresh l network c t old.1 new.1)
-
-pub all_candidates : (l : Language) → All (IsCandidate l) (candidates l)
-all_candidates l = all_flat_map (IsCandidate l) (candidates_on l) (numbers (length l.scopes))
-    (all_below (λ s. All (IsCandidate l) (candidates_on l s)) (length l.scopes) (λ s low.
-    All-map (IsCandidate l) (λ (r : ℕ). record { scope = s; rel = r }) _
-    (all_below (λ r. IsCandidate l (record { scope = s; rel = r })) _ (λ r low_r. record { scope = low; rel = low_r }))))
 
 -- a free choice is none or a relation on the scope
 pub free_known : (l : Language) (t : List Answer) (network : List Candidate) (s : ℕ) →

@@ -1,5 +1,5 @@
 -- How many answers there are: every state that is reached counts them, so they are few.
-use Rattle.session_laws.proofs.Prelude.{◌≡◌, ℕ, suc, ◌+◌, ◌*◌, ◌≤◌, Bool, true, false, cond, ◌||◌, ◌&&◌, not, List, [], ◌∷◌, ◌++◌, length, Option, Some, None, refl, sym, ◌∙◌, ap, subst, arith, inl, inr, ◌==◌, Any, slice_index_or, position, option_map, option_and_then, is_none, list_any, filter, All-nil, All-cons, Any-from_list_any, position-Some, and_parts, and_left, or_left, both_ways, not-true, eqb-true, eq-eqb, true_from_ne_false, Candidate, Plan, Scopes, Quacq, Multi, numbers, has, is_within, is_same, Rises, Assignment, restrict, Language, IsLanguage, IsCandidate, candidates, variable_count, scope_of, violates, Answer, IsNoOn, has_scope, kept, log_up, Halved, Wants, Got, halve, Choice, splitting_tuple, after_reply, sub_length, log_up_holds, noes_are_few, accepted_at, Walk, Turn, Asks, violates_some, next_turn, State, Idle, Halving, Choosing, Walking, Over, At, MOST_SETS, wanted_set, next_scope, at_turn, settle_choices, begin_choosing, found, with_quiet_replies, halved, settle_halving, is_just, replied, replied_tuple, on_scope_asked, begun, is_lawful, step, state_after, scene_of, on_scope, free_choices, violated_choices, AnswersAreFew, AnswersAreAtMost, LearnedAreFew, denied, any-map, length-range_with_len, noes, greatest_arity, most_answers}
+use Rattle.session_laws.proofs.Prelude.{◌≡◌, ℕ, suc, ◌+◌, ◌*◌, ◌≤◌, Bool, true, false, cond, ◌||◌, ◌&&◌, not, List, [], ◌∷◌, ◌++◌, length, Option, Some, None, refl, sym, ◌∙◌, ap, subst, arith, inl, inr, ◌==◌, Any, slice_index_or, position, option_map, option_and_then, is_none, list_any, filter, All-nil, All-cons, Any-from_list_any, position-Some, and_parts, and_left, or_left, both_ways, not-true, eqb-true, eq-eqb, true_from_ne_false, Candidate, Plan, Scopes, Quacq, Multi, numbers, has, is_within, is_same, Rises, Assignment, restrict, Language, IsLanguage, IsCandidate, candidates, variable_count, scope_of, violates, Answer, IsNoOn, has_scope, kept, log_up, Halved, Wants, Got, halve, Choice, splitting_tuple, after_reply, sub_length, log_up_holds, noes_are_few, accepted_at, Walk, Turn, Asks, violates_some, next_turn, State, Idle, Halving, Choosing, Walking, Over, At, MOST_SETS, wanted_set, next_scope, at_turn, settle_choices, begin_choosing, found, with_quiet_replies, halved, settle_halving, is_just, replied, replied_tuple, on_scope_asked, begun, is_lawful, step, state_after, scene_of, on_scope, free_choices, violated_choices, AnswersAreFew, AnswersAreAtMost, LearnedAreFew, denied, any-map, length-range_with_len, noes, greatest_arity, most_answers, same_list}
 use Rattle.std.proofs.Math.Nat.{mul-le-mul_right}
 use Rattle.session_laws.proofs.Lists.{any_never}
 use Rattle.session_laws.proofs.Folds.{same_assignment, passed, asked_is, reached}
@@ -12,7 +12,6 @@ use Rattle.session_laws.proofs.Gone.{count_le, is_gone, is_out, gone_count, out_
 use Rattle.session_laws.proofs.Lengths.{scope_length, arity_fits}
 use Rattle.session_laws.proofs.Noes.{IsLive, noes_yes, noes_no, quiet_counts, nothing_left}
 use Rattle.session_laws.proofs.Counts.{cost, IsShort, IsOnShort, Counts, go_on_counts, settle_counts, choose_counts}
-use Rattle.language.proofs.Pairs.{same_list}
 use Rattle.shared_lemmas.proofs.Lists.{fewer_kept}
 use Rattle.language.proofs.FewScopes.{as_many, few_scopes}
 

@@ -1,10 +1,11 @@
 -- Two example languages are languages, so the laws speak of something.
-use Rattle.session_laws.proofs.Prelude.{◌≡◌, ℕ, zero, suc, ◌<◌, ◌≤◌, ◌^◌, List, [], ◌∷◌, length, map, false, refl, sym, ◌∙◌, ap, subst, arith, All, AllPairs, Contains, IsTrue, ◌≢◌, codes, replicate, All-nil, All-cons, both_ways, is_same, Relation, meet, meet_all, IsIntersection, IsClosing, is_above, Given, IsLanguage, IsScope, AreApart, scope_at, given_on, relations_on, eq, ne, none, binary, equal_or_not, three_equal}
+use Rattle.session_laws.proofs.Prelude.{◌≡◌, ℕ, zero, suc, ◌<◌, ◌≤◌, ◌^◌, List, [], ◌∷◌, length, map, false, refl, sym, ◌∙◌, ap, subst, arith, All, AllPairs, Contains, IsTrue, ◌≢◌, codes, replicate, All-nil, All-cons, both_ways, is_same, Relation, meet, meet_all, IsIntersection, IsClosing, is_above, Given, IsLanguage, IsScope, AreApart, scope_at, given_on, relations_on, eq, ne, none, binary, equal_or_not, three_equal, list_same}
 use Rattle.std.specs.List.Sorted.{IsStrictlyIncreasing}
 use Rattle.std.proofs.lemmas.List.Kept.{AllPairs-cons}
 use Rattle.std.proofs.lemmas.Int.{ints}
 use Rattle.language.specs.Ranges.{IsRange, whole_range}
-use Rattle.language.proofs.Pairs.{list_same}
+use Rattle.rel_table.proofs.Growing.{one_given}
+use Rattle.rel_table.proofs.Pairwise.{no_pairs}
 
 -- ---- by cases
 
@@ -14,11 +15,8 @@ one_of P x p = All-cons P x [] p (All-nil P)
 three_of : {X : Type 0} (P : X → Type 0) (x y z : X) → P x → P y → P z → All P (x ∷ y ∷ z ∷ [])
 three_of P x y z a b c = All-cons P x (y ∷ z ∷ []) a (All-cons P y (z ∷ []) b (one_of P z c))
 
-none_apart : {X : Type 0} (R : X → X → Type 0) → AllPairs R []
-none_apart R = λ i j d h k. absurd (omega arith)
-
 one_apart : {X : Type 0} (R : X → X → Type 0) (x : X) → AllPairs R (x ∷ [])
-one_apart R x = AllPairs-cons R x [] (All-nil (R x)) (none_apart R)
+one_apart R x = AllPairs-cons R x [] (All-nil (R x)) (no_pairs R)
 
 three_apart : {X : Type 0} (R : X → X → Type 0) (x y z : X) → R x y → R x z → R y z → AllPairs R (x ∷ y ∷ z ∷ [])
 three_apart R x y z a b c = AllPairs-cons R x (y ∷ z ∷ []) (All-cons (R x) y (z ∷ []) a (one_of (R x) z b)) (AllPairs-cons R y (z ∷ []) (one_of (R y) z c) (one_apart R z))
@@ -79,12 +77,9 @@ meets_all : (r : Relation) (more : List Relation) → Contains all r → All (Co
 meets_all r [] here given = here
 meets_all r (q ∷ more) here given = meets_all (meet r q) more (meets r q here (given 0 q (omega arith))) (λ k d h. given (suc k) d (omega arith))
 
-itself : (file : List Relation) (r : Relation) → Contains file r → IsIntersection file r
-itself file r is = record { first = r; more = []; first_given = is; more_given = All-nil (Contains file); is = refl }
-
 three_close : IsClosing all all
 three_close = record {
-  each = three_of (IsIntersection all) eq ne none (itself all eq first) (itself all ne second) (itself all none third);
+  each = three_of (IsIntersection all) eq ne none (one_given all eq first) (one_given all ne second) (one_given all none third);
   every = λ r is. subst (Contains all) (sym is.is) (meets_all is.first is.more is.first_given is.more_given);
   falling = three_apart (λ r q. IsTrue (is_above r q)) eq ne none refl refl refl;
 }
@@ -134,7 +129,7 @@ eq_again r (q ∷ more) is given = eq_again (meet r q) more (ap (λ x. meet x q)
 
 eq_closes : IsClosing (eq ∷ []) (eq ∷ [])
 eq_closes = record {
-  each = one_of (IsIntersection (eq ∷ [])) eq (itself (eq ∷ []) eq (0, omega arith, refl));
+  each = one_of (IsIntersection (eq ∷ [])) eq (one_given (eq ∷ []) eq (0, omega arith, refl));
   every = λ r is. (0, omega arith, sym (is.is ∙ eq_again is.first is.more (only_eq (λ x. x ≡ eq) is.first is.first_given refl) is.more_given));
   falling = one_apart (λ r q. IsTrue (is_above r q)) eq;
 }

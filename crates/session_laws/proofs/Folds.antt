@@ -1,5 +1,5 @@
 -- The fold over answers: what each step keeps holds of every state that is reached, and one answer more is one step more.
-use Rattle.session_laws.proofs.Prelude.{◌≡◌, ℕ, ◌+◌, Bool, true, false, List, [], ◌∷◌, ◌++◌, length, Option, Some, None, refl, sym, ◌∙◌, ap, subst, option_map, append-nil, append_assoc, and_parts, and_from, eqb-true, eq-eqb, Assignment, is_same_assignment, is_same_value, Answer, Plan, Language, on_scope, State, Idle, At, if_passes, is_just, then_on, step, read_on, state_after, OneAnswerMore}
+use Rattle.session_laws.proofs.Prelude.{◌≡◌, ℕ, ◌+◌, Bool, true, false, List, [], ◌∷◌, ◌++◌, length, Option, Some, None, refl, sym, ◌∙◌, ap, subst, option_map, append-nil, append_assoc, and_parts, and_from, eqb-true, eq-eqb, Assignment, is_same_assignment, is_same_value, Answer, Plan, Language, on_scope, State, Idle, At, if_passes, is_just, lead_on, step, read_on, state_after, OneAnswerMore}
 
 -- ---- assignments that are the same
 
@@ -46,7 +46,7 @@ read_keeps l plan P keeps [] before state final holds h =
 read_keeps l plan P keeps (a ∷ t) before state final holds h =
     go (step l plan before a state) refl h (λ next at rest. read_keeps l plan P keeps t (before ++ a ∷ []) next final (keeps before a state next holds at) rest)
   where
-    go : (o : Option State) → step l plan before a state ≡ o → then_on (length before + 1) o (λ next. read_on l plan (before ++ a ∷ []) next t) ≡ At final →
+    go : (o : Option State) → step l plan before a state ≡ o → lead_on (length before + 1) o (λ next. read_on l plan (before ++ a ∷ []) next t) ≡ At final →
         ((next : State) → step l plan before a state ≡ Some next → read_on l plan (before ++ a ∷ []) next t ≡ At final → P ((before ++ a ∷ []) ++ t) final) → P (before ++ a ∷ t) final
     go None at h rest = cc
     go (Some next) at h rest = subst (λ (x : List Answer). P x final) (append_assoc before (a ∷ []) t) (rest next at h)
@@ -64,15 +64,15 @@ read_more : (l : Language) (plan : Plan) (t before : List Answer) (a : Answer) (
 unfolding read_on
 read_more l plan [] before a start state next h s =
     let same : start ≡ state = cc in
-    ap (λ o. then_on (length before + 1) o At) ((λ i. step l plan (sym (append-nil before) i) a (same i)) ∙ s)
+    ap (λ o. lead_on (length before + 1) o At) ((λ i. step l plan (sym (append-nil before) i) a (same i)) ∙ s)
 read_more l plan (b ∷ t) before a start state next h s =
     go (step l plan before b start) refl h (λ middle rest. read_more l plan t (before ++ b ∷ []) a middle state next rest (ap (λ xs. step l plan xs a state) (append_assoc before (b ∷ []) t) ∙ s))
   where
-    go : (o : Option State) → step l plan before b start ≡ o → then_on (length before + 1) o (λ middle. read_on l plan (before ++ b ∷ []) middle t) ≡ At state →
+    go : (o : Option State) → step l plan before b start ≡ o → lead_on (length before + 1) o (λ middle. read_on l plan (before ++ b ∷ []) middle t) ≡ At state →
         ((middle : State) → read_on l plan (before ++ b ∷ []) middle t ≡ At state → read_on l plan (before ++ b ∷ []) middle (t ++ a ∷ []) ≡ At next) →
-        then_on (length before + 1) (step l plan before b start) (λ middle. read_on l plan (before ++ b ∷ []) middle (t ++ a ∷ [])) ≡ At next
+        lead_on (length before + 1) (step l plan before b start) (λ middle. read_on l plan (before ++ b ∷ []) middle (t ++ a ∷ [])) ≡ At next
     go None e h rest = cc
-    go (Some middle) e h rest = ap (λ o. then_on (length before + 1) o (λ middle. read_on l plan (before ++ b ∷ []) middle (t ++ a ∷ []))) e ∙ rest middle h
+    go (Some middle) e h rest = ap (λ o. lead_on (length before + 1) o (λ middle. read_on l plan (before ++ b ∷ []) middle (t ++ a ∷ []))) e ∙ rest middle h
 
 pub one_answer_more : OneAnswerMore
 one_answer_more l plan t a state next reached moved = read_more l plan t [] a (Idle [] None) state next reached moved

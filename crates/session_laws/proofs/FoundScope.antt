@@ -1,9 +1,8 @@
 -- What begins once a halving has found a set: that set is a scope with choices, or no network agrees.
-use Rattle.session_laws.proofs.Prelude.{◌≡◌, ℕ, ◌<◌, ◌≤◌, Bool, true, false, ◌&&◌, not, List, [], ◌∷◌, ◌++◌, length, map, Some, None, refl, sym, ◌∙◌, ap, subst, inl, inr, ◌⊎◌, ◌==◌, All, Any, slice_index_or, position, beq, list_any, filter, append-nil, All-map, All-filter, All-head, filter_passes, position-Some, list_all-append, list_any_at, list_all-from_AllPass, cases_Bool, and_parts, and_from, and_right, both_ways, not_from_false, not-true, eq-eqb, eqb-true, false_from_ne_true, Candidate, has, is_within, is_same, Rises, Assignment, variables_of, Language, IsLanguage, IsCandidate, candidates, scope_of, violates, accepts, Answer, IsNoOn, NoneAgrees, has_scope, agrees, is_struck, kept, Got, halve, Choice, violated_choices, learn, same_scope, IsKnown, sub_within, any-filter, any-map, any_candidate}
+use Rattle.session_laws.proofs.Prelude.{◌≡◌, ℕ, ◌<◌, ◌≤◌, Bool, true, false, ◌&&◌, not, List, [], ◌∷◌, ◌++◌, length, map, Some, None, refl, sym, ◌∙◌, ap, subst, inl, inr, ◌⊎◌, ◌==◌, All, Any, slice_index_or, position, beq, list_any, filter, append-nil, All-map, All-filter, All-head, filter_passes, position-Some, list_all-append, list_any_at, list_all-from_AllPass, cases_Bool, and_parts, and_from, and_right, both_ways, not_from_false, not-true, eq-eqb, eqb-true, false_from_ne_true, Candidate, has, is_within, is_same, Rises, Assignment, variables_of, Language, IsLanguage, IsCandidate, candidates, scope_of, violates, accepts, Answer, IsNoOn, NoneAgrees, has_scope, agrees, is_struck, kept, Got, halve, Choice, violated_choices, learn, same_scope, IsKnown, sub_within, any-filter, any-map, any_candidate, list_same, all_candidates, same_list}
 use Rattle.session_laws.proofs.Restrict.{position_some, violates_restrict, rising_scope, exact_on}
-use Rattle.session_laws.proofs.Choices.{IsHalfway, IsGone, is_number, still_agrees, all_candidates, beq_false}
+use Rattle.session_laws.proofs.Choices.{IsHalfway, IsGone, is_number, still_agrees, beq_false}
 use Rattle.session_laws.proofs.Halving.{IsHalving, IsReply, IsWith, culprit, got_denied, got_rises}
-use Rattle.language.proofs.Pairs.{same_list, list_same}
 
 -- ---- the set that is got is a scope with choices
 

@@ -1,7 +1,7 @@
 -- Candidates that are gone: those that can't be learned any more. Each yes makes one more so.
-use Rattle.session_laws.proofs.Prelude.{◌≡◌, ℕ, suc, ◌+◌, ◌≤◌, Bool, true, false, ◌||◌, ◌&&◌, not, List, [], ◌∷◌, ◌++◌, length, Some, refl, sym, ◌∙◌, ap, arith, inl, inr, ◌⊎◌, length-append, ◌==◌, list_any, filter, list_any-append, and_parts, and_from, and_left, or_cases, or_left, or_right, or_from, both_ways, not_from_false, not-true, eqb-true, eq-eqb, false_from_ne_true, Candidate, Language, IsCandidate, candidates, violates, Answer, has_scope, is_struck, kept, Choice, violates_some, any-filter}
+use Rattle.session_laws.proofs.Prelude.{◌≡◌, ℕ, suc, ◌+◌, ◌≤◌, Bool, true, false, ◌||◌, ◌&&◌, not, List, [], ◌∷◌, ◌++◌, length, Some, refl, sym, ◌∙◌, ap, arith, inl, inr, ◌⊎◌, length-append, ◌==◌, list_any, filter, list_any-append, and_parts, and_from, and_left, or_cases, or_left, or_right, or_from, both_ways, not_from_false, not-true, eqb-true, eq-eqb, false_from_ne_true, Candidate, Language, IsCandidate, candidates, violates, Answer, has_scope, is_struck, kept, Choice, violates_some, any-filter, all_candidates}
 use Rattle.session_laws.proofs.Lists.{fewer_in, more_in}
-use Rattle.session_laws.proofs.Choices.{is_number, all_candidates, struck_more}
+use Rattle.session_laws.proofs.Choices.{is_number, struck_more}
 use Rattle.language.proofs.Lists.{any_weaker}
 
 -- ---- counting

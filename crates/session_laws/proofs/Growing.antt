@@ -1,5 +1,5 @@
 -- What is learned stays learned.
-use Rattle.session_laws.proofs.Prelude.{◌≡◌, ℕ, ◌+◌, Bool, true, false, List, [], ◌∷◌, ◌++◌, length, Option, Some, None, refl, sym, ◌∙◌, ap, subst, append-nil, append_assoc, Candidate, Assignment, Answer, Plan, Scopes, Quacq, Multi, Language, Halved, Wants, Got, Choice, splitting_tuple, scene_of, free_choices, Walk, Turn, Asks, Ends, State, Idle, Halving, Choosing, Walking, Over, At, at_turn, go_on, learn, chosen, begin_choosing, found, halved, replied, replied_tuple, on_scope_asked, begun, then_on, step, read_on, Extends, NetworkGrows, network_in}
+use Rattle.session_laws.proofs.Prelude.{◌≡◌, ℕ, ◌+◌, Bool, true, false, List, [], ◌∷◌, ◌++◌, length, Option, Some, None, refl, sym, ◌∙◌, ap, subst, append-nil, append_assoc, Candidate, Assignment, Answer, Plan, Scopes, Quacq, Multi, Language, Halved, Wants, Got, Choice, splitting_tuple, scene_of, free_choices, Walk, Turn, Asks, Ends, State, Idle, Halving, Choosing, Walking, Over, At, at_turn, go_on, learn, chosen, begin_choosing, found, halved, replied, replied_tuple, on_scope_asked, begun, lead_on, step, read_on, Extends, NetworkGrows, network_in}
 use Rattle.session_laws.proofs.Folds.{passed, one_answer_more}
 
 stays : (network : List Candidate) → Extends network network
@@ -77,17 +77,17 @@ read_none : (l : Language) (plan : Plan) (t before : List Answer) (a : Answer) (
 unfolding read_on
 read_none l plan [] before a start state final h none at =
     let same : start ≡ state = cc in
-    stray (ap (λ o. then_on (length before + 1) o At) (sym ((λ i. step l plan (sym (append-nil before) i) a (same i)) ∙ none)) ∙ at)
+    stray (ap (λ o. lead_on (length before + 1) o At) (sym ((λ i. step l plan (sym (append-nil before) i) a (same i)) ∙ none)) ∙ at)
   where
-    stray : then_on (length before + 1) None At ≡ At final → ⊥
+    stray : lead_on (length before + 1) None At ≡ At final → ⊥
     stray e = cc
 read_none l plan (b ∷ t) before a start state final h none at =
     go (step l plan before b start) refl h (λ middle rest on. read_none l plan t (before ++ b ∷ []) a middle state final rest (ap (λ xs. step l plan xs a state) (append_assoc before (b ∷ []) t) ∙ none) on)
   where
-    go : (o : Option State) → step l plan before b start ≡ o → then_on (length before + 1) o (λ middle. read_on l plan (before ++ b ∷ []) middle t) ≡ At state →
+    go : (o : Option State) → step l plan before b start ≡ o → lead_on (length before + 1) o (λ middle. read_on l plan (before ++ b ∷ []) middle t) ≡ At state →
         ((middle : State) → read_on l plan (before ++ b ∷ []) middle t ≡ At state → read_on l plan (before ++ b ∷ []) middle (t ++ a ∷ []) ≡ At final → ⊥) → ⊥
     go None e h rest = cc
-    go (Some middle) e h rest = rest middle h (ap (λ o. then_on (length before + 1) o (λ middle. read_on l plan (before ++ b ∷ []) middle (t ++ a ∷ []))) (sym e) ∙ at)
+    go (Some middle) e h rest = rest middle h (ap (λ o. lead_on (length before + 1) o (λ middle. read_on l plan (before ++ b ∷ []) middle (t ++ a ∷ []))) (sym e) ∙ at)
 
 pub network_grows : NetworkGrows
 network_grows l plan t a state next at then = go (step l plan t a state) refl

@@ -4,21 +4,9 @@ use Rattle.session_laws.proofs.Prelude.{◌≡◌, ℕ, zero, suc, ◌≤◌, Bo
 pub any_more : {X : Type 0} (P : X → Type 0) (xs : List X) (y : X) → Any P xs → Any P (xs ++ y ∷ [])
 any_more P xs y (k, x, low, at, p) = (k, x, omega (arith, length-append xs (y ∷ [])), get_or_append_left xs (y ∷ []) x k low ∙ at, p)
 
-pub some_left : {X : Type 0} (t : X → Bool) (xs : List X) → list_any t xs ≡ true → 1 ≤ length (filter t xs)
-some_left t [] h = absurd (both_ways _ refl h)
-some_left t (x ∷ xs) h = go (t x) refl (some_left t xs)
-  where
-    go : (b : Bool) → t x ≡ b → (list_any t xs ≡ true → 1 ≤ length (filter t xs)) → 1 ≤ length (cond b (x ∷ filter t xs) (filter t xs))
-    go true on rest = omega arith
-    go false off rest = rest (sym (ap (λ b. b || list_any t xs) off) ∙ h)
-
 pub All-flat_map : {X Y : Type 0} (Q : Y → Type 0) (f : X → List Y) (xs : List X) → ((x : X) → All Q (f x)) → All Q (flat_map f xs)
 All-flat_map Q f [] h = All-nil Q
 All-flat_map Q f (x ∷ xs) h = All-append Q (f x) (flat_map f xs) (h x) (All-flat_map Q f xs h)
-
-pub all_flat_map : {X Y : Type 0} (Q : Y → Type 0) (f : X → List Y) (xs : List X) → All (λ x. All Q (f x)) xs → All Q (flat_map f xs)
-all_flat_map Q f [] h = All-nil Q
-all_flat_map Q f (x ∷ xs) h = All-append Q (f x) (flat_map f xs) (All-head (λ x. All Q (f x)) x xs h) (all_flat_map Q f xs (All-tail (λ x. All Q (f x)) x xs h))
 
 pub tuples_long : (d a : ℕ) → All (λ u. length u ≡ a) (tuples d a)
 tuples_long d zero = All-cons (λ (u : List ℕ). length u ≡ 0) [] [] refl (All-nil (λ (u : List ℕ). length u ≡ 0))

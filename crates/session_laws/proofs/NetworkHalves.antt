@@ -3,7 +3,7 @@ use Rattle.session_laws.proofs.Prelude.{◌≡◌, ℕ, ◌<◌, ◌≤◌, Bool
 use Rattle.find_scope.specs.Laws.{IsTest, IsMinimal}
 use Rattle.session_laws.proofs.Restrict.{violates_restrict, rejecting, rising_scope, accepts_narrower}
 
-none_within : (xs : List ℕ) → 1 ≤ length xs → is_within xs [] ≡ true → ⊥
+pub none_within : (xs : List ℕ) → 1 ≤ length xs → is_within xs [] ≡ true → ⊥
 none_within [] h e = omega arith
 none_within (x ∷ xs) h e = both_ways _ refl e
 

@@ -1,5 +1,6 @@
 -- A tuple as a question about exactly one scope.
 use Rattle.session_laws.proofs.Prelude.{◌≡◌, ℕ, ◌+◌, ◌<◌, ◌≤◌, Bool, true, false, cond, ◌||◌, ◌&&◌, not, List, [], ◌∷◌, length, map, Some, None, refl, sym, ◌∙◌, ap, arith, inl, inr, ◌⊎◌, ◌==◌, All, slice_index_or, is_some, unwrap_or, All-head, All-tail, All-nil, All-cons, All-weaker, length-map-range_with_len, get_or-eq_default, list_all-from_AllPass, list_any_at, list_all-append, cases_lt, ne_eqb, eq-eqb, both_ways, true_from_ne_false, has, Rises, value_of, value_beside, assigned, covers, tuple_on, variables_of, Candidate, holds, Language, IsLanguage, variable_count, relations_on, violates, accepts, IsNetwork, has_scope, Choice, allows, scene_of, on_scope, value_of_assigned, scope_rises, learn, only_there, rejected_on, none_on, set_where-same, canonical}
+use Rattle.language.proofs.InOrder.{all_low}
 
 -- ---- the values of such a question
 
@@ -28,17 +29,13 @@ map_agree : (P : ℕ → Type 0) (f g : ℕ → ℕ) (xs : List ℕ) → All P x
 map_agree P f g [] all h = refl
 map_agree P f g (x ∷ xs) all h = λ i. h x (All-head P x xs all) i ∷ map_agree P f g xs (All-tail P x xs all) h i
 
-rises_above : (a : ℕ) (xs : List ℕ) → Rises a xs → All (λ v. a ≤ v) xs
-rises_above a [] r = All-nil (λ v. a ≤ v)
-rises_above a (x ∷ xs) r = All-cons (λ v. a ≤ v) x xs r.0 (All-weaker (λ v. x + 1 ≤ v) (λ v. a ≤ v) (λ v h. (let low = r.0 in omega arith)) xs (rises_above (x + 1) xs r.2))
-
 beside_tuple : (a : ℕ) (vars values : List ℕ) → Rises a vars → length values ≡ length vars → map (λ v. unwrap_or (value_beside vars values v) 0) vars ≡ values
 beside_tuple a [] [] r e = refl
 beside_tuple a [] (x ∷ values) r e = absurd (omega arith)
 beside_tuple a (w ∷ vars) [] r e = absurd (omega arith)
 beside_tuple a (w ∷ vars) (x ∷ values) r e =
     (λ i. ap (λ b. unwrap_or (cond b (Some x) (value_beside vars values w)) 0) (eq-eqb w w refl) i
-    ∷ (map_agree (λ v. w + 1 ≤ v) (λ v. unwrap_or (cond (w == v) (Some x) (value_beside vars values v)) 0) (λ v. unwrap_or (value_beside vars values v) 0) vars (rises_above (w + 1) vars r.2)
+    ∷ (map_agree (λ v. w + 1 ≤ v) (λ v. unwrap_or (cond (w == v) (Some x) (value_beside vars values v)) 0) (λ v. unwrap_or (value_beside vars values v) 0) vars (all_low (w + 1) vars r.2)
     (λ v low. ap (λ b. unwrap_or (cond b (Some x) (value_beside vars values v)) 0) (ne_eqb w v (λ same. omega arith)))
     ∙ beside_tuple (w + 1) vars values r.2 (omega arith)) i)
 

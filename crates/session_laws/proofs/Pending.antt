@@ -1,9 +1,9 @@
 -- What is left to walk of an example: each candidate that it violates and that may still be learned lies within a set that waits.
-use Rattle.session_laws.proofs.Prelude.{◌≡◌, ℕ, zero, suc, ◌*◌, ◌<◌, Bool, true, false, ◌||◌, ◌&&◌, not, List, [], ◌∷◌, ◌++◌, length, Option, Some, None, refl, sym, ◌∙◌, ap, subst, arith, inl, inr, ◌⊎◌, ◌==◌, Any, AllPairs, Contains, slice_index_or, position, option_map, option_and_then, list_any, get_or_default, All-nil, list_any-append, list_any_at, Any-from_list_any, cases_eq, cases_order, and_parts, and_from, and_left, or_cases, or_parts, or_left, or_right, or_from, both_ways, not_from_false, not-true, eqb-true, eq-eqb, false_from_ne_true, true_from_ne_false, Candidate, Plan, Scopes, Quacq, Multi, numbers, has, is_within, is_same, without, Rises, Assignment, restrict, Answer, has-set_where, Language, IsLanguage, IsCandidate, candidates, variable_count, scope_of, violates, IsNetwork, IsNoOn, has_scope, agrees, is_struck, kept, accepted_at, denied, same_scope, find_all, any-filter, any-map, any_candidate, any_number, Halved, Wants, Got, halve, sub_within, within_sub, Choice, splitting_tuple, after_reply, remaining, scene_of, on_scope, free_choices, violated_choices, Walk, WalkEnd, Ended, Capped, Turn, Asks, violates_some, learned_within, parts_without, take_set, next_turn, State, Idle, Halving, Choosing, Walking, Over, At, MOST_SETS, next_scope, learn, at_turn, go_on, settle_choices, chosen, begin_choosing, found, with_quiet_replies, halved, settle_halving, is_just, replied, replied_tuple, on_scope_asked, begun, is_lawful, step, state_after, end_in, IsWalked, EndedIsWalked}
+use Rattle.session_laws.proofs.Prelude.{◌≡◌, ℕ, zero, suc, ◌*◌, ◌<◌, Bool, true, false, ◌||◌, ◌&&◌, not, List, [], ◌∷◌, ◌++◌, length, Option, Some, None, refl, sym, ◌∙◌, ap, subst, arith, inl, inr, ◌⊎◌, ◌==◌, Any, AllPairs, Contains, slice_index_or, position, option_map, option_and_then, list_any, get_or_default, All-nil, list_any-append, list_any_at, Any-from_list_any, cases_eq, cases_order, and_parts, and_from, and_left, or_cases, or_parts, or_left, or_right, or_from, both_ways, not_from_false, not-true, eqb-true, eq-eqb, false_from_ne_true, true_from_ne_false, Candidate, Plan, Scopes, Quacq, Multi, numbers, has, is_within, is_same, without, Rises, Assignment, restrict, Answer, has-set_where, Language, IsLanguage, IsCandidate, candidates, variable_count, scope_of, violates, IsNetwork, IsNoOn, has_scope, agrees, is_struck, kept, accepted_at, denied, same_scope, find_all, any-filter, any-map, any_candidate, any_number, Halved, Wants, Got, halve, sub_within, within_sub, Choice, splitting_tuple, after_reply, remaining, scene_of, on_scope, free_choices, violated_choices, Walk, WalkEnd, Ended, Capped, Turn, Asks, violates_some, learned_within, parts_without, take_set, next_turn, State, Idle, Halving, Choosing, Walking, Over, At, MOST_SETS, next_scope, learn, at_turn, go_on, settle_choices, chosen, begin_choosing, found, with_quiet_replies, halved, settle_halving, is_just, replied, replied_tuple, on_scope_asked, begun, is_lawful, step, state_after, end_in, IsWalked, EndedIsWalked, all_candidates}
 use Rattle.session_laws.proofs.Restrict.{restrict_all, rises_range, violates_restrict, rising_scope, below_count, has_all}
 use Rattle.session_laws.proofs.Gone.{struck_now}
 use Rattle.session_laws.proofs.Folds.{same_assignment, passed, asked_is, reached}
-use Rattle.session_laws.proofs.Choices.{IsSound, IsHalfway, begin_halfway, reply_halfway, settled, struck_more, all_candidates, nothing_yet}
+use Rattle.session_laws.proofs.Choices.{IsSound, IsHalfway, begin_halfway, reply_halfway, settled, struck_more, nothing_yet}
 use Rattle.session_laws.proofs.Halving.{IsHalving, begin_halving, reply_halving, settled_halving, fresh_in}
 use Rattle.session_laws.proofs.FoundScope.{begin_found, free_there}
 use Rattle.session_laws.proofs.States.{IsWalking, Holds, IsPut, put_is, whole_accepted, asked_set, first_turn, find_nothing, step_holds}

@@ -12,7 +12,8 @@ pub use Rattle.std.specs.Bool.{beq}
 pub use Rattle.std.specs.List.{filter, flat_map, fold, list_any, position_or_len, range_with_len}
 pub use Rattle.std.specs.Prelude.{All, AllPairs, Any, Contains, IsTrue, codes, find, is_none, is_some, max, nat_lt, option_and_then, option_map, position, replicate, slice_index_or, unwrap_or, ◌==◌, ◌≢◌}
 pub use Rattle.shared_lemmas.proofs.Booleans.{both_true}
-pub use Rattle.assign.proofs.Masks.{canonical, rises_where}
+pub use Rattle.shared_lemmas.proofs.Lists.{all_flat_map}
+pub use Rattle.assign.proofs.Masks.{canonical, list_same, rises_where, same_list}
 pub use Rattle.assign.specs.Assignment.{Assignment, assigned, covers, is_complete, is_same_assignment, is_same_value, restrict, tuple_on, value_beside, value_of, variables_of}
 pub use Rattle.assign.specs.Events.{Answer}
 pub use Rattle.assign.specs.SetLemmas.{has-set_where, set_where-same}
@@ -30,7 +31,7 @@ pub use Rattle.language.proofs.Accepts.{accepted_at, accepted_from}
 pub use Rattle.language.proofs.Beside.{scope_rises, tuple_fits, value_of_assigned}
 pub use Rattle.language.proofs.Covered.{IsGathered, IsTold, covered_converged, denied, gather, learned_is, none_on, not_struck, only_there, rejected_on, same_scope}
 pub use Rattle.language.proofs.Lists.{all_below, find_all}
-pub use Rattle.language.proofs.Members.{any-filter, any-map, any_candidate, any_number, any_tuple, find_none, find_some}
+pub use Rattle.language.proofs.Members.{all_candidates, any-filter, any-map, any_candidate, any_number, any_tuple, find_none, find_some}
 pub use Rattle.language.specs.Answers.{IsNetwork, IsNoOn, NoneAgrees, agrees, has_scope, is_struck, kept}
 pub use Rattle.language.specs.Language.{AreApart, Given, IsCandidate, IsImplied, IsLanguage, IsQuestion, IsScope, Language, accepts, candidates, candidates_on, given_on, is_question, is_ranged, relation_of, relations_on, scope_at, scope_of, variable_count, violates}
 pub use Rattle.language.specs.Scenes.{free_choices, on_scope, scene_of, violated_choices}
@@ -40,7 +41,7 @@ pub use Rattle.rel_table.specs.Relation.{IsClosing, IsIntersection, Relation, ho
 pub use Rattle.session_laws.specs.Bound.{greatest_arity, most_answers}
 pub use Rattle.session_laws.specs.Examples.{binary, eq, equal_or_not, ne, none, pair, says, three_equal, untrue}
 pub use Rattle.session_laws.specs.Laws.{AnswersAreAtMost, AnswersAreFew, AnswersFit, EndedIsWalked, Extends, FuelIsEnough, HalvingAsks, IdleIsInStep, ImpliedIsCovered, IsAskable, IsAsking, IsViolatedOn, IsWalked, KeptSteps, LearnedAreFew, NetworkGrows, NetworkHalves, NeverStuck, OneAnswerMore, OverMeansNone, QuestionsHavePlaces, QuestionsHaveValues, ScopesAreCovered, ScopesNeverOver, SettleSteps, accepts_on, has_value, network_in}
-pub use Rattle.session_laws.specs.Session.{At, Choosing, Halving, Idle, MOST_SETS, Over, State, Walking, at_turn, begin_choosing, begun, chosen, end_in, found, go_on, halved, if_passes, is_just, is_lawful, is_quiet, is_undecided, learn, next_scope, on_scope_asked, open_question, replied, replied_tuple, scope_question, settle_choices, settle_halving, state_after, step, then_on, wanted_set}
+pub use Rattle.session_laws.specs.Session.{At, Choosing, Halving, Idle, MOST_SETS, Over, State, Walking, at_turn, begin_choosing, begun, chosen, end_in, found, go_on, halved, if_passes, is_just, is_lawful, is_quiet, is_undecided, learn, next_scope, on_scope_asked, open_question, replied, replied_tuple, scope_question, settle_choices, settle_halving, state_after, step, lead_on, wanted_set}
 unfoldable pub use Rattle.session_laws.specs.Session.{read_on, with_quiet_replies}
 pub use Rattle.session_laws.specs.Walk.{Asks, Capped, Ended, Ends, Turn, Walk, WalkEnd, learned_within, parts_without, take_set, violates_some}
 unfoldable pub use Rattle.session_laws.specs.Walk.{next_turn}

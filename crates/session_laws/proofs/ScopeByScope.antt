@@ -4,6 +4,7 @@ use Rattle.session_laws.proofs.Lists.{is_none_option}
 use Rattle.session_laws.proofs.Choices.{kept_is_choice, none_is_choice, IsSound, IsHalfway, reply_halfway, settled, begin_halfway, nothing_yet}
 use Rattle.session_laws.proofs.Folds.{passed, asked_is, reached}
 use Rattle.language.proofs.Plain.{length-tuple_on}
+use Rattle.assign.proofs.Masks.{not_alone}
 
 -- ---- the end: what is kept where nothing is learned accepts every tuple
 
@@ -24,11 +25,6 @@ none_next l t network none s low free = is_none_option _ (false_from_ne_true _ (
     (any_number (λ v. not (has_scope network v) && is_some (splitting_tuple (scene_of l v) (free_choices (kept l t network) v))) (length l.scopes) s low
     (and_from _ _ (not_from_false _ free) differ))))
 
-never_both : (g b : Bool) → (g ≡ true → b ≡ true) → (g && not b) ≡ false
-never_both false b h = refl
-never_both true true h = refl
-never_both true false h = sym (h refl)
-
 -- the last part of what makes a network covered
 pub rest_is_covered : (l : Language) (t : List Answer) (network : List Candidate) → next_scope l (kept l t network) network ≡ None →
     (c : Candidate) → IsCandidate l c → has_scope network c.scope ≡ false → (is_struck l t c ≡ true) ⊎ IsImplied l network c
@@ -36,7 +32,7 @@ rest_is_covered l t network none c is free = go (cases_Bool (is_struck l t c))
   where
     go : (is_struck l t c ≡ true) ⊎ (is_struck l t c ≡ false) → (is_struck l t c ≡ true) ⊎ IsImplied l network c
     go (inl struck) = inl struck
-    go (inr fresh) = inr (λ e question complete accepted. never_both (covers e (scope_of l c)) (holds l.value_count (relation_of l c) (tuple_on e (scope_of l c))) (λ covered.
+    go (inr fresh) = inr (λ e question complete accepted. not_alone (covers e (scope_of l c)) (holds l.value_count (relation_of l c) (tuple_on e (scope_of l c))) (λ covered.
         no_difference l t network c is fresh free (none_next l t network none c.scope is.scope free) (tuple_on e (scope_of l c)) (length-tuple_on e (scope_of l c))
         (tuple_fits l.value_count e (scope_of l c) question.values_fit covered)))
 

@@ -7,6 +7,9 @@ use Rattle.session_laws.proofs.Choices.{IsSound, IsHalfway, begin_halfway, reply
 use Rattle.session_laws.proofs.Halving.{IsHalving, sound_more, begin_halving, reply_halving, settled_halving}
 use Rattle.session_laws.proofs.FoundScope.{no_scope, no_choice, begin_found, free_there}
 
+pub same_state : (s t : State) → At s ≡ At t → s ≡ t
+same_state s t e = cc
+
 -- ---- what holds
 
 -- a walk of a complete example over sets

@@ -169,21 +169,21 @@ step l plan before a state =
     if_passes (is_just (open_question l state) a.question) (replied l (before ++ a ∷ []) a.yes state)
 
 -- where the answers lead, or the number of the first that has no place
-pub data Reading : Type 0 where
-  At : State → Reading
-  Stray : ℕ → Reading
+pub data Course : Type 0 where
+  At : State → Course
+  Stray : ℕ → Course
 
 -- on from a state, or a stray answer where there is none
-abbrev pub then_on : ℕ → Option State → (State → Reading) → Reading
-then_on number None next = Stray number
-then_on number (Some state) next = next state
+abbrev pub lead_on : ℕ → Option State → (State → Course) → Course
+lead_on number None next = Stray number
+lead_on number (Some state) next = next state
 
-unfoldable pub read_on : Language → Plan → List Answer → State → List Answer → Reading
+unfoldable pub read_on : Language → Plan → List Answer → State → List Answer → Course
 read_on l plan before state [] = At state
-read_on l plan before state (a ∷ t) = then_on (length before + 1) (step l plan before a state) (λ next. read_on l plan (before ++ a ∷ []) next t)
+read_on l plan before state (a ∷ t) = lead_on (length before + 1) (step l plan before a state) (λ next. read_on l plan (before ++ a ∷ []) next t)
 
 -- the state after a list of answers
-abbrev pub state_after : Language → Plan → List Answer → Reading
+abbrev pub state_after : Language → Plan → List Answer → Course
 state_after l plan t = read_on l plan [] (Idle [] None) t
 
 -- how the walk ended that the last answer ended, if it ended one
@@ -194,7 +194,7 @@ end_of (Choosing s choices network walk) = None
 end_of (Walking set walk network) = None
 end_of (Over network) = None
 
-abbrev pub end_in : Reading → Option WalkEnd
+abbrev pub end_in : Course → Option WalkEnd
 end_in (At state) = end_of state
 end_in (Stray number) = None
 

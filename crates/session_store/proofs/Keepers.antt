@@ -1,5 +1,5 @@
 -- Calls of a keeper, one after another.
-use Rattle.session_store.proofs.Prelude.{◌≡◌, ◌≤◌, ◌⊎◌, ⊎_elim, ◌+◌, ℕ, IsTrue, Bool, true, false, List, [], ◌∷◌, ◌++◌, Option, Some, is_some, Result, Ok, Err, refl, sym, ◌∙◌, ap, subst, inl, inr, arith, append_assoc, ForSome, IfErr, IsErrOf, OnOk, IfErr-at_err, append-nil, All-nil, All-cons, All-append, Assignment, Event, Plan, DiskOf, Rose, GoesOn, IsOnDisk, LeavesOnly, started, joined, weaker, IsAddable, IsTried, OpensWith, OpensWithOrWithout, OpensWithin, HoldsAtLeast, LeavesNow, bytes_told, IsGrown, IsNotKept, LeavesEvent, Persists, AreEventCalls, FailsWith, calls_for, calls_of, raised_after, raised_by, SFault}
+use Rattle.session_store.proofs.Prelude.{◌≡◌, ◌≤◌, ◌⊎◌, ⊎_elim, ◌+◌, ℕ, IsTrue, Bool, true, false, List, [], ◌∷◌, ◌++◌, Option, Some, is_some, Result, Ok, Err, refl, sym, ◌∙◌, ap, subst, inl, inr, arith, append_assoc, ForSome, IfErr, IsErrOf, OnOk, IfErr-at_err, append-nil, All-nil, All-cons, All-append, Assignment, Event, Plan, DiskOf, Rose, GoesOn, IsOnDisk, LeavesOnly, started, joined, weaker, IsAddable, IsTried, OpensWith, OpensWithOrWithout, OpensWithin, HoldsAtLeast, LeavesNow, bytes_told, IsGrown, IsNotKept, LeavesEvent, Persists, AreEventCalls, FailsWith, calls_for, all_calls, raised_after, raised_by, SFault}
 use Rattle.answer_journal.specs.declared.fault.JFault.TheVariants as journal
 use Rattle.session_store.specs.Keeps.{Keeps, LosesNone, OnlyPuts}
 use Rattle.session_store.specs.declared.fault.SFault.TheVariants as store
@@ -25,13 +25,13 @@ raised_after-append : (raised : Bool) (one two : List Event) → raised_after ra
 raised_after-append raised [] two = refl
 raised_after-append raised (e ∷ one) two = raised_after-append (raised_by raised e) one two
 
-calls_of-append : (raised : Bool) (one two : List Event) → calls_of raised (one ++ two) ≡ calls_of raised one + calls_of (raised_after raised one) two
+calls_of-append : (raised : Bool) (one two : List Event) → all_calls raised (one ++ two) ≡ all_calls raised one + all_calls (raised_after raised one) two
 calls_of-append raised [] two = omega arith
 calls_of-append raised (e ∷ one) two = omega (arith, calls_of-append (raised_by raised e) one two)
 
 -- after the first ones it is raised or not as they leave it
-calls_after : (was is : Bool) (one two : List Event) → is ≡ raised_after was one → calls_of was (one ++ two) ≡ calls_of was one + calls_of is two
-calls_after was is one two after = let Calls : Bool → Type 0 = λ b. calls_of was (one ++ two) ≡ calls_of was one + calls_of b two in subst Calls (sym after) (calls_of-append was one two)
+calls_after : (was is : Bool) (one two : List Event) → is ≡ raised_after was one → all_calls was (one ++ two) ≡ all_calls was one + all_calls is two
+calls_after was is one two after = let Calls : Bool → Type 0 = λ b. all_calls was (one ++ two) ≡ all_calls was one + all_calls b two in subst Calls (sym after) (calls_of-append was one two)
 
 -- ---- contents
 
@@ -177,7 +177,7 @@ module _ {D : Type 0} (disk : DiskOf D)
         lost = known second.event second.lost;
         few =
             let both = calls_after was mid_is grown.more (longer.more ++ last) calls.raised in
-            let Few : List Event → Type 0 = λ l. disk.calls new ≤ disk.calls old + calls_of was l in
+            let Few : List Event → Type 0 = λ l. disk.calls new ≤ disk.calls old + all_calls was l in
             let all : Few (grown.more ++ (longer.more ++ last)) = omega (arith, both, calls.few, second.few) in
             subst Few (sym (append_assoc grown.more longer.more last)) all;
         now = λ bytes told. let f = first bytes told in second.now f.now.bytes f.now.tells;

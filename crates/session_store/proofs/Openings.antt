@@ -1,5 +1,5 @@
 -- No bytes open in two ways.
-use Rattle.session_store.proofs.Prelude.{◌≡◌, ◌∙◌, ℕ, List, Some, None, Result, Ok, Err, refl, sym, ap, subst, JFault, Reading, ReadsAs, NoSession, NotAJournal, TooManyRecords, Damaged, Event, Plan, Language, State, At, Stray, IsVocabulary, refusal_of_vocabulary, VocFault, SaysSession, Opened, opened_as, Holds, OpensOnce, RefusesOpening, JournalNotOpened, replay, SFault}
+use Rattle.session_store.proofs.Prelude.{◌≡◌, ◌∙◌, ℕ, List, Some, None, Result, Ok, Err, refl, sym, ap, subst, JFault, Reading, ReadsAs, NoSession, NotAJournal, TooManyRecords, Damaged, Event, Plan, Language, State, At, Stray, IsVocabulary, refusal_of_vocabulary, VocFault, SaysSession, Opened, opened_as, SaysOpened, OpensOnce, RefusesOpening, JournalNotOpened, replay, SFault}
 use Rattle.answer_journal.specs.declared.fault.JFault.TheVariants as journal
 use Rattle.answer_journal.specs.Journal.{Session}
 use Rattle.answer_journal.specs.Unique.{spells_once}
@@ -50,7 +50,7 @@ same_journal once bytes f n why other =
 
 -- ---- its session
 
-taken_refused : (voc : List ℕ) (f : VocFault) → refusal_of_vocabulary voc ≡ None → refusal_of_vocabulary voc ≡ Some f → ⊥
+pub taken_refused : (voc : List ℕ) (f : VocFault) → refusal_of_vocabulary voc ≡ None → refusal_of_vocabulary voc ≡ Some f → ⊥
 taken_refused voc f a b = let bad : None ≡ Some f = sym a ∙ b in cc
 
 taken_as : (bytes : List ℕ) (p q : Plan) (v w : List ℕ) (es fs : List Event) (f : VocFault) → SaysSession bytes p v es → SaysSession bytes q w fs → refusal_of_vocabulary v ≡ None → refusal_of_vocabulary w ≡ Some f → ⊥
@@ -77,7 +77,7 @@ replay_is bytes p q v w es fs l m one two read again =
     λ i. replay (lang i) (same.0 i) (same.2 i)
 
 -- two readings are one
-pub same_session : (bytes : List ℕ) (a b : Opened) → Holds bytes a → Holds bytes b → a ≡ b
+pub same_session : (bytes : List ℕ) (a b : Opened) → SaysOpened bytes a → SaysOpened bytes b → a ≡ b
 same_session bytes a b one two =
     let same = spells_once bytes a.plan a.voc a.events b.plan b.voc b.events one.says.1 two.says.1 in
     let lang = lang_is bytes a.plan b.plan a.voc b.voc a.events b.events a.lang b.lang one.says two.says one.session.read two.session.read in
@@ -86,7 +86,7 @@ same_session bytes a b one two =
 -- ---- one way
 
 -- bytes that are refused hold no session
-pub holds_none : ReadOnce → (bytes : List ℕ) (f : SFault) (o : Opened) → RefusesOpening bytes f → Holds bytes o → ⊥
+pub holds_none : ReadOnce → (bytes : List ℕ) (f : SFault) (o : Opened) → RefusesOpening bytes f → SaysOpened bytes o → ⊥
 holds_none once bytes (store.Journal f) o why h = says_none once bytes f o.plan o.voc o.events why h.says
 holds_none once bytes (store.Voc f) o why h = let w = why.1 in taken_as bytes o.plan w.plan o.voc w.voc o.events w.events f h.says w.reads (not_refused o.voc o.lang h.session.read) w.refused
 holds_none once bytes (store.Stray i) o why h =

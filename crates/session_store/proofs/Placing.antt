@@ -1,5 +1,5 @@
 -- Events that are added have places.
-use Rattle.session_store.proofs.Prelude.{◌≡◌, ◌⊎◌, ℕ, ◌-◌, ◌<◌, ◌≤◌, Bool, true, false, ◌&&◌, ◌||◌, nat_le, List, [], ◌∷◌, ◌++◌, length, get_or, drop, replicate, Option, Some, None, refl, sym, ◌∙◌, ap, subst, inl, inr, arith, is_some, cases_lt, append-nil, append_assoc, get_or-replicate, get_or-append_right, get_or_past, length-replicate, take-append-drop, Assignment, value_of, widened, Answer, standing, Event, Plan, take-widened, standing-back, Language, variable_count, standing_on, State, Idle, Halving, Choosing, Walking, Over, At, Stray, then_on, step, questions_have_places, IsAskedAfter, IsAskedIn, answer_event, Recorded, recorded, empty_back, is_past, seen, all_seen, answer_to, step_of, replay_on, IsStrayIn, HavePlaces}
+use Rattle.session_store.proofs.Prelude.{◌≡◌, ◌⊎◌, ℕ, ◌-◌, ◌<◌, ◌≤◌, Bool, true, false, ◌&&◌, ◌||◌, nat_le, List, [], ◌∷◌, ◌++◌, length, get_or, drop, replicate, Option, Some, None, refl, sym, ◌∙◌, ap, subst, inl, inr, arith, is_some, cases_lt, append-nil, append_assoc, get_or-replicate, get_or-append_right, get_or_past, length-replicate, take-append-drop, Assignment, value_of, widened, Answer, standing, Event, Plan, take-widened, standing-back, Language, variable_count, standing_on, State, Idle, Halving, Choosing, Walking, Over, At, Stray, lead_on, step, questions_have_places, IsAskedAfter, IsAskedIn, answer_event, Recorded, recorded, empty_back, is_past, seen, all_seen, answer_to, answer_step, replay_on, IsStrayIn, HavePlaces}
 use Rattle.std.specs.List.{list_any}
 use Rattle.std.proofs.lemmas.Bool.Decides.{nat_tests}
 use Rattle.assign.specs.Sets.{numbers}
@@ -46,23 +46,23 @@ unfolding replay_on
 none_placed l plan = (Idle [] None, refl)
 
 one_more : (l : Language) (plan : Plan) (past : List Recorded) (before : List Answer) (a : Recorded) (start state next : State) → replay_on l plan before start past ≡ At state →
-    step_of l plan (before ++ all_seen (variable_count l) past) a.answer state ≡ Some next → replay_on l plan before start (past ++ a ∷ []) ≡ At next
+    answer_step l plan (before ++ all_seen (variable_count l) past) a.answer state ≡ Some next → replay_on l plan before start (past ++ a ∷ []) ≡ At next
 unfolding replay_on
 one_more l plan [] before a start state next h s =
     let same : start ≡ state = cc in
-    ap (λ o. then_on a.number o At) ((λ i. step_of l plan (sym (append-nil before) i) a.answer (same i)) ∙ s)
+    ap (λ o. lead_on a.number o At) ((λ i. answer_step l plan (sym (append-nil before) i) a.answer (same i)) ∙ s)
 one_more l plan (b ∷ past) before a start state next h s =
-    go (step_of l plan before b.answer start) refl h
-    (λ middle rest. one_more l plan past (before ++ seen (variable_count l) b.answer ∷ []) a middle state next rest (ap (λ xs. step_of l plan xs a.answer state) (append_assoc before (seen (variable_count l) b.answer ∷ []) (all_seen (variable_count l) past)) ∙ s))
+    go (answer_step l plan before b.answer start) refl h
+    (λ middle rest. one_more l plan past (before ++ seen (variable_count l) b.answer ∷ []) a middle state next rest (ap (λ xs. answer_step l plan xs a.answer state) (append_assoc before (seen (variable_count l) b.answer ∷ []) (all_seen (variable_count l) past)) ∙ s))
   where
-    go : (o : Option State) → step_of l plan before b.answer start ≡ o →
-        then_on b.number o (λ middle. replay_on l plan (before ++ seen (variable_count l) b.answer ∷ []) middle past) ≡ At state →
+    go : (o : Option State) → answer_step l plan before b.answer start ≡ o →
+        lead_on b.number o (λ middle. replay_on l plan (before ++ seen (variable_count l) b.answer ∷ []) middle past) ≡ At state →
         ((middle : State) → replay_on l plan (before ++ seen (variable_count l) b.answer ∷ []) middle past ≡ At state →
         replay_on l plan (before ++ seen (variable_count l) b.answer ∷ []) middle (past ++ a ∷ []) ≡ At next) →
-        then_on b.number (step_of l plan before b.answer start) (λ middle. replay_on l plan (before ++ seen (variable_count l) b.answer ∷ []) middle (past ++ a ∷ [])) ≡ At next
+        lead_on b.number (answer_step l plan before b.answer start) (λ middle. replay_on l plan (before ++ seen (variable_count l) b.answer ∷ []) middle (past ++ a ∷ [])) ≡ At next
     go None is h rest = absurd (let no : ⊥ = cc in no)
     go (Some middle) is h rest =
-        ap (λ o. then_on b.number o (λ s. replay_on l plan (before ++ seen (variable_count l) b.answer ∷ []) s (past ++ a ∷ []))) is ∙ rest middle h
+        ap (λ o. lead_on b.number o (λ s. replay_on l plan (before ++ seen (variable_count l) b.answer ∷ []) s (past ++ a ∷ []))) is ∙ rest middle h
 
 -- the answer to the question that is asked has a place
 asked_steps : (l : Language) (plan : Plan) (t : List Answer) (q : Assignment) (reply : Bool) (state : State) → IsAskedIn l plan t q state → (next : State) × (step l plan t (answer_to q reply) state ≡ Some next)
@@ -81,8 +81,8 @@ answer_has_place l plan events q reply size (state, h) asked =
     let next = asked_steps l plan (standing_on l events) q reply state (subst Asked same asked.asked) in
     let on = recorded_from-append [] 1 events (answer_event q reply ∷ []) in
     let r : Recorded = record { answer = answer_to (widened q) reply; number = on.0 } in
-    let steps : step_of l plan (all_seen (variable_count l) (recorded events)) r.answer state ≡ Some next.0 =
-    ap (λ t. step_of l plan t r.answer state) (recorded_seen l events) ∙ step_within l plan (standing_on l events) r.answer state (none_past q (variable_count l) size)
+    let steps : answer_step l plan (all_seen (variable_count l) (recorded events)) r.answer state ≡ Some next.0 =
+    ap (λ t. answer_step l plan t r.answer state) (recorded_seen l events) ∙ step_within l plan (standing_on l events) r.answer state (none_past q (variable_count l) size)
     ∙ ap (λ x. step l plan (standing_on l events) (answer_to x reply) state) (take-widened q (variable_count l) size) ∙ next.1 in
     placed l plan (events ++ answer_event q reply ∷ []) (answers_find events (widened q) reply led.0)
     (next.0, ap (replay_on l plan [] (Idle [] None)) on.1 ∙ one_more l plan (recorded events) [] r (Idle [] None) state next.0 led.1 steps)

@@ -1,5 +1,5 @@
 -- The records of the answers that stand.
-use Rattle.session_store.proofs.Prelude.{◌≡◌, ℕ, true, false, ◌+◌, ◌-◌, ◌<◌, ◌≤◌, List, [], ◌∷◌, ◌++◌, length, map, get_or, take, drop, Option, Some, None, refl, sym, ◌∙◌, ap, arith, length-append, append_assoc, All, is_some, option_to_list, map-append, length-map, take-map, get_or-map, drop_all, take-append_seam, get_or-append_seam, All-nil, All-cons, All-append, All-take, All-get_or, Answer, without_last, standing_from, standing, cut_to, Event, Language, variable_count, standing_on, Recorded, recorded_from, recorded, empty_back_from, empty_back, seen, all_seen, standing_numbers, IsCounted, HoldsAnswer, RecordsAreAnswers, IsEmptyBack}
+use Rattle.session_store.proofs.Prelude.{◌≡◌, ℕ, true, false, ◌+◌, ◌-◌, ◌<◌, ◌≤◌, List, [], ◌∷◌, ◌++◌, length, map, get_or, take, drop, Option, Some, None, refl, sym, ◌∙◌, ap, arith, length-append, append_assoc, All, is_some, option_to_list, map-append, length-map, take-map, get_or-map, drop_all, take-append_seam, get_or-append_seam, All-nil, All-cons, All-append, All-take, All-get_or, Answer, without_last, standing_from, standing, cut_to, Event, Language, variable_count, standing_on, Recorded, recorded_from, recorded, empty_back_from, empty_back, seen, all_seen, standing_numbers, AreStandingNumbers, HoldsAnswer, RecordsAreAnswers, IsEmptyBack}
 use Rattle.assign.specs.declared.events.Event.TheVariants as variant
 use Rattle.session_store.proofs.Replaying.{drop_next}
 
@@ -175,10 +175,10 @@ empty_back_is events number e =
 
 -- ---- counting the records
 
-pub none_counted : (events : List Event) → IsCounted events 0 []
+pub none_counted : (events : List Event) → AreStandingNumbers events 0 []
 none_counted events = record { before = []; is = refl; stand = refl; backs = refl }
 
-pub answer_counted : (events : List Event) (i : ℕ) (numbers : List ℕ) (q : _) (y : _) (d : Event) → i < length events → get_or events i d ≡ variant.Answer q y → IsCounted events i numbers → IsCounted events (i + 1) (numbers ++ (i + 1) ∷ [])
+pub answer_counted : (events : List Event) (i : ℕ) (numbers : List ℕ) (q : _) (y : _) (d : Event) → i < length events → get_or events i d ≡ variant.Answer q y → AreStandingNumbers events i numbers → AreStandingNumbers events (i + 1) (numbers ++ (i + 1) ∷ [])
 answer_counted events i numbers q y d low at counted =
     let r : Recorded = record { answer = record { question = q; yes = y }; number = i + 1 } in
     let here : drop i events ≡ variant.Answer q y ∷ drop (i + 1) events = drop_next events i d low ∙ ap (λ (e : Event). e ∷ drop (i + 1) events) at in
@@ -189,7 +189,7 @@ answer_counted events i numbers q y d low at counted =
       backs = counted.backs ∙ ap (empty_back_from (map answer_of counted.before) (i + 1)) here ∙ ap (λ t. empty_back_from t (i + 1 + 1) (drop (i + 1) events)) (sym (map-append answer_of counted.before (r ∷ [])));
     }
 
-pub back_counted : (events : List Event) (i : ℕ) (numbers rest : List ℕ) (x : ℕ) (d : Event) → i < length events → get_or events i d ≡ variant.Back → numbers ≡ rest ++ x ∷ [] → IsCounted events i numbers → IsCounted events (i + 1) rest
+pub back_counted : (events : List Event) (i : ℕ) (numbers rest : List ℕ) (x : ℕ) (d : Event) → i < length events → get_or events i d ≡ variant.Back → numbers ≡ rest ++ x ∷ [] → AreStandingNumbers events i numbers → AreStandingNumbers events (i + 1) rest
 back_counted events i numbers rest x d low at popped counted =
     let here : drop i events ≡ variant.Back ∷ drop (i + 1) events = drop_next events i d low ∙ ap (λ (e : Event). e ∷ drop (i + 1) events) at in
     record {
@@ -211,7 +211,7 @@ back_counted events i numbers rest x d low at popped counted =
     finds [] some = absurd (some refl)
     finds (a ∷ before) some = ap (λ t. empty_back_from t (i + 1 + 1) (drop (i + 1) events)) (sym (shorter_map answer_of (a ∷ before)))
 
-pub back_is_empty : (events : List Event) (i : ℕ) (d : Event) → i < length events → get_or events i d ≡ variant.Back → IsCounted events i [] → empty_back events ≡ Some (i + 1)
+pub back_is_empty : (events : List Event) (i : ℕ) (d : Event) → i < length events → get_or events i d ≡ variant.Back → AreStandingNumbers events i [] → empty_back events ≡ Some (i + 1)
 back_is_empty events i d low at counted =
     let here : drop i events ≡ variant.Back ∷ drop (i + 1) events = drop_next events i d low ∙ ap (λ (e : Event). e ∷ drop (i + 1) events) at in
     counted.backs ∙ ap (empty_back_from (map answer_of counted.before) (i + 1)) here ∙ none_stand counted.before counted.is
@@ -220,7 +220,7 @@ back_is_empty events i d low at counted =
     none_stand [] is = refl
     none_stand (a ∷ before) is = absurd (let bad : 0 ≡ length (map number_of (a ∷ before)) = ap length is in let no : ⊥ = omega arith in no)
 
-pub all_counted : (events : List Event) (i : ℕ) (numbers : List ℕ) → length events ≤ i → IsCounted events i numbers → (numbers ≡ standing_numbers events) × (empty_back events ≡ None)
+pub all_counted : (events : List Event) (i : ℕ) (numbers : List ℕ) → length events ≤ i → AreStandingNumbers events i numbers → (numbers ≡ standing_numbers events) × (empty_back events ≡ None)
 all_counted events i numbers past counted =
     let end : drop i events ≡ [] = drop_all i events past in (
       counted.is ∙ ap (map number_of) (sym (counted.stand ∙ ap (recorded_from counted.before (i + 1)) end)),

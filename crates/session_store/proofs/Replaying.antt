@@ -1,8 +1,9 @@
 -- How a session is led through answers.
-use Rattle.session_store.proofs.Prelude.{◌≡◌, ℕ, suc, ◌+◌, ◌-◌, ◌<◌, ◌≤◌, Bool, true, false, cond, List, [], ◌∷◌, ◌++◌, length, get_or, take, drop, Option, Some, None, refl, sym, ◌∙◌, ap, subst, arith, length-append, length-take-le, drop_all, take_all, map-append, length-map, take-suc, drop-cons, Assignment, Answer, without_last, standing_from, standing, Event, Plan, Language, variable_count, standing_on, IfSome, IfNone, false_from_ne_true, is_same_assignment, State, Idle, Halving, Choosing, Walking, Over, At, Stray, then_on, step, state_after, read_on, open_question, is_just, if_passes, replied, begun, is_lawful, questions_have_places, kept, Session, Stands, IsAskedIn, knowledge_of, open_in, IsSettled, Recorded, is_past, seen, all_seen, answer_to, step_of, replay_on, IsMoved, IsAt, MovesTo, StaysAt, MovesBy, HasNoPlace, IsReplayed}
+use Rattle.session_store.proofs.Prelude.{◌≡◌, ℕ, suc, ◌+◌, ◌-◌, ◌<◌, ◌≤◌, Bool, true, false, cond, List, [], ◌∷◌, ◌++◌, length, get_or, take, drop, Option, Some, None, refl, sym, ◌∙◌, ap, subst, arith, length-append, length-take-le, drop_all, take_all, map-append, length-map, take-suc, drop-cons, Assignment, Answer, without_last, standing_from, standing, Event, Plan, Language, variable_count, standing_on, IfSome, IfNone, false_from_ne_true, is_same_assignment, State, Idle, Halving, Choosing, Walking, Over, At, Stray, lead_on, step, state_after, read_on, open_question, is_just, if_passes, replied, begun, is_lawful, questions_have_places, kept, Session, Stands, IsAskedIn, knowledge_of, open_in, IsSettled, Recorded, is_past, seen, all_seen, answer_to, answer_step, replay_on, IsMoved, IsSettledAt, MovesTo, StaysAt, MovesBy, HasNoPlace, IsReplayed}
 use Rattle.assign.specs.declared.events.Event.TheVariants as events
 use Rattle.session_laws.specs.Walk.{WalkEnd}
 use Rattle.session_laws.proofs.Folds.{same_assignment, one_answer_more}
+use Rattle.session_core.proofs.Moving.{state_nil}
 
 -- ---- the answers that stand
 
@@ -42,17 +43,17 @@ pub replay_end : (l : Language) (plan : Plan) (before : List Answer) (state : St
 unfolding replay_on
 replay_end l plan before state = refl
 
-pub replay_step : (l : Language) (plan : Plan) (before : List Answer) (state next : State) (a : Recorded) (more : List Recorded) → step_of l plan before a.answer state ≡ Some next →
+pub replay_step : (l : Language) (plan : Plan) (before : List Answer) (state next : State) (a : Recorded) (more : List Recorded) → answer_step l plan before a.answer state ≡ Some next →
     replay_on l plan before state (a ∷ more) ≡ replay_on l plan (before ++ seen (variable_count l) a.answer ∷ []) next more
 unfolding replay_on
 replay_step l plan before state next a more steps =
-    ap (λ (o : Option State). then_on a.number o (λ s. replay_on l plan (before ++ seen (variable_count l) a.answer ∷ []) s more)) steps
+    ap (λ (o : Option State). lead_on a.number o (λ s. replay_on l plan (before ++ seen (variable_count l) a.answer ∷ []) s more)) steps
 
-pub replay_stray : (l : Language) (plan : Plan) (before : List Answer) (state : State) (a : Recorded) (more : List Recorded) → step_of l plan before a.answer state ≡ None →
+pub replay_stray : (l : Language) (plan : Plan) (before : List Answer) (state : State) (a : Recorded) (more : List Recorded) → answer_step l plan before a.answer state ≡ None →
     replay_on l plan before state (a ∷ more) ≡ Stray a.number
 unfolding replay_on
 replay_stray l plan before state a more none =
-    ap (λ (o : Option State). then_on a.number o (λ s. replay_on l plan (before ++ seen (variable_count l) a.answer ∷ []) s more)) none
+    ap (λ (o : Option State). lead_on a.number o (λ s. replay_on l plan (before ++ seen (variable_count l) a.answer ∷ []) s more)) none
 
 pub drop_next : {X : Type 0} (all : List X) (i : ℕ) (d : X) → i < length all → drop i all ≡ get_or all i d ∷ drop (i + 1) all
 drop_next all i d low = let one : suc i ≡ i + 1 = omega arith in drop-cons all i d low ∙ ap (λ n. get_or all i d ∷ drop n all) one
@@ -61,10 +62,10 @@ drop_next all i d low = let one : suc i ≡ i + 1 = omega arith in drop-cons all
 
 -- what an answer without a value past the variables does
 pub step_within : (l : Language) (plan : Plan) (before : List Answer) (a : Answer) (state : State) → is_past (variable_count l) a.question ≡ false →
-    step_of l plan before a state ≡ step l plan before (seen (variable_count l) a) state
+    answer_step l plan before a state ≡ step l plan before (seen (variable_count l) a) state
 step_within l plan before a state within = ap (λ b. cond b None (step l plan before (seen (variable_count l) a) state)) within
 
-pub step_past : (l : Language) (plan : Plan) (before : List Answer) (a : Answer) (state : State) → is_past (variable_count l) a.question ≡ true → step_of l plan before a state ≡ None
+pub step_past : (l : Language) (plan : Plan) (before : List Answer) (a : Answer) (state : State) → is_past (variable_count l) a.question ≡ true → answer_step l plan before a state ≡ None
 step_past l plan before a state past = ap (λ b. cond b None (step l plan before (seen (variable_count l) a) state)) past
 
 pub some_map : {A : Type 0} (P Q : A → Type 0) (o : Option A) → ((x : A) → P x → Q x) → IfSome o P → IfSome o Q
@@ -169,23 +170,19 @@ moved_to l plan t a state next at steps same_lang same_plan stands settled =
 
 -- ---- many answers
 
-pub nothing_read : (l : Language) (plan : Plan) → state_after l plan [] ≡ At (Idle [] None)
-unfolding read_on
-nothing_read l plan = refl
-
 pub replay_none : (session : Session) (all : List Recorded) → Stands session [] → open_in session ≡ None → IsReplayed (knowledge_of session).lang (knowledge_of session).plan all 0 session
 replay_none session all stands idle = record {
   lang = refl;
   plan_is = refl;
   state = Idle [] None;
-  at = nothing_read (knowledge_of session).lang (knowledge_of session).plan;
+  at = state_nil (knowledge_of session).lang (knowledge_of session).plan;
   on = refl;
   stands = stands;
   settled = λ network end at. idle;
 }
 
 -- where a replay stands, as the session knows it
-at_here : (l : Language) (plan : Plan) (all : List Recorded) (i : ℕ) (s : Session) (inv : IsReplayed l plan all i s) → IsAt s (all_seen (variable_count l) (take i all)) inv.state
+at_here : (l : Language) (plan : Plan) (all : List Recorded) (i : ℕ) (s : Session) (inv : IsReplayed l plan all i s) → IsSettledAt s (all_seen (variable_count l) (take i all)) inv.state
 at_here l plan all i s inv =
     let t : List Answer = all_seen (variable_count l) (take i all) in
     let Settled : Language → Plan → Type 0 = λ m p. IsSettled m p t (open_in s) in
@@ -200,7 +197,7 @@ pub replay_more : (l : Language) (plan : Plan) (all : List Recorded) (i : ℕ) (
 replay_more l plan all i d s next low inv by =
     let a : Recorded = get_or all i d in
     let t : List Answer = all_seen (variable_count l) (take i all) in
-    let Moved : Language → Plan → Type 0 = λ m p. IsMoved m p t (seen (variable_count m) a.answer) (step_of m p t a.answer inv.state) next in
+    let Moved : Language → Plan → Type 0 = λ m p. IsMoved m p t (seen (variable_count m) a.answer) (answer_step m p t a.answer inv.state) next in
     let moved = both_same Moved (knowledge_of s).lang l (knowledge_of s).plan plan inv.lang inv.plan_is (by.moves t inv.state (at_here l plan all i s inv)) in
     let longer : all_seen (variable_count l) (take (i + 1) all) ≡ t ++ seen (variable_count l) a.answer ∷ [] = seen_next (variable_count l) all i d low in
     let Settled : List Answer → Type 0 = λ x. IsSettled l plan x (open_in next) in
@@ -220,7 +217,7 @@ pub replay_strays : (l : Language) (plan : Plan) (all : List Recorded) (i : ℕ)
 replay_strays l plan all i d s low inv none =
     let a : Recorded = get_or all i d in
     let t : List Answer = all_seen (variable_count l) (take i all) in
-    let Stays : Language → Plan → Type 0 = λ m p. step_of m p t a.answer inv.state ≡ None in
+    let Stays : Language → Plan → Type 0 = λ m p. answer_step m p t a.answer inv.state ≡ None in
     let stays = both_same Stays (knowledge_of s).lang l (knowledge_of s).plan plan inv.lang inv.plan_is (none.none t inv.state (at_here l plan all i s inv)) in
     inv.on ∙ ap (λ xs. replay_on l plan t inv.state xs) (drop_next all i d low) ∙ replay_stray l plan t inv.state a (drop (i + 1) all) stays
 

@@ -1,5 +1,5 @@
 -- A store beside its disk.
-use Rattle.session_store.proofs.Prelude.{◌≡◌, ◌<◌, ◌⊎◌, ℕ, Bool, length, List, [], ◌∷◌, ◌++◌, Option, Some, None, Result, Ok, Err, IfErr, IsTrue, refl, sym, ◌∙◌, ap, subst, inl, inr, ForNone, ForSome, Event, Plan, Only, IsOnDisk, LeavesBehind, none_done, behind_as, nothing_behind, End, IsInPlace, Sits, HasNew, IsOldOrNew, IsSame, StartsWith, CreateRefused, JFault, Language, Session, Stray, IsVocabulary, refusal_of_vocabulary, VocFault, of_journal, ◌≤◌, All, true, IsErr, IsErrAnd, IsErrOf, IsFalse, OnOk, on_ok_weaker, DiskOf, lang_in, plan_in, StandsIn, events_held, IsHeld, IsWide, NoLanguage, NotLed, NotMade, NotOpened, replay, HavePlaces, NamesStray, SFault, SaysSession, OpensWith, OpensWithOrWithout, IsNotKept, LeavesEvent, calls_for, raised_by, IsThere, SitsOn, plan_of, voc_of, events_of, opens_there}
+use Rattle.session_store.proofs.Prelude.{◌≡◌, ◌<◌, ◌⊎◌, ℕ, Bool, length, List, [], ◌∷◌, ◌++◌, Option, Some, None, Result, Ok, Err, IfErr, IsTrue, refl, sym, ◌∙◌, ap, subst, inl, inr, ForNone, ForSome, Event, Plan, Only, IsOnDisk, LeavesBehind, none_done, behind_as, nothing_behind, End, IsInPlace, Sits, HasNew, IsOldOrNew, IsSame, StartsWith, CreateRefused, JFault, Language, Session, Stray, IsVocabulary, refusal_of_vocabulary, VocFault, of_journal, ◌≤◌, All, true, IsErr, IsErrAnd, IsErrOf, IsFalse, OnOk, on_ok_weaker, DiskOf, lang_in, plan_in, StandsIn, events_held, IsHeld, IsWide, NoLanguage, NotLed, NotMade, NotOpened, replay, HavePlaces, NamesStray, SFault, SaysSession, OpensWith, OpensWithOrWithout, IsNotKept, LeavesEvent, calls_for, raised_by, IsThere, SitsOn, plan_of, voc_of, events_of, opens_there, same_Some}
 use Rattle.answer_journal.specs.Found.{Refused}
 use Rattle.answer_journal.specs.declared.fault.JFault.TheVariants as journal
 use Rattle.session_store.specs.declared.fault.SFault.TheVariants as store
@@ -87,9 +87,6 @@ pub told_before : (old new : Option (List ℕ)) → ForNone old (new ≡ None) �
 told_before None new silent bytes told = absurd (let bad : Some bytes ≡ None = sym told ∙ silent refl in cc)
 told_before (Some b) new silent bytes told = (b, refl)
 
-pub some_once : (o : Option (List ℕ)) (a b : List ℕ) → o ≡ Some a → o ≡ Some b → a ≡ b
-some_once o a b e f = cc
-
 -- a session that wasn't moved
 pub held_as : (old new : Held) → old.session ≡ new.session → events_held old ≡ events_held new → IsHeld old → IsHeld new
 held_as old new session events held =
@@ -107,7 +104,7 @@ held_as old new session events held =
 pub there_made : {D : Type 0} (disk : DiskOf D) (new : D) (place : End) (plan asked : Plan) (voc given : List ℕ) (events : List Event) (bytes : List ℕ) → disk.content new ≡ Some bytes → asked ≡ plan → given ≡ voc → events ≡ [] →
     Sits place bytes → Only bytes (disk.may_leave new) → IsOnDisk disk new (StartsWith asked given) → IsThere place plan voc events (disk.may_leave new) bytes
 there_made disk new place plan asked voc given events bytes told planned same none sits only settled =
-    let here : settled.now ≡ bytes = some_once (disk.content new) settled.now bytes settled.tells told in
+    let here : settled.now ≡ bytes = same_Some settled.now bytes (sym settled.tells ∙ told) in
     let A : Plan → Type 0 = λ p. OpensWith p given [] bytes in
     let B : List ℕ → Type 0 = λ v. OpensWith plan v [] bytes in
     let C : List Event → Type 0 = λ e. OpensWith plan voc e bytes in

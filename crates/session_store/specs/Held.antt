@@ -21,9 +21,9 @@ abbrev pub plan_in : Option Session → Plan
 plan_in None = Scopes
 plan_in (Some session) = (knowledge_of session).plan
 
-abbrev pub question_in : Option Session → Option Assignment
-question_in None = None
-question_in (Some session) = open_in session
+abbrev pub asked_of_session : Option Session → Option Assignment
+asked_of_session None = None
+asked_of_session (Some session) = open_in session
 
 -- the session is there, and stands where the events lead
 abbrev pub StandsIn : Option Session → List Event → Type 0
@@ -37,7 +37,7 @@ abbrev pub plan_held : Held → Plan
 plan_held held = plan_in held.session
 
 abbrev pub question_held : Held → Option Assignment
-question_held held = question_in held.session
+question_held held = asked_of_session held.session
 
 abbrev pub events_held : Held → List Event
 events_held held = held.events.items

@@ -54,9 +54,9 @@ calls_for raised (variant.Answer question said) = 4
 calls_for raised variant.Back = 4 + calls_to_raise raised
 
 -- and all of these: four for each, and four once where the first take-back has to raise it
-abbrev pub calls_of : Bool → List Event → ℕ
-calls_of raised [] = 0
-calls_of raised (e ∷ events) = calls_for raised e + calls_of (raised_by raised e) events
+abbrev pub all_calls : Bool → List Event → ℕ
+all_calls raised [] = 0
+all_calls raised (e ∷ events) = calls_for raised e + all_calls (raised_by raised e) events
 
 -- What no call changes.
 pub record HasSameTerms {K : Type 0} (lang : K → Language) (plan : K → Plan) (voc : K → List ℕ) (writes : K → Bool) (old new : K) : Type 0 where
@@ -93,7 +93,7 @@ module _ {D : Type 0} (disk : DiskOf D) where
   -- No more calls were made than these events take, which were added, and the journal is raised or not as they leave it.
   pub record AreEventCalls (was_raised is_raised : Bool) (added : List Event) (old new : D) : Type 0 where
     pub raised : is_raised ≡ raised_after was_raised added
-    pub few : disk.calls new ≤ disk.calls old + calls_of was_raised added
+    pub few : disk.calls new ≤ disk.calls old + all_calls was_raised added
 
   -- These events were added, and then the disk failed while one more was, of which this is known: that of an answer to the question
   -- that is put, or a take-back. No more calls were made than they take with it. Where the disk told what it held, a crash leaves
@@ -102,6 +102,6 @@ module _ {D : Type 0} (disk : DiskOf D) where
     pub event : Event
     pub tried : IsTried put event
     pub lost : is_lost event
-    pub few : disk.calls new ≤ disk.calls old + calls_of was_raised (added ++ event ∷ [])
+    pub few : disk.calls new ≤ disk.calls old + all_calls was_raised (added ++ event ∷ [])
     pub now : ForSome (disk.content old) (λ _. (c : List ℕ) → disk.may_leave new c → OpensWithOrWithout plan voc after event c)
     pub any_moment : ForSome (disk.content old) (λ _. LeavesOnly disk old new (OpensWithin plan voc before (after ++ event ∷ [])))

@@ -7,7 +7,7 @@ use Rattle.assign.specs.declared.events.Plan.{Plan}
 use Rattle.language.specs.Language.{Language, variable_count}
 use Rattle.language.specs.Answers.{standing_on}
 use Rattle.session_laws.specs.Session.{State, Idle, At, Stray, state_after}
-use Rattle.session_store.specs.Replay.{Recorded, recorded, empty_back, all_seen, step_of, replay_on, replay, HavePlaces}
+use Rattle.session_store.specs.Replay.{Recorded, recorded, empty_back, all_seen, answer_step, replay_on, replay, HavePlaces}
 
 -- The record of this number holds the answer.
 pub record HoldsAnswer (events : List Event) (a : Recorded) : Type 0 where
@@ -54,7 +54,7 @@ pub record IsFirstStray (l : Language) (plan : Plan) (events : List Event) (numb
   pub count : number ≡ stray.number
   pub state : State
   pub leads : replay_on l plan [] (Idle [] None) front ≡ At state
-  pub none : step_of l plan (all_seen (variable_count l) front) stray.answer state ≡ None
+  pub none : answer_step l plan (all_seen (variable_count l) front) stray.answer state ≡ None
 
 -- the record that a replay names is the first take-back at which no answer stands, or else the first of those that stand that has no place
 abbrev pub StrayIsFirst : Type 0

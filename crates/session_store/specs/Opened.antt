@@ -28,7 +28,7 @@ pub record IsSession (o : Opened) : Type 0 where
   pub places : HavePlaces o.lang o.plan o.events
 
 -- the bytes say it
-pub record Holds (bytes : List ℕ) (o : Opened) : Type 0 where
+pub record SaysOpened (bytes : List ℕ) (o : Opened) : Type 0 where
   pub says : SaysSession bytes o.plan o.voc o.events
   pub session : IsSession o
 
@@ -52,7 +52,7 @@ RefusesOpening bytes fault = (is_of_bytes fault ≡ true) × NotOpened bytes fau
 
 -- the bytes open with this session, or are refused for this reason
 abbrev pub Opens : List ℕ → Result Opened SFault → Type 0
-Opens bytes (Ok o) = Holds bytes o
+Opens bytes (Ok o) = SaysOpened bytes o
 Opens bytes (Err fault) = RefusesOpening bytes fault
 
 -- no bytes open in two ways

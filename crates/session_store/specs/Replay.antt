@@ -8,7 +8,7 @@ use Rattle.assign.specs.declared.events.Event.{Event}
 use Rattle.assign.specs.declared.events.Event.TheVariants as variant
 use Rattle.assign.specs.declared.events.Plan.{Plan}
 use Rattle.language.specs.Language.{Language, variable_count}
-use Rattle.session_laws.specs.Session.{State, Idle, Reading, At, Stray, then_on, step, state_after}
+use Rattle.session_laws.specs.Session.{State, Idle, Course, At, Stray, lead_on, step, state_after}
 use Rattle.session_core.specs.declared.session.Session.{Session}
 use Rattle.session_core.specs.Standing.{Stands, knowledge_of, open_in}
 use Rattle.session_core.specs.Settled.{IsSettled}
@@ -53,21 +53,21 @@ abbrev pub seen : ℕ → Answer → Answer
 seen n a = record { question = take n a.question; yes = a.yes }
 
 -- One answer more: its question is the open one, or lawful where none is open, and has no value past the variables.
-abbrev pub step_of : Language → Plan → List Answer → Answer → State → Option State
-step_of l plan before a state = if is_past (variable_count l) a.question then None else step l plan before (seen (variable_count l) a) state
+abbrev pub answer_step : Language → Plan → List Answer → Answer → State → Option State
+answer_step l plan before a state = if is_past (variable_count l) a.question then None else step l plan before (seen (variable_count l) a) state
 
-unfoldable pub replay_on : Language → Plan → List Answer → State → List Recorded → Reading
+unfoldable pub replay_on : Language → Plan → List Answer → State → List Recorded → Course
 replay_on l plan before state [] = At state
 replay_on l plan before state (a ∷ more) =
-    then_on a.number (step_of l plan before a.answer state) (λ next. replay_on l plan (before ++ seen (variable_count l) a.answer ∷ []) next more)
+    lead_on a.number (answer_step l plan before a.answer state) (λ next. replay_on l plan (before ++ seen (variable_count l) a.answer ∷ []) next more)
 
 -- a take-back at which no answer stands is told before all else
-abbrev pub unless_empty : Option ℕ → Reading → Reading
+abbrev pub unless_empty : Option ℕ → Course → Course
 unless_empty None reading = reading
 unless_empty (Some number) reading = Stray number
 
 -- Where the answers that stand lead, or the number of the first record that has no place. An answer that was taken back isn't replayed.
-abbrev pub replay : Language → Plan → List Event → Reading
+abbrev pub replay : Language → Plan → List Event → Course
 replay l plan events = unless_empty (empty_back events) (replay_on l plan [] (Idle [] None) (recorded events))
 
 -- the answers that stand have places; so too the number of the first record whose answer has none
@@ -120,7 +120,7 @@ pub record IsMoved (l : Language) (plan : Plan) (t : List Answer) (a : Answer) (
   pub settled : IsSettled l plan (t ++ a ∷ []) (open_in next)
 
 -- the session stands where these answers lead, which is this state, and has no new question
-pub record IsAt (session : Session) (t : List Answer) (state : State) : Type 0 where
+pub record IsSettledAt (session : Session) (t : List Answer) (state : State) : Type 0 where
   pub stands : Stands session t
   pub settled : IsSettled (knowledge_of session).lang (knowledge_of session).plan t (open_in session)
   pub at : state_after (knowledge_of session).lang (knowledge_of session).plan t ≡ At state
@@ -129,24 +129,24 @@ pub record IsAt (session : Session) (t : List Answer) (state : State) : Type 0 w
 pub record MovesTo (session : Session) (q : Assignment) (reply : Bool) (next : Session) : Type 0 where
   pub lang : (knowledge_of next).lang ≡ (knowledge_of session).lang
   pub plan : (knowledge_of next).plan ≡ (knowledge_of session).plan
-  pub moves : (t : List Answer) (state : State) → IsAt session t state →
+  pub moves : (t : List Answer) (state : State) → IsSettledAt session t state →
       IsMoved (knowledge_of session).lang (knowledge_of session).plan t (answer_to q reply) (step (knowledge_of session).lang (knowledge_of session).plan t (answer_to q reply) state) next
 
 -- a session isn't
 pub record StaysAt (session : Session) (q : Assignment) (reply : Bool) : Type 0 where
-  pub none : (t : List Answer) (state : State) → IsAt session t state → step (knowledge_of session).lang (knowledge_of session).plan t (answer_to q reply) state ≡ None
+  pub none : (t : List Answer) (state : State) → IsSettledAt session t state → step (knowledge_of session).lang (knowledge_of session).plan t (answer_to q reply) state ≡ None
 
 -- A session is moved by an answer whose question may have values past the variables.
 pub record MovesBy (session : Session) (a : Answer) (next : Session) : Type 0 where
   pub lang : (knowledge_of next).lang ≡ (knowledge_of session).lang
   pub plan : (knowledge_of next).plan ≡ (knowledge_of session).plan
-  pub moves : (t : List Answer) (state : State) → IsAt session t state →
+  pub moves : (t : List Answer) (state : State) → IsSettledAt session t state →
       IsMoved (knowledge_of session).lang (knowledge_of session).plan t (seen (variable_count (knowledge_of session).lang) a)
-      (step_of (knowledge_of session).lang (knowledge_of session).plan t a state) next
+      (answer_step (knowledge_of session).lang (knowledge_of session).plan t a state) next
 
 -- a session isn't
 pub record HasNoPlace (session : Session) (a : Answer) : Type 0 where
-  pub none : (t : List Answer) (state : State) → IsAt session t state → step_of (knowledge_of session).lang (knowledge_of session).plan t a state ≡ None
+  pub none : (t : List Answer) (state : State) → IsSettledAt session t state → answer_step (knowledge_of session).lang (knowledge_of session).plan t a state ≡ None
 
 -- ---- many answers, and a session
 
@@ -171,7 +171,7 @@ abbrev pub standing_numbers : List Event → List ℕ
 standing_numbers events = map (λ (a : Recorded). a.number) (recorded events)
 
 -- These are the numbers of those that stand after the first i events.
-pub record IsCounted (events : List Event) (i : ℕ) (numbers : List ℕ) : Type 0 where
+pub record AreStandingNumbers (events : List Event) (i : ℕ) (numbers : List ℕ) : Type 0 where
   pub before : List Recorded
   pub is : numbers ≡ map (λ (a : Recorded). a.number) before
   pub stand : recorded events ≡ recorded_from before (i + 1) (drop i events)

@@ -1,9 +1,11 @@
 -- What was read: where a byte stands, digits, and a value or the fault where there is none.
-use Rattle.std.proofs.Common.{◌≡◌, ℕ, ◌+◌, ◌*◌, ◌<◌, ◌≤◌, true, cond, List, [], ◌∷◌, length, Bool, Option, Some, None, Result, Ok, Err, refl, sym, ◌∙◌, ap, arith, ltb, ◌⊎◌, inl, inr, is_some, unwrap_or}
+use Rattle.std.proofs.Common.{◌≡◌, ℕ, ◌+◌, ◌*◌, ◌<◌, ◌≤◌, true, false, cond, List, [], ◌∷◌, length, Bool, Option, Some, None, Result, Ok, Err, refl, sym, ◌∙◌, ap, arith, ltb, ◌⊎◌, inl, inr, is_some, unwrap_or}
 use Rattle.std.specs.Prelude.{ok_or, position}
 use Rattle.std.specs.Char.{digit_value, is_digit}
 use Rattle.std.specs.List.{list_all, position_or_len}
 use Rattle.std.specs.Str.Parse.{AllDigits, digits_value_after}
+use Rattle.std.specs.Option.{option_map, option_or}
+use Rattle.std.specs.Result.{IfOk, IsErrAnd}
 use Rattle.std.proofs.lemmas.Bool.{and_from, cases_lt, lt-ltb, ltb-true}
 use Rattle.std.proofs.lemmas.Option.{none-some, cond_some}
 
@@ -44,3 +46,22 @@ or_value (Some y) fault x h = cc
 pub or_fault : {A F : Type 0} (o : Option A) (fault said : F) → ◌≡◌ {A = Result A F} (Err said) (ok_or o fault) → (o ≡ None) × (said ≡ fault)
 or_fault None fault said h = (refl, cc)
 or_fault (Some y) fault said h = absurd cc
+
+-- ---- where there is nothing
+
+pub or_none : {X : Type 0} (a b : Option X) → option_or a b ≡ None → (a ≡ None) × (b ≡ None)
+or_none None b h = (refl, h)
+or_none (Some x) b h = absurd (none-some x (sym h))
+
+pub map_none : {X Y : Type 0} (f : X → Y) (a : Option X) → option_map f a ≡ None → a ≡ None
+map_none f None h = refl
+map_none f (Some x) h = absurd (none-some (f x) (sym h))
+
+pub cond_none : {X : Type 0} (b : Bool) (x : X) → cond b (Some x) None ≡ None → b ≡ false
+cond_none true x h = absurd (none-some x (sym h))
+cond_none false x h = refl
+
+-- what is said of a value holds where there is a fault
+pub none_given : {T E : Type 0} (P : T → Type 0) (Q : E → Type 0) (r : Result T E) → IsErrAnd r Q → IfOk r P
+none_given P Q (Ok x) failed = absurd failed
+none_given P Q (Err e) failed = tt

@@ -128,18 +128,6 @@ nothing_on (c ∷ list) s low =
     let rest : has_scope list s ≡ false = nothing_on list s (All-tail (λ (c : Candidate). c.scope < s) c list low) in
     (λ i. here i || rest i)
 
--- ---- a relation that there isn't
-
-pub none_satisfied : (l : Language) (c : Candidate) (e : Assignment) → length (relations_on l c.scope) ≤ c.rel → satisfies l c e ≡ false
-none_satisfied l c e past =
-    ap (λ r. covers e (scope_of l c) && holds l.value_count r (tuple_on e (scope_of l c))) (get_or-eq_default (relations_on l c.scope) [] {n = c.rel} past)
-    ∙ go (covers e (scope_of l c)) (place l.value_count (tuple_on e (scope_of l c)))
-  where
-    go : (b : Bool) (at : ℕ) → (b && get_or [] at false) ≡ false
-    go true zero = refl
-    go true (suc at) = refl
-    go false at = refl
-
 -- ---- one name more
 
 pub name_more : (v : ℕ) (items new : List (String Global)) (text : String Global) → new ≡ items ++ text ∷ [] → string_bytes text ≡ name_of v → map string_bytes items ≡ map name_of (numbers v) →

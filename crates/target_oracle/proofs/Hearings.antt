@@ -1,37 +1,15 @@
 -- What was heard of lines, and what was written meanwhile.
-use Rattle.target_oracle.proofs.Prelude.{◌≡◌, ℕ, zero, suc, ◌+◌, List, [], ◌++◌, true, false, ap, sym, subst, ◌∙◌, refl, arith, append_assoc, Option, Some, None, IfSome, option_map, Adds, AddsFront, adds_none, adds_then, Spoken, spoken, spoken_in, line_reply, no_answer_text, replied, hear_line, hear, told_of, Speaks, Hears, HearsLine, CutsOff, Passes, TellsOf, PassedBy, Told, Yes, No, Back, Stop, End, TooLong, Unreadable, ReadFault, WriteFault, Memory}
+use Rattle.target_oracle.proofs.Prelude.{◌≡◌, ℕ, zero, suc, ◌+◌, List, [], ◌++◌, true, false, ap, sym, subst, ◌∙◌, refl, arith, append_assoc, Option, Some, None, IfSome, option_map, Adds, AddsFront, adds_none, adds_then, Spoken, spoken, spoken_in, line_reply, no_answer_text, turned_by, hear_line, hear, told_of, Speaks, Hears, HearsLine, CutsOff, Passes, TellsOf, PassedBy, Told, Yes, No, Back, Stop, End, TooLong, Unreadable, ReadFault, WriteFault, Memory}
 use Rattle.acq_io.specs.Lines.{Lined, lined, line_of}
 use Rattle.acq_io.specs.declared.lines.LineGot.{LineGot}
 use Rattle.target_oracle.specs.Turns.{Turned, turned_after, Reply, Said, TakenBack, Stopped, Ended, Overlong, Unread}
-use Rattle.target_oracle.specs.Tells.{Turn, Tells}
+use Rattle.target_oracle.specs.Tells.{IsTurnOf, Tells}
 use Rattle.target_oracle.proofs.Fronts.{front_longer, front_none, front_then}
 
 some_text : (x y : List ℕ) → x ≡ y → (let a : Option (List ℕ) = Some x in a) ≡ Some y
 some_text x y e = ap (λ (t : List ℕ). let a : Option (List ℕ) = Some t in a) e
 
 -- ---- one line
-
--- what was read of a line is what it says
-pub spoken_as : (k : ℕ) (got : LineGot) (line : List ℕ) (before now : Option (List ℕ)) → option_map line_of before ≡ option_map (lined got line) now → Speaks k before now (line_reply k got line)
-spoken_as k got line None None h = refl
-spoken_as k got line None (Some rest) h = cc
-spoken_as k got line (Some bytes) None h = cc
-spoken_as k got line (Some bytes) (Some rest) h =
-    let e : line_of bytes ≡ lined got line rest = cc in ap (λ (x : Lined). let s : Option Spoken = Some (spoken_in k x) in s) e
-
--- and it is told
-told_one : (k : ℕ) (before now : Option (List ℕ)) (reply : Reply) → Speaks k before now (Some reply) → Hears k before now (told_of reply)
-told_one k before now (Said true) h = h
-told_one k before now (Said false) h = h
-told_one k before now TakenBack h = h
-told_one k before now Stopped h = h
-told_one k before now Ended h = h
-told_one k before now Overlong h = h
-told_one k before now Unread h = h
-
-pub told_line : (k : ℕ) (before now : Option (List ℕ)) (says : Option Reply) → Speaks k before now says → HearsLine k before now (option_map told_of says)
-told_line k before now None h = h
-told_line k before now (Some reply) h = told_one k before now reply h
 
 spoken_so : (k : ℕ) (bytes : List ℕ) (now : Option (List ℕ)) (says : Option Reply) → Speaks k (Some bytes) now says → ((spoken k bytes).says ≡ says) × (now ≡ Some (spoken k bytes).rest)
 spoken_so k bytes None says h = cc
@@ -41,19 +19,19 @@ spoken_so k bytes (Some rest) says h =
 
 -- ---- a line that replies
 
-hear_reply : (k : ℕ) (patience : ℕ) (bytes : List ℕ) (reply : Reply) → (spoken k bytes).says ≡ Some reply → hear k patience bytes ≡ replied reply (spoken k bytes).rest
+hear_reply : (k : ℕ) (patience : ℕ) (bytes : List ℕ) (reply : Reply) → (spoken k bytes).says ≡ Some reply → hear k patience bytes ≡ turned_by reply (spoken k bytes).rest
 unfolding hear
-hear_reply k zero bytes reply h = ap (hear_line (replied Unread) (spoken k bytes).rest) h
+hear_reply k zero bytes reply h = ap (hear_line (turned_by Unread) (spoken k bytes).rest) h
 hear_reply k (suc patience) bytes reply h = ap (hear_line (λ rest. turned_after no_answer_text (hear k patience rest)) (spoken k bytes).rest) h
 
-turn_as : (turned : Turned) (reply : Reply) (rest : List ℕ) (now written : Option (List ℕ)) → turned ≡ replied reply rest → now ≡ Some rest → Turn turned written now written reply
+turn_as : (turned : Turned) (reply : Reply) (rest : List ℕ) (now written : Option (List ℕ)) → turned ≡ turned_by reply rest → now ≡ Some rest → IsTurnOf turned written now written reply
 turn_as turned reply rest now written e left = record {
   heard = ap (λ (t : Turned). t.heard.reply) e;
   rest = left ∙ some_text _ _ (sym (ap (λ (t : Turned). t.heard.rest) e));
   text = let Added : List ℕ → Type 0 = Adds written written in subst Added (sym (ap (λ (t : Turned). t.text) e)) (adds_none written);
 }
 
-turn_replied : (k : ℕ) (patience : ℕ) (bytes : List ℕ) (now written : Option (List ℕ)) (reply : Reply) → Speaks k (Some bytes) now (Some reply) → Turn (hear k patience bytes) written now written reply
+turn_replied : (k : ℕ) (patience : ℕ) (bytes : List ℕ) (now written : Option (List ℕ)) (reply : Reply) → Speaks k (Some bytes) now (Some reply) → IsTurnOf (hear k patience bytes) written now written reply
 turn_replied k patience bytes now written reply h =
     let so = spoken_so k bytes now (Some reply) h in turn_as (hear k patience bytes) reply _ now written (hear_reply k patience bytes reply so.0) so.1
 
@@ -76,20 +54,14 @@ line_tells k patience left now written told h bytes is =
 -- ---- a line that is no answer
 
 -- where it is the last one
-hear_none : (k : ℕ) (bytes : List ℕ) → (spoken k bytes).says ≡ None → hear k zero bytes ≡ replied Unread (spoken k bytes).rest
+hear_none : (k : ℕ) (bytes : List ℕ) → (spoken k bytes).says ≡ None → hear k zero bytes ≡ turned_by Unread (spoken k bytes).rest
 unfolding hear
-hear_none k bytes h = ap (hear_line (replied Unread) (spoken k bytes).rest) h
+hear_none k bytes h = ap (hear_line (turned_by Unread) (spoken k bytes).rest) h
 
 pub last_tells : (k : ℕ) (left now written : Option (List ℕ)) → Speaks k left now None → TellsOf k zero left written now written Unreadable
 last_tells k left now written h bytes is =
     let P : Option (List ℕ) → Type 0 = λ o. Speaks k o now None in
     let so = spoken_so k bytes now None (subst P is h) in turn_as (hear k zero bytes) Unread _ now written (hear_none k bytes so.0) so.1
-
--- where it is passed over
-pub passed_line : (k : ℕ) (left now written written' : Option (List ℕ)) → Speaks k left now None → Adds written written' no_answer_text → Passes k left written now written'
-passed_line k left now written written' h adds bytes is =
-    let P : Option (List ℕ) → Type 0 = λ o. Speaks k o now None in
-    let so = spoken_so k bytes now None (subst P is h) in record { says = so.0; left = so.1; put = adds }
 
 hear_more : (k : ℕ) (patience : ℕ) (bytes : List ℕ) → (spoken k bytes).says ≡ None → hear k (suc patience) bytes ≡ turned_after no_answer_text (hear k patience (spoken k bytes).rest)
 unfolding hear
@@ -123,7 +95,7 @@ maybe_tells k left now written written' (Some told) h cut = λ patience. passing
 -- ---- many lines
 
 -- another text was added before
-turn_after : (text : List ℕ) (turned : Turned) (written before left' written' : Option (List ℕ)) (reply : Reply) → Adds written before text → Turn turned before left' written' reply → Turn (turned_after text turned) written left' written' reply
+turn_after : (text : List ℕ) (turned : Turned) (written before left' written' : Option (List ℕ)) (reply : Reply) → Adds written before text → IsTurnOf turned before left' written' reply → IsTurnOf (turned_after text turned) written left' written' reply
 turn_after text turned written before left' written' reply adds t = record { heard = t.heard; rest = t.rest; text = adds_then written before written' text turned.text adds t.text }
 
 pub tells_after : (text : List ℕ) (turned : Turned) (written before left' written' : Option (List ℕ)) (told : Told) → Adds written before text → Tells turned before left' written' told → Tells (turned_after text turned) written left' written' told

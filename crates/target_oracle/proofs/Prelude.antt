@@ -20,7 +20,7 @@ pub use Rattle.language.specs.declared.candidates.Candidate.{Candidate}
 pub use Rattle.target_oracle.specs.Generator.{IsGenerated, after, draw, drawn_on, frame, given, name_of, names, target_of}
 unfoldable pub use Rattle.target_oracle.specs.Generator.{hidden, state_at}
 pub use Rattle.target_oracle.specs.Hearing.{CutsOff, Hears, HearsLine, PassedBy, Passes, Speaks, TellsOf, told_of}
-pub use Rattle.target_oracle.specs.Lines.{Spoken, hear_line, line_reply, line_turn, no_answer_text, replied, spoken, spoken_in}
+pub use Rattle.target_oracle.specs.Lines.{Spoken, hear_line, line_reply, line_turn, no_answer_text, turned_by, spoken, spoken_in}
 unfoldable pub use Rattle.target_oracle.specs.Lines.{hear}
 pub use Rattle.target_oracle.specs.Words.{is_blank, trimmed_after}
 unfoldable pub use Rattle.target_oracle.specs.Words.{trimmed}

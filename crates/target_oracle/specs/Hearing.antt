@@ -54,21 +54,21 @@ CutsOff text before now WriteFault = AddsFront before now text
 CutsOff text before now Memory = now ≡ before
 
 -- a line that is no answer was passed over, and that was written
-pub record IsPassed (k : ℕ) (bytes : List ℕ) (written left' written' : Option (List ℕ)) : Type 0 where
+pub record IsSkipped (k : ℕ) (bytes : List ℕ) (written left' written' : Option (List ℕ)) : Type 0 where
   pub says : (spoken k bytes).says ≡ None
   pub left : left' ≡ Some (spoken k bytes).rest
   pub put : Adds written written' no_answer_text
 
 -- where the source tells
 abbrev pub Passes : ℕ → (left written left' written' : Option (List ℕ)) → Type 0
-Passes k left written left' written' = ForSome left (λ bytes. IsPassed k bytes written left' written')
+Passes k left written left' written' = ForSome left (λ bytes. IsSkipped k bytes written left' written')
 
 -- lines are heard after question number k, so many of which may be no answers
 abbrev pub TellsOf : (k patience : ℕ) → (left written left' written' : Option (List ℕ)) → Told → Type 0
 TellsOf k patience left written left' written' told = ForSome left (λ bytes. Tells (hear k patience bytes) written left' written' told)
 
 -- so many lines were passed over, of the most that are
-pub record HasPassed (k most count : ℕ) (bytes : List ℕ) (written left' written' : Option (List ℕ)) : Type 0 where
+pub record HasSkipped (k most count : ℕ) (bytes : List ℕ) (written left' written' : Option (List ℕ)) : Type 0 where
   pub rest : List ℕ
   pub done : List ℕ
   pub left : left' ≡ Some rest
@@ -76,4 +76,4 @@ pub record HasPassed (k most count : ℕ) (bytes : List ℕ) (written left' writ
   pub begins : (patience : ℕ) → patience + count ≡ most → hear k most bytes ≡ turned_after done (hear k patience rest)
 
 abbrev pub PassedBy : (k most count : ℕ) → (left written left' written' : Option (List ℕ)) → Type 0
-PassedBy k most count left written left' written' = ForSome left (λ bytes. HasPassed k most count bytes written left' written')
+PassedBy k most count left written left' written' = ForSome left (λ bytes. HasSkipped k most count bytes written left' written')

@@ -31,17 +31,17 @@ abbrev pub no_answer_text : List ℕ
 no_answer_text = codes "not an answer" ++ 10 ∷ []
 
 -- nothing more is written
-abbrev pub replied : Reply → List ℕ → Turned
-replied reply rest = record { text = []; heard = record { reply = reply; rest = rest } }
+abbrev pub turned_by : Reply → List ℕ → Turned
+turned_by reply rest = record { text = []; heard = record { reply = reply; rest = rest } }
 
 -- a line replies, or it is no answer, and so it goes on with the bytes after it
 abbrev pub hear_line : (List ℕ → Turned) → List ℕ → Option Reply → Turned
 hear_line on rest None = on rest
-hear_line on rest (Some reply) = replied reply rest
+hear_line on rest (Some reply) = turned_by reply rest
 
 -- Lines are heard up to a reply to question number k. So many that are no answers are passed over; one more ends the turn.
 unfoldable pub hear : (k patience : ℕ) → List ℕ → Turned
-hear k zero bytes = hear_line (replied Unread) (spoken k bytes).rest (spoken k bytes).says
+hear k zero bytes = hear_line (turned_by Unread) (spoken k bytes).rest (spoken k bytes).says
 hear k (suc patience) bytes = hear_line (λ rest. turned_after no_answer_text (hear k patience rest)) (spoken k bytes).rest (spoken k bytes).says
 
 -- the question line, then answer lines

@@ -7,7 +7,7 @@ use Rattle.language.proofs.Sizes.{of_arity_sized, closed_sized}
 use Rattle.language.proofs.Within.{length-widened}
 use Rattle.voc_read.proofs.ClosingsMade.{IsClosed, closing_of, few_closed, few_images}
 use Rattle.shared_lemmas.proofs.Lists.{some_kept}
-use Rattle.language.proofs.Built.{some_closed}
+use Rattle.language.proofs.Built.{given_relations, some_closed}
 
 -- a relation of d values has a truth value for each tuple, and not too many of them
 pub record IsRight (d : ℕ) (g : Given) : Type 0 where
@@ -24,12 +24,6 @@ pub record IsBuildable (frame : Frame) (given : List Given) (lists : List (List 
   pub apart : AllPairs AreApart lists
   pub used : All (λ scope. has_arity given (length scope) ≡ true) lists
   pub few : (arity : ℕ) → 1 ≤ arity → arity ≤ 4 → has_too_many given arity ≡ false
-
--- the vocabulary's relations on a scope, one by one
-given_relations : (ranges : List ValueRange) (d : ℕ) (scope : List ℕ) (given : List Given) →
-    map (widened ranges d scope) (relations_given given) ≡ map (λ (g : Given). g.relation) (map (given_within ranges d scope) given)
-given_relations ranges d scope [] = refl
-given_relations ranges d scope (g ∷ given) = λ i. widened ranges d scope g.relation ∷ given_relations ranges d scope given i
 
 module _ (frame : Frame) (given : List Given) (scopes : List (List ℕ)) (able : IsBuildable frame given scopes) where
   abbrev d : ℕ

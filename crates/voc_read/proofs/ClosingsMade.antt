@@ -7,15 +7,10 @@ use Rattle.rel_table.proofs.Meets.{length-meet}
 use Rattle.rel_table.proofs.Pairwise.{no_pairs, pairs_head, pairs_tail}
 use Rattle.rel_table.proofs.Tables.{not_above_itself}
 use Rattle.language.proofs.Repeats.{same_is, same_itself, contains_listed}
+use Rattle.language.proofs.Closings.{every_kept, first, later}
 
 abbrev AreLong : ℕ → List Relation → Type 0
 AreLong n relations = All (λ (r : Relation). length r ≡ n) relations
-
-first : (r : Relation) (relations : List Relation) → Contains (r ∷ relations) r
-first r relations = (zero, omega arith, refl)
-
-later : (r : Relation) (relations : List Relation) (q : Relation) → Contains relations q → Contains (r ∷ relations) q
-later r relations q has = Contains-append_right (r ∷ []) relations q has
 
 nowhere : (q : Relation) → Contains [] q → ⊥
 nowhere q has = let low = has.1 in omega arith
@@ -193,20 +188,6 @@ closing_of n (t ∷ file) sizes =
 
 -- ---- How many they are
 
-once : (relations : List Relation) (q : Relation) → Contains relations q → Contains (without_repeats relations) q
-once [] q has = absurd (nowhere q has)
-once (r ∷ relations) q has = go (cases_Bool (is_listed relations r)) (cons_cases r relations q has) (once relations)
-  where
-    whole : (b : Bool) → is_listed relations r ≡ b → Contains (cond b (without_repeats relations) (r ∷ without_repeats relations)) q → Contains (without_repeats (r ∷ relations)) q
-    whole b is there = subst (λ (x : Bool). Contains (cond x (without_repeats relations) (r ∷ without_repeats relations)) q) (sym is) there
-
-    go : (is_listed relations r ≡ true) ⊎ (is_listed relations r ≡ false) → (r ≡ q) ⊎ Contains relations q → ((x : Relation) → Contains relations x → Contains (without_repeats relations) x) →
-        Contains (without_repeats (r ∷ relations)) q
-    go (inl listed) (inl same) rest = whole true listed (subst (Contains (without_repeats relations)) same (rest r (contains_listed relations r listed)))
-    go (inl listed) (inr there) rest = whole true listed (rest q there)
-    go (inr new) (inl same) rest = whole false new (subst (Contains (r ∷ without_repeats relations)) same (first r (without_repeats relations)))
-    go (inr new) (inr there) rest = whole false new (later r (without_repeats relations) q (rest q there))
-
 apart : (closed : List Relation) → AllPairs Above closed → AllPairs (λ r q. r ≡ q → ⊥) closed
 apart closed falling i j d low high same = both_ways _ (not_above_itself (get_or closed j d)) (subst (λ r. is_above r (get_or closed j d) ≡ true) same (falling i j d low high))
 
@@ -214,7 +195,7 @@ apart closed falling i j d low high same = both_ways _ (not_above_itself (get_or
 pub few_closed : (n : ℕ) (file closed : List Relation) → IsClosed n file closed → nat_lt 64 (length (without_repeats (intersections file))) ≡ false → length closed ≤ 64
 few_closed n file closed is few =
     let listed : All (Contains (without_repeats (intersections file))) closed =
-    All-weaker (Contains closed) (Contains (without_repeats (intersections file))) (λ q has. once (intersections file) q (is.listed q has)) closed (All-contains_itself closed) in
+    All-weaker (Contains closed) (Contains (without_repeats (intersections file))) (λ q has. every_kept (intersections file) q (is.listed q has)) closed (All-contains_itself closed) in
     let short : length closed ≤ length (without_repeats (intersections file)) = no_longer closed (without_repeats (intersections file)) listed (apart closed is.closing.falling) in
     omega (arith, short, ltb-false 64 (length (without_repeats (intersections file))) few)
 

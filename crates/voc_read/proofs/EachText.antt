@@ -1,14 +1,16 @@
 -- Each list of bytes is the text of a language, or is refused.
-use Rattle.voc_read.proofs.Prelude.{◌≡◌, ℕ, ◌≤◌, ◌==◌, Bool, true, false, cond, ◌&&◌, nat_lt, List, [], ◌∷◌, length, get_or, Option, Some, None, ℤ, pos, negsuc, Result, Ok, Err, refl, ap, ◌∙◌, subst, arith, ◌⊎◌, inl, inr, All, int_le, ◌≤ℤ◌, ◌<ℤ◌, ◌+ℤ◌, ◌-ℤ◌, unsigned_abs, passes, range_with_len, ok_or, option_map, option_or, and_parts, ltb-false, ints, All-head, All-tail, All-map, length-map-range_with_len, Items, Language, Given, IsRange, IsFrame, AreKnown, is_domain, values_between, range_between, frame_refusal, build_refusal, closing_refusal, scopes_refusal, scopes_built, has_too_many, ValueRange, LangFault, VocFault, TooLong, NotJson, Lang, then_on, unless, EachIsReadOrRefused, names_refusal, OutlineData, held_by, outline_of, VariableRange, values_for, ranges_of, IsKnown, given_of, scopes_from, scopes_of, Parts, outline_refusal, parts_from, parts_in, parts_of, json_of, frame_of, MOST_VOCABULARY, refusal_after, refusal_of_vocabulary, IsLanguageOf, lang_wants, wants_memory}
+use Rattle.voc_read.proofs.Prelude.{◌≡◌, ℕ, ◌≤◌, ◌==◌, Bool, true, false, cond, ◌&&◌, nat_lt, List, [], ◌∷◌, length, get_or, Option, Some, None, ℤ, pos, negsuc, Result, Ok, Err, refl, ap, ◌∙◌, subst, arith, ◌⊎◌, inl, inr, All, int_le, ◌≤ℤ◌, ◌<ℤ◌, ◌+ℤ◌, ◌-ℤ◌, unsigned_abs, passes, range_with_len, ok_or, option_map, option_or, and_parts, ltb-false, ints, All-head, All-tail, All-map, length-map-range_with_len, Items, Language, Given, IsRange, IsFrame, AreKnown, is_domain, values_between, range_between, frame_refusal, build_refusal, closing_refusal, scopes_refusal, scopes_built, has_too_many, ValueRange, LangFault, VocFault, TooLong, NotJson, Lang, then_on, unless, EachVocabularyIsReadOrRefused, names_refusal, OutlineData, held_by, outline_of, VariableRange, values_for, ranges_of, IsKnown, listed_relations, scopes_from, scopes_stated, Parts, outline_refusal, parts_from, parts_in, vocabulary_parts, json_of, frame_of, MOST_VOCABULARY, refusal_after, refusal_of_vocabulary, IsLanguageOf, lang_wants, wants_memory}
 use Rattle.language.specs.declared.parts.LangFault.TheVariants.{TooManyVariables, BadDomain, TooManyScopes}
 use Rattle.language.proofs.Arities.{each_arity}
 use Rattle.language.proofs.Lawful.{are_scopes, known_in, taken}
+use Rattle.language.proofs.Domains.{domain_is}
 use Rattle.voc_read.proofs.Buildable.{IsBuildable, built}
 use Rattle.voc_read.proofs.Faults.{NoWant, OfErr, real, build_read}
 use Rattle.voc_read.proofs.KnownRanges.{are_known}
 use Rattle.voc_read.proofs.KnownScopes.{known}
 use Rattle.voc_read.proofs.NameForms.{AreNames-accepted}
 use Rattle.voc_read.proofs.Readings.{OfOk, AreGiven, given_right}
+use Rattle.shared_lemmas.proofs.Read.{map_none, or_none}
 
 -- ---- What was read before the end
 
@@ -32,7 +34,7 @@ record AreParts (parts : Parts) : Type 0 where
   pub given : AreGiven (values_between parts.least_value parts.greatest_value) parts.given
   pub known : AreKnown (length parts.names) parts.listed
 
-listed_known : (names : List (List ℕ)) (items : Option Items) (listed : Option (List (List ℕ))) → scopes_of names items ≡ Ok listed → AreKnown (length names) listed
+listed_known : (names : List (List ℕ)) (items : Option Items) (listed : Option (List (List ℕ))) → scopes_stated names items ≡ Ok listed → AreKnown (length names) listed
 listed_known names None listed is =
     let none : None ≡ listed = (let e : (let r : Result (Option (List (List ℕ))) VocFault = Ok None in r) ≡ Ok listed = is in cc) in
     subst (AreKnown (length names)) none tt
@@ -50,8 +52,8 @@ are_parts o parts is =
     let named = unless_ok (names_refusal o.names) _ parts is in
     let framed = unless_ok (outline_refusal o) _ parts named.1 in
     let ranges = then_ok (ranges_of o.least_value d o.names o.ranges) _ parts framed.1 in
-    let given = then_ok (given_of o.least_value d o.relations) _ parts ranges.2 in
-    let listed = then_ok (scopes_of o.names o.listed) _ parts given.2 in
+    let given = then_ok (listed_relations o.least_value d o.relations) _ parts ranges.2 in
+    let listed = then_ok (scopes_stated o.names o.listed) _ parts given.2 in
     let whole : Parts = record { names = o.names; least_value = o.least_value; greatest_value = o.greatest_value; ranges = ranges.0; given = given.0; listed = listed.0 } in
     let all : AreParts whole = record {
       names = named.0;
@@ -66,8 +68,8 @@ when_short : (b : Bool) (fault : VocFault) (rest : Result Parts VocFault) (parts
 when_short true fault rest parts h = absurd (cc)
 when_short false fault rest parts h = h
 
-parts_read : (bytes : List ℕ) (parts : Parts) → parts_of bytes ≡ Ok parts → AreParts parts
-unfolding parts_of
+parts_read : (bytes : List ℕ) (parts : Parts) → vocabulary_parts bytes ≡ Ok parts → AreParts parts
+unfolding vocabulary_parts
 parts_read bytes parts is =
     let text = then_ok (ok_or (json_of bytes) NotJson) parts_in parts (when_short (nat_lt MOST_VOCABULARY (length bytes)) TooLong (then_on (ok_or (json_of bytes) NotJson) parts_in) parts is) in
     let held = then_ok (held_by text.0) _ parts text.2 in
@@ -75,9 +77,6 @@ parts_read bytes parts is =
     are_parts outline.0 parts outline.2
 
 -- ---- The frame
-
-le : (a b : ℤ) → int_le a b ≡ true → a ≤ℤ b
-le a b h = record { le = passes (int_le a b) h }
 
 as_pos : (z : ℤ) → pos 0 ≤ℤ z → pos (unsigned_abs z) ≡ z
 as_pos (pos n) h = refl
@@ -87,26 +86,19 @@ as_pos (negsuc n) h = absurd (omega (arith, ints, h))
 above : (lo x : ℤ) → lo ≤ℤ x → (lo +ℤ pos (unsigned_abs (x -ℤ lo))) ≡ x
 above lo x h = let is = as_pos (x -ℤ lo) (omega (arith, ints, h)) in omega (arith, ints, is)
 
-record IsDomain (lo hi : ℤ) : Type 0 where
+record HasFewValues (lo hi : ℤ) : Type 0 where
   pub some_value : 1 ≤ values_between lo hi
   pub few_values : values_between lo hi ≤ 64
   pub low : negsuc 999999 ≤ℤ lo
   pub high : (lo +ℤ pos (values_between lo hi)) ≤ℤ pos 1000001
 
-domain : (lo hi : ℤ) → is_domain lo hi ≡ true → IsDomain lo hi
-domain lo hi h =
-    let few = and_parts (int_le lo hi && int_le (negsuc 999999) lo && int_le hi (pos 1000000)) (int_le (hi -ℤ lo) (pos 63)) h in
-    let high = and_parts (int_le lo hi && int_le (negsuc 999999) lo) (int_le hi (pos 1000000)) few.0 in
-    let low = and_parts (int_le lo hi) (int_le (negsuc 999999) lo) high.0 in
-    let size : (lo +ℤ pos (unsigned_abs (hi -ℤ lo))) ≡ hi = above lo hi (le lo hi low.0) in
-    let most : (hi -ℤ lo) ≤ℤ pos 63 = le (hi -ℤ lo) (pos 63) few.1 in
-    let below : hi ≤ℤ pos 1000000 = le hi (pos 1000000) high.1 in
-    record {
-      some_value = omega arith;
-      few_values = omega (arith, ints, size, most);
-      low = le (negsuc 999999) lo low.1;
-      high = omega (arith, ints, size, below);
-    }
+few_values_in : (lo hi : ℤ) → is_domain lo hi ≡ true → HasFewValues lo hi
+few_values_in lo hi h =
+    let is = domain_is lo hi h in
+    let few = is.few in
+    let below = is.high in
+    let size : (lo +ℤ pos (unsigned_abs (hi -ℤ lo))) ≡ hi = above lo hi is.rises in
+    record { some_value = omega arith; few_values = omega (arith, ints, size, few); low = is.low; high = omega (arith, ints, size, below) }
 
 no_frame : (many right : Bool) → cond many (Some TooManyVariables) (cond right None (Some BadDomain)) ≡ None → (many ≡ false) × (right ≡ true)
 no_frame true right h = absurd (cc)
@@ -116,13 +108,13 @@ no_frame false false h = absurd (cc)
 record HasFrame (names : List (List ℕ)) (lo hi : ℤ) : Type 0 where
   pub some : 1 ≤ length names
   pub few : length names ≤ 128
-  pub values : IsDomain lo hi
+  pub values : HasFewValues lo hi
 
 frame_right : (names : List (List ℕ)) (lo hi : ℤ) → frame_refusal names lo hi ≡ None → HasFrame names lo hi
 frame_right [] lo hi h = absurd (cc)
 frame_right (name ∷ names) lo hi h =
     let right = no_frame (nat_lt 128 (length (name ∷ names))) (is_domain lo hi) h in
-    record { some = omega arith; few = ltb-false 128 (length (name ∷ names)) right.0; values = domain lo hi right.1 }
+    record { some = omega arith; few = ltb-false 128 (length (name ∷ names)) right.0; values = few_values_in lo hi right.1 }
 
 between : (lo : ℤ) (count : ℕ) (first last : ℤ) → lo ≤ℤ first → first ≤ℤ last → last <ℤ (lo +ℤ pos count) → IsRange count (range_between lo first last)
 between lo count first last low some high =
@@ -161,21 +153,13 @@ is_frame parts read =
 
 -- ---- The language
 
-none_of : {X : Type 0} (a b : Option X) → option_or a b ≡ None → (a ≡ None) × (b ≡ None)
-none_of None b h = (refl, h)
-none_of (Some x) b h = absurd (cc)
-
-nothing : {X Y : Type 0} (f : X → Y) (o : Option X) → option_map f o ≡ None → o ≡ None
-nothing f None h = refl
-nothing f (Some x) h = absurd (cc)
-
 none_found : {X : Type 0} (b : Bool) (x : X) (rest : Option X) → cond b (Some x) rest ≡ None → (b ≡ false) × (rest ≡ None)
 none_found true x rest h = absurd (cc)
 none_found false x rest h = (refl, h)
 
 few : (given : List Given) → closing_refusal given ≡ None → (arity : ℕ) → 1 ≤ arity → arity ≤ 4 → has_too_many given arity ≡ false
 few given h =
-    let one = none_found (has_too_many given 1) 1 _ (nothing _ _ h) in
+    let one = none_found (has_too_many given 1) 1 _ (map_none _ _ h) in
     let two = none_found (has_too_many given 2) 2 _ one.1 in
     let three = none_found (has_too_many given 3) 3 _ two.1 in
     let four = none_found (has_too_many given 4) 4 _ three.1 in
@@ -187,7 +171,7 @@ record IsUnrefused (n : ℕ) (given : List Given) (listed : Option (List (List �
 
 unrefused : (n : ℕ) (given : List Given) (listed : Option (List (List ℕ))) → build_refusal n given listed ≡ None → IsUnrefused n given listed
 unrefused n [] listed h = absurd (cc)
-unrefused n (g ∷ given) listed h = let both = none_of _ _ h in record { scopes = both.0; closing = both.1 }
+unrefused n (g ∷ given) listed h = let both = or_none _ _ h in record { scopes = both.0; closing = both.1 }
 
 buildable : (parts : Parts) → AreParts parts → build_refusal (length parts.names) parts.given parts.listed ≡ None
     → IsBuildable (frame_of parts) parts.given (scopes_built (length parts.names) parts.given parts.listed)
@@ -195,7 +179,7 @@ buildable parts read h =
     let n : ℕ = length parts.names in
     let scopes : List (List ℕ) = scopes_built n parts.given parts.listed in
     let right = unrefused n parts.given parts.listed h in
-    let order = none_of _ _ right.scopes in
+    let order = or_none _ _ right.scopes in
     let count = none_found (nat_lt 8192 (length scopes)) TooManyScopes _ order.1 in
     let kept = taken parts.given scopes order.1 in
     record {
@@ -203,7 +187,7 @@ buildable parts read h =
       names = read.given.names;
       right = read.given.right;
       few_scopes = ltb-false 8192 (length scopes) count.0;
-      scopes = are_scopes n scopes (nothing _ _ order.0) (known_in n parts.given parts.listed read.known);
+      scopes = are_scopes n scopes (map_none _ _ order.0) (known_in n parts.given parts.listed read.known);
       apart = kept.apart;
       used = kept.used;
       few = few parts.given right.closing;
@@ -224,6 +208,6 @@ told : (stated answer : Result Parts VocFault) → stated ≡ answer → OfErr a
 told stated (Err fault) is own read = inr (fault, own, ap refusal_after is)
 told stated (Ok parts) is own read = when_parts stated parts is (read parts is) (build_refusal (length parts.names) parts.given parts.listed) refl
 
-pub each_text : EachIsReadOrRefused
+pub each_text : EachVocabularyIsReadOrRefused
 unfolding refusal_of_vocabulary
-each_text bytes = told (parts_of bytes) (parts_of bytes) refl (real bytes) (parts_read bytes)
+each_text bytes = told (vocabulary_parts bytes) (vocabulary_parts bytes) refl (real bytes) (parts_read bytes)

@@ -1,5 +1,5 @@
 -- No bytes are refused for want of memory.
-use Rattle.voc_read.proofs.Prelude.{◌≡◌, ℕ, ◌+◌, ◌^◌, ◌&&◌, Bool, true, false, cond, nat_eq, nat_le, nat_lt, not, List, [], ◌∷◌, length, Option, Some, None, ℤ, pos, negsuc, Result, Ok, Err, refl, codes, find, position, list_all, ok_or, option_map, option_map_or, option_or, Data, Items, no_items, item, Members, as_object, as_array, as_str, get, size_for, is_shown, tuple_fault, first_fault, TableFault, Truth, first_too_big, formula_in, FormulaFault, TooBig, Given, is_name, values_between, frame_refusal, is_domain, is_ordered, are_nested, first_pair, has_arity, has_too_many, scope_list_refusal, scopes_refusal, closing_refusal, build_refusal, scopes_built, LangFault, VocFault, TooLong, NotJson, Missing, WrongKind, UnknownKey, BadName, NameRepeated, BadRelName, RelRepeated, UnknownVariable, RangeName, BadRange, RangeRepeated, Table, TableOf, Lang, then_on, unless, keys_refusal, has_other_key, under, names_refusal, first_bad, first_repeat, number_of, HeldData, OutlineData, held_by, outline_of, listed_under, ranges_under, is_all, vocabulary_keys, RangeData, range_data, bounds_refusal, range_for, range_of, ranges_from, ranged_names, ranges_refusal, ranges_of, RuleData, formula, one_of, stated_under, rule_in, relation_by, formula_of, RelationData, relation_keys, relation_data, counted_arity, small_arity, name_refusal, made_of, relation_of, relations_from, given_names, relation_names_refusal, given_of, numbers_of, scope_of, scopes_from, scopes_of, text_list, tuple_list, number_pair, whole_number, table_wants, lang_wants, wants_memory, outline_refusal, parts_from, parts_in, json_of, parts_of, MOST_VOCABULARY}
+use Rattle.voc_read.proofs.Prelude.{◌≡◌, ℕ, ◌+◌, ◌^◌, ◌&&◌, Bool, true, false, cond, nat_eq, nat_le, nat_lt, not, List, [], ◌∷◌, length, Option, Some, None, ℤ, pos, negsuc, Result, Ok, Err, refl, codes, find, position, list_all, ok_or, option_map, option_map_or, option_or, Data, Items, no_items, item, Members, as_object, as_array, as_str, get, size_for, is_shown, tuple_fault, first_fault, TableFault, Truth, first_too_big, formula_in, FormulaFault, TooBig, Given, is_name, values_between, frame_refusal, is_domain, is_ordered, are_nested, first_pair, has_arity, has_too_many, scope_list_refusal, scopes_refusal, closing_refusal, build_refusal, scopes_built, LangFault, VocFault, TooLong, NotJson, Missing, WrongKind, UnknownKey, BadName, NameRepeated, BadRelName, RelRepeated, UnknownVariable, RangeName, BadRange, RangeRepeated, Table, TableOf, Lang, then_on, unless, keys_refusal, has_other_key, under, names_refusal, first_bad, first_repeat, variable_number, HeldData, OutlineData, held_by, outline_of, listed_under, ranges_under, is_all, vocabulary_keys, RangeData, range_data, bounds_refusal, range_for, range_stated, ranges_from, ranged_names, ranges_refusal, ranges_of, RuleData, formula, one_of, stated_under, rule_in, relation_of_rule, rule_formula, RelationData, relation_keys, relation_data, counted_arity, small_arity, name_refusal, made_of, relation_stated, relations_from, given_names, relation_names_refusal, listed_relations, numbers_of, scope_stated, scopes_from, scopes_stated, text_list, tuple_list, number_pair, whole_number, table_wants, lang_wants, wants_memory, outline_refusal, parts_from, parts_in, json_of, vocabulary_parts, MOST_VOCABULARY}
 use Rattle.rel_table.specs.declared.table.CloseFault.TheVariants as closing
 use Rattle.rel_table.specs.declared.table.TableFault.TheVariants as table
 use Rattle.language.specs.declared.parts.LangFault.TheVariants as lang
@@ -156,13 +156,13 @@ outlined h =
 
 range_read : (i : ℕ) (lo : ℤ) (count : ℕ) (names : List (List ℕ)) (stated : RangeData) → OfErr (range_for i lo count names stated)
 range_read i lo count names stated =
-    after (ok_or (number_of names stated.name) (RangeName i)) _ (or_else (number_of names stated.name) (RangeName i) refl) (λ v.
+    after (ok_or (variable_number names stated.name) (RangeName i)) _ (or_else (variable_number names stated.name) (RangeName i) refl) (λ v.
     behind (bounds_refusal i lo count stated) _ (tested _ (BadRange i) refl) tt)
 
 ranges_read : (i : ℕ) (lo : ℤ) (count : ℕ) (names : List (List ℕ)) (items : Items) → OfErr (ranges_from i lo count names items)
 ranges_read i lo count names no_items = tt
 ranges_read i lo count names (item value values) =
-    after (range_of i lo count names value) _ (after (ok_or (range_data value) (WrongKind (spot.Range i))) (range_for i lo count names) (or_else (range_data value) (WrongKind (spot.Range i)) refl) (range_read i lo count names)) (λ range.
+    after (range_stated i lo count names value) _ (after (ok_or (range_data value) (WrongKind (spot.Range i))) (range_for i lo count names) (or_else (range_data value) (WrongKind (spot.Range i)) refl) (range_read i lo count names)) (λ range.
     after (ranges_from (i + 1) lo count names values) _ (ranges_read (i + 1) lo count names values) (λ ranges. tt))
 
 -- ---- The relations
@@ -199,27 +199,27 @@ counted : (i d : ℕ) (arity : ℤ) → OfErr (small_arity i d arity)
 counted i d (pos a) = by_arity i d a (nat_le 1 a && nat_le a 4)
 counted i d (negsuc a) = refl
 
-formula_told : (i : ℕ) (truth : Result Truth FormulaFault) → OfFormulaErr truth → OfErr (formula_of i truth)
+formula_told : (i : ℕ) (truth : Result Truth FormulaFault) → OfFormulaErr truth → OfErr (rule_formula i truth)
 formula_told i (Ok truth) own = tt
 formula_told i (Err fault) own = own
 
-relation_read : (i : ℕ) (lo : ℤ) (count arity : ℕ) (rule : RuleData (List (List ℤ))) → OfErr (relation_by i lo count arity rule)
+relation_read : (i : ℕ) (lo : ℤ) (count arity : ℕ) (rule : RuleData (List (List ℤ))) → OfErr (relation_of_rule i lo count arity rule)
 relation_read i lo count arity (tuples given) =
     behind (option_map (Table i) (first_fault arity lo count 0 given)) _ (within table_wants wants_memory (Table i) (first_fault arity lo count 0 given) (λ fault own. own) (tuples_read arity lo count 0 given)) tt
 relation_read i lo count arity (formula value) =
-    after (formula_of i (formula_in arity value)) _ (formula_told i (formula_in arity value) (formula_read arity value)) (λ truth.
+    after (rule_formula i (formula_in arity value)) _ (formula_told i (formula_in arity value) (formula_read arity value)) (λ truth.
     behind (option_map (λ place. TableOf i (TooBig place)) (first_too_big truth arity lo count)) _ (mapped wants_memory (λ place. TableOf i (TooBig place)) (first_too_big truth arity lo count) (λ place. refl)) tt)
 
 made : (i : ℕ) (lo : ℤ) (count : ℕ) (r : RelationData) → OfErr (made_of i lo count r)
 made i lo count r =
     behind (name_refusal i r.name) _ (tested (is_name r.name) (BadRelName i) refl)
     (after (small_arity i count r.arity) _ (counted i count r.arity) (λ arity.
-    after (relation_by i lo count arity r.rule) _ (relation_read i lo count arity r.rule) (λ relation. tt)))
+    after (relation_of_rule i lo count arity r.rule) _ (relation_read i lo count arity r.rule) (λ relation. tt)))
 
 relations_read : (i : ℕ) (lo : ℤ) (count : ℕ) (items : Items) → OfErr (relations_from i lo count items)
 relations_read i lo count no_items = tt
 relations_read i lo count (item value values) =
-    after (relation_of i lo count value) _ (after (relation_data (spot.Relation i) value) (made_of i lo count) (stated (spot.Relation i) value) (made i lo count)) (λ relation.
+    after (relation_stated i lo count value) _ (after (relation_data (spot.Relation i) value) (made_of i lo count) (stated (spot.Relation i) value) (made i lo count)) (λ relation.
     after (relations_from (i + 1) lo count values) _ (relations_read (i + 1) lo count values) (λ relations. tt))
 
 -- ---- The scopes
@@ -227,11 +227,11 @@ relations_read i lo count (item value values) =
 scopes_read : (i : ℕ) (names : List (List ℕ)) (items : Items) → OfErr (scopes_from i names items)
 scopes_read i names no_items = tt
 scopes_read i names (item value values) =
-    after (scope_of i names value) _ (after (ok_or (text_list value) (WrongKind (spot.Scope i))) _ (or_else (text_list value) (WrongKind (spot.Scope i)) refl)
+    after (scope_stated i names value) _ (after (ok_or (text_list value) (WrongKind (spot.Scope i))) _ (or_else (text_list value) (WrongKind (spot.Scope i)) refl)
     (λ listed. or_else (numbers_of names listed) (UnknownVariable i) refl)) (λ scope.
     after (scopes_from (i + 1) names values) _ (scopes_read (i + 1) names values) (λ scopes. tt))
 
-all_scopes_read : (names : List (List ℕ)) (listed : Option Items) → OfErr (scopes_of names listed)
+all_scopes_read : (names : List (List ℕ)) (listed : Option Items) → OfErr (scopes_stated names listed)
 all_scopes_read names None = tt
 all_scopes_read names (Some items) = after (scopes_from 0 names items) _ (scopes_read 0 names items) (λ scopes. tt)
 
@@ -242,7 +242,7 @@ all_ranges_read lo count names items =
     after (ranges_from 0 lo count names items) _ (ranges_read 0 lo count names items) (λ ranges.
     behind (ranges_refusal ranges) _ (mapped wants_memory (λ pair. RangeRepeated pair.0 pair.1) (first_repeat (ranged_names ranges)) (λ pair. refl)) tt)
 
-all_relations_read : (lo : ℤ) (count : ℕ) (items : Items) → OfErr (given_of lo count items)
+all_relations_read : (lo : ℤ) (count : ℕ) (items : Items) → OfErr (listed_relations lo count items)
 all_relations_read lo count items =
     after (relations_from 0 lo count items) _ (relations_read 0 lo count items) (λ given.
     behind (relation_names_refusal given) _ (mapped wants_memory (λ pair. RelRepeated pair.0 pair.1) (first_repeat (given_names given)) (λ pair. refl)) tt)
@@ -258,8 +258,8 @@ parts_read o =
     behind (names_refusal o.names) _ (names_read o.names)
     (behind (outline_refusal o) _ (within lang_wants wants_memory Lang (frame_refusal o.names o.least_value o.greatest_value) (λ fault own. own) (frame_read o.names o.least_value o.greatest_value))
     (after (ranges_of o.least_value count o.names o.ranges) _ (all_ranges_read o.least_value count o.names o.ranges) (λ ranges.
-    after (given_of o.least_value count o.relations) _ (all_relations_read o.least_value count o.relations) (λ given.
-    after (scopes_of o.names o.listed) _ (all_scopes_read o.names o.listed) (λ listed. tt)))))
+    after (listed_relations o.least_value count o.relations) _ (all_relations_read o.least_value count o.relations) (λ given.
+    after (scopes_stated o.names o.listed) _ (all_scopes_read o.names o.listed) (λ listed. tt)))))
 
 whole_read : (whole : Data) → OfErr (parts_in whole)
 whole_read whole = after (held_by whole) _ (held whole) (λ h. after (outline_of h) parts_from (outlined h) parts_read)
@@ -268,6 +268,6 @@ when_short : (b : Bool) (bytes : List ℕ) → OfErr (cond b (Err TooLong) (then
 when_short true bytes = refl
 when_short false bytes = after (ok_or (json_of bytes) NotJson) parts_in (or_else (json_of bytes) NotJson refl) whole_read
 
-pub real : (bytes : List ℕ) → OfErr (parts_of bytes)
-unfolding parts_of
+pub real : (bytes : List ℕ) → OfErr (vocabulary_parts bytes)
+unfolding vocabulary_parts
 real bytes = when_short (nat_lt MOST_VOCABULARY (length bytes)) bytes

@@ -1,5 +1,5 @@
 -- Scopes that are read are lists of numbers of variables.
-use Rattle.voc_read.proofs.Prelude.{◌≡◌, ℕ, ◌+◌, ◌<◌, Bool, true, false, cond, nat_lt, List, [], ◌∷◌, length, Option, Some, None, option_and_then, Result, Ok, Err, refl, sym, subst, All, position_or_len, ok_or, bytes_eq, All-nil, All-cons, same_Some, ltb-true, Data, Items, no_items, item, VocFault, then_on, number_of, numbers_of, scope_of, scopes_from}
+use Rattle.voc_read.proofs.Prelude.{◌≡◌, ℕ, ◌+◌, ◌<◌, Bool, true, false, cond, nat_lt, List, [], ◌∷◌, length, Option, Some, None, option_and_then, Result, Ok, Err, refl, sym, subst, All, position_or_len, ok_or, bytes_eq, All-nil, All-cons, same_Some, ltb-true, Data, Items, no_items, item, VocFault, then_on, variable_number, numbers_of, scope_stated, scopes_from}
 use Rattle.std.proofs.Common.{option_map}
 
 abbrev AreBelow : ℕ → List ℕ → Type 0
@@ -31,8 +31,8 @@ one_more n (Some v) (Some vs) x y = All-cons (λ v. v < n) v vs x y
 below : (names listed : List (List ℕ)) → OfSome (AreBelow (length names)) (numbers_of names listed)
 below names [] = All-nil (λ v. v < length names)
 below names (name ∷ listed) =
-    one_more (length names) (number_of names name) (numbers_of names listed)
-    (of_some (λ v. v < length names) (number_of names name) (λ v is. found_below (position_or_len (bytes_eq name) names) (length names) v _ refl is)) (below names listed)
+    one_more (length names) (variable_number names name) (numbers_of names listed)
+    (of_some (λ v. v < length names) (variable_number names name) (λ v is. found_below (position_or_len (bytes_eq name) names) (length names) v _ refl is)) (below names listed)
 
 as_read : (n : ℕ) (numbers : Option (List ℕ)) (fault : VocFault) → OfSome (AreBelow n) numbers → OfOk (AreBelow n) (ok_or numbers fault)
 as_read n None fault x = tt
@@ -43,7 +43,7 @@ when_listed : (n : ℕ) (listed : Result (List (List ℕ)) VocFault) (next : Lis
 when_listed n (Err fault) next h = tt
 when_listed n (Ok texts) next h = h texts
 
-one_scope : (i : ℕ) (names : List (List ℕ)) (value : Data) → OfOk (AreBelow (length names)) (scope_of i names value)
+one_scope : (i : ℕ) (names : List (List ℕ)) (value : Data) → OfOk (AreBelow (length names)) (scope_stated i names value)
 one_scope i names value = when_listed (length names) _ _ (λ texts. as_read (length names) (numbers_of names texts) _ (below names texts))
 
 one_scope_more : (n : ℕ) (scope : Result (List ℕ) VocFault) (rest : Result (List (List ℕ)) VocFault) → OfOk (AreBelow n) scope → OfOk (All (AreBelow n)) rest
@@ -54,7 +54,7 @@ one_scope_more n (Ok scope) (Ok more) x y = All-cons (AreBelow n) scope more x y
 
 all_below : (i : ℕ) (names : List (List ℕ)) (items : Items) → OfOk (All (AreBelow (length names))) (scopes_from i names items)
 all_below i names no_items = All-nil (AreBelow (length names))
-all_below i names (item value values) = one_scope_more (length names) (scope_of i names value) (scopes_from (i + 1) names values) (one_scope i names value) (all_below (i + 1) names values)
+all_below i names (item value values) = one_scope_more (length names) (scope_stated i names value) (scopes_from (i + 1) names values) (one_scope i names value) (all_below (i + 1) names values)
 
 pub known : (names : List (List ℕ)) (items : Items) (scopes : List (List ℕ)) → scopes_from 0 names items ≡ Ok scopes → All (All (λ v. v < length names)) scopes
 known names items scopes is = subst (OfOk (All (AreBelow (length names)))) is (all_below 0 names items)

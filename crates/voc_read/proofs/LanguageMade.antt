@@ -1,5 +1,5 @@
 -- The language that is built of what was read, or the fault that is met.
-use Rattle.voc_read.proofs.Prelude.{◌≡◌, ℕ, ℤ, List, length, Option, Some, None, Result, Ok, Err, refl, ap, ◌∙◌, subst, Language, Given, LangFault, VocFault, Lang, names_refusal, OutlineData, VariableRange, ranges_of, ranges_by, with_ranges, given_of, scopes_of, Parts, outline_refusal, parts_from, refusal_after, IsFrameOf, IsLanguageOf}
+use Rattle.voc_read.proofs.Prelude.{◌≡◌, ℕ, ℤ, List, length, Option, Some, None, Result, Ok, Err, refl, ap, ◌∙◌, subst, Language, Given, LangFault, VocFault, Lang, names_refusal, OutlineData, VariableRange, ranges_of, ranges_by, with_ranges, listed_relations, scopes_stated, Parts, outline_refusal, parts_from, refusal_after, IsFrameOf, IsLanguageOf}
 use Rattle.std.proofs.Common.{option_map}
 use Rattle.language.specs.Building as build
 
@@ -11,8 +11,8 @@ pub record AreRead (o : OutlineData) (frame set : build.Frame) (least_value : �
   pub least : least_value ≡ frame.least_value
   pub count : value_count ≡ frame.value_count
   pub ranges : ranges_of least_value value_count o.names o.ranges ≡ Ok found
-  pub relations : given_of least_value value_count o.relations ≡ Ok given
-  pub scopes : scopes_of o.names o.listed ≡ Ok listed
+  pub relations : listed_relations least_value value_count o.relations ≡ Ok given
+  pub scopes : scopes_stated o.names o.listed ≡ Ok listed
   pub sets : set ≡ with_ranges frame found
 
 module _ (o : OutlineData) (frame set : build.Frame) (least_value : ℤ) (value_count : ℕ) (found : List VariableRange) (given : List Given) (listed : Option (List (List ℕ)))
@@ -33,8 +33,8 @@ module _ (o : OutlineData) (frame set : build.Frame) (least_value : ℤ) (value_
       let many : value_count ≡ values = read.count ∙ read.framed.value_count in
       let ranges : ranges_of o.least_value values o.names o.ranges ≡ Ok found =
       subst (λ n. ranges_of o.least_value n o.names o.ranges ≡ Ok found) many (subst (λ x. ranges_of x value_count o.names o.ranges ≡ Ok found) low read.ranges) in
-      let relations : given_of o.least_value values o.relations ≡ Ok given =
-      subst (λ n. given_of o.least_value n o.relations ≡ Ok given) many (subst (λ x. given_of x value_count o.relations ≡ Ok given) low read.relations) in
+      let relations : listed_relations o.least_value values o.relations ≡ Ok given =
+      subst (λ n. listed_relations o.least_value n o.relations ≡ Ok given) many (subst (λ x. listed_relations x value_count o.relations ≡ Ok given) low read.relations) in
       rw (read.named, read.outlined, ranges, relations, read.scopes) refl
 
   no_fault : (fault : Option LangFault) → option_map Lang fault ≡ None → fault ≡ None
@@ -87,15 +87,15 @@ module _ (o : OutlineData) (frame : build.Frame) (least_value : ℤ) (value_coun
       let here = same_values (λ x n. ranges_of x n o.names o.ranges) (Err fault) refused in
       rw (named, outlined, here) refl
 
-  pub relations_refused : (found : List VariableRange) → ranges_of least_value value_count o.names o.ranges ≡ Ok found → given_of least_value value_count o.relations ≡ Err fault → refusal_after (parts_from o) ≡ Some fault
+  pub relations_refused : (found : List VariableRange) → ranges_of least_value value_count o.names o.ranges ≡ Ok found → listed_relations least_value value_count o.relations ≡ Err fault → refusal_after (parts_from o) ≡ Some fault
   relations_refused found ranges refused =
       let before = same_values (λ x n. ranges_of x n o.names o.ranges) (Ok found) ranges in
-      let here = same_values (λ x n. given_of x n o.relations) (Err fault) refused in
+      let here = same_values (λ x n. listed_relations x n o.relations) (Err fault) refused in
       rw (named, outlined, before, here) refl
 
-  pub scopes_refused : (found : List VariableRange) (given : List Given) → ranges_of least_value value_count o.names o.ranges ≡ Ok found → given_of least_value value_count o.relations ≡ Ok given →
-      scopes_of o.names o.listed ≡ Err fault → refusal_after (parts_from o) ≡ Some fault
+  pub scopes_refused : (found : List VariableRange) (given : List Given) → ranges_of least_value value_count o.names o.ranges ≡ Ok found → listed_relations least_value value_count o.relations ≡ Ok given →
+      scopes_stated o.names o.listed ≡ Err fault → refusal_after (parts_from o) ≡ Some fault
   scopes_refused found given ranges relations refused =
       let before = same_values (λ x n. ranges_of x n o.names o.ranges) (Ok found) ranges in
-      let between = same_values (λ x n. given_of x n o.relations) (Ok given) relations in
+      let between = same_values (λ x n. listed_relations x n o.relations) (Ok given) relations in
       rw (named, outlined, before, between, refused) refl

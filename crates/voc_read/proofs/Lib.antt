@@ -7,7 +7,6 @@ pub mod Widths
 pub mod RelationSteps
 pub mod TokenCounts
 pub mod ReadSizes
-pub mod TextsRead
 pub mod RelationNames
 pub mod ScopeSteps
 pub mod RangeSteps

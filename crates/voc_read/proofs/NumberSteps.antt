@@ -1,16 +1,16 @@
 -- One name more of a scope is looked up.
-use Rattle.voc_read.proofs.Prelude.{◌≡◌, ℕ, suc, ◌+◌, ◌<◌, ◌++◌, List, [], ◌∷◌, length, drop, get_or, Option, Some, None, option_and_then, Bor, refl, sym, ap, ◌∙◌, append_assoc, arith, ok_or, Ok, Err, drop-cons, VocFault, number_of, numbers_of, texts_of}
+use Rattle.voc_read.proofs.Prelude.{◌≡◌, ℕ, suc, ◌+◌, ◌<◌, ◌++◌, List, [], ◌∷◌, length, drop, get_or, Option, Some, None, option_and_then, Bor, refl, sym, ap, ◌∙◌, append_assoc, arith, ok_or, Ok, Err, drop-cons, VocFault, variable_number, numbers_of, texts_of}
 use Rattle.std.proofs.Common.{option_map}
 
 -- the numbers from name j on
 from_here : (names : List (List ℕ)) (listed : List (Bor (List ℕ))) (j : ℕ) (d : Bor (List ℕ)) → j < length listed
-    → numbers_of names (texts_of (drop j listed)) ≡ option_and_then (λ v. option_map (λ vs. v ∷ vs) (numbers_of names (texts_of (drop (j + 1) listed)))) (number_of names (get_or listed j d).now)
+    → numbers_of names (texts_of (drop j listed)) ≡ option_and_then (λ v. option_map (λ vs. v ∷ vs) (numbers_of names (texts_of (drop (j + 1) listed)))) (variable_number names (get_or listed j d).now)
 from_here names listed j d within =
     let next : j + 1 ≡ suc j = omega arith in
     rw next (ap (λ rest. numbers_of names (texts_of rest)) (drop-cons listed j d within))
 
 pub unknown : (names : List (List ℕ)) (listed : List (Bor (List ℕ))) (j : ℕ) (d : Bor (List ℕ)) (before : List ℕ) (whole : Option (List ℕ)) → j < length listed
-    → number_of names (get_or listed j d).now ≡ None → option_map (λ more. before ++ more) (numbers_of names (texts_of (drop j listed))) ≡ whole → whole ≡ None
+    → variable_number names (get_or listed j d).now ≡ None → option_map (λ more. before ++ more) (numbers_of names (texts_of (drop j listed))) ≡ whole → whole ≡ None
 unknown names listed j d before whole within none so_far =
     let rest = numbers_of names (texts_of (drop (j + 1) listed)) in
     sym so_far ∙ ap (λ o. option_map (λ more. before ++ more) o) (from_here names listed j d within)
@@ -21,7 +21,7 @@ put_behind None before v = refl
 put_behind (Some vs) before v = ap Some (sym (append_assoc before (v ∷ []) vs))
 
 pub one_more : (names : List (List ℕ)) (listed : List (Bor (List ℕ))) (j : ℕ) (d : Bor (List ℕ)) (before : List ℕ) (v : ℕ) (whole : Option (List ℕ)) → j < length listed
-    → number_of names (get_or listed j d).now ≡ Some v → option_map (λ more. before ++ more) (numbers_of names (texts_of (drop j listed))) ≡ whole
+    → variable_number names (get_or listed j d).now ≡ Some v → option_map (λ more. before ++ more) (numbers_of names (texts_of (drop j listed))) ≡ whole
     → option_map (λ more. (before ++ v ∷ []) ++ more) (numbers_of names (texts_of (drop (j + 1) listed))) ≡ whole
 one_more names listed j d before v whole within some so_far =
     let rest = numbers_of names (texts_of (drop (j + 1) listed)) in

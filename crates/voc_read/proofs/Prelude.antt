@@ -30,6 +30,7 @@ pub use Rattle.rel_formula.specs.Formula.{Term, Truth, first_too_big, is_true, s
 pub use Rattle.rel_formula.specs.Reading.{formula_in, limit_refusal, read_term, read_term_call, read_terms, read_truth, read_truth_call, read_truths, text_term, text_truth, truth_by}
 pub use Rattle.rel_formula.specs.declared.fault.FormulaFault.{FormulaFault}
 pub use Rattle.rel_formula.specs.declared.fault.TableOfFault.TheVariants.{TooBig}
+pub use Rattle.rel_formula.specs.Json.{json_of}
 pub use Rattle.rel_table.proofs.Growing.{closing_more, cons_cases, contains_map, grown, image_of, meet_comm, no_longer, one_given, wider}
 pub use Rattle.rel_table.specs.Made.{IsMade, Marks, arity_of, first_fault, is_shown, lists, place_of_shown, refusal_of, size_for, tuple_fault}
 pub use Rattle.rel_table.specs.Relation.{IsClosing, IsIntersection, Relation, is_above, meet, tuples}
@@ -42,18 +43,18 @@ pub use Rattle.serde_json.specs.View.{items_view, members_view, view}
 pub use Rattle.serde_json.specs.declared.value.Value.{Value}
 pub use Rattle.voc_read.specs.Answers.{then_on, unless}
 pub use Rattle.voc_read.specs.Keys.{has_other_key, is_known, keys_refusal, under}
-pub use Rattle.voc_read.specs.Laws.{EachIsReadOrRefused, NoTwoLanguages}
-pub use Rattle.voc_read.specs.Names.{first_bad, first_repeat, names_refusal, number_of}
+pub use Rattle.voc_read.specs.Laws.{EachVocabularyIsReadOrRefused, NoTwoLanguages}
+pub use Rattle.voc_read.specs.Names.{first_bad, first_repeat, names_refusal, variable_number}
 unfoldable pub use Rattle.voc_read.specs.Names.{repeat_after}
 pub use Rattle.voc_read.specs.Outline.{HeldData, OutlineData, held_by, is_all, listed_items, listed_under, outline_data, outline_of, ranges_under, vocabulary_keys}
-pub use Rattle.voc_read.specs.Ranges.{AreApart, HasWholeRanges, IsKnown, RangeData, VariableRange, bounds_refusal, is_value, named_range, range_data, range_for, range_of, ranged_names, ranges_by, ranges_from, ranges_of, ranges_refusal, stated_by, values_for, with_ranges}
-pub use Rattle.voc_read.specs.Relations.{IsNamed, RelationData, counted_arity, given_names, given_of, made_of, name_refusal, relation_data, relation_keys, relation_names_refusal, relation_of, relations_from, small_arity}
-pub use Rattle.voc_read.specs.Rules.{RuleData, accepting, formula, formula_of, one_of, relation_by, relation_of_tuples, rule_in, stated_under, tuples as tuples_data}
-pub use Rattle.voc_read.specs.Scopes.{numbers_of, scope_of, scopes_from, scopes_of}
+pub use Rattle.voc_read.specs.Ranges.{HaveDistinctVariables, HasWholeRanges, IsKnown, RangeData, VariableRange, bounds_refusal, is_value, named_range, range_data, range_for, range_stated, ranged_names, ranges_by, ranges_from, ranges_of, ranges_refusal, range_stated_by, values_for, with_ranges}
+pub use Rattle.voc_read.specs.Relations.{IsNamed, RelationData, counted_arity, given_names, listed_relations, made_of, name_refusal, relation_data, relation_keys, relation_names_refusal, relation_stated, relations_from, small_arity}
+pub use Rattle.voc_read.specs.Rules.{RuleData, accepting, formula, rule_formula, one_of, relation_of_rule, relation_of_tuples, rule_in, stated_under, tuples as tuples_data}
+pub use Rattle.voc_read.specs.Scopes.{numbers_of, scope_stated, scopes_from, scopes_stated}
 pub use Rattle.voc_read.specs.Texts.{texts_of}
 pub use Rattle.voc_read.specs.Values.{each_of, number_list, number_pair, text_list, tuple_list, whole_number}
-pub use Rattle.voc_read.specs.Vocabulary.{IsFrameOf, IsLanguageOf, IsVocabulary, MOST_VOCABULARY, Parts, frame_of, json_of, outline_refusal, parts_from, parts_in, refusal_after}
-unfoldable pub use Rattle.voc_read.specs.Vocabulary.{parts_of, refusal_of_vocabulary}
+pub use Rattle.voc_read.specs.Vocabulary.{IsFrameOf, IsLanguageOf, IsVocabulary, MOST_VOCABULARY, Parts, frame_of, outline_refusal, parts_from, parts_in, refusal_after}
+unfoldable pub use Rattle.voc_read.specs.Vocabulary.{vocabulary_parts, refusal_of_vocabulary}
 pub use Rattle.voc_read.specs.Want.{formula_wants, lang_wants, table_wants, wants_memory}
 pub use Rattle.voc_read.specs.Widest.{items_widest, members_widest, widest, widest_in}
 pub use Rattle.voc_read.specs.declared.fault.VocFault.{VocFault}

@@ -1,9 +1,9 @@
 -- What an array states as a range, and one range more that is read.
-use Rattle.voc_read.proofs.Prelude.{◌≡◌, ◌≢◌, ℕ, ℤ, suc, ◌+◌, ◌<◌, ◌≤◌, ◌++◌, List, [], ◌∷◌, length, drop, get_or, map, None, Result, Ok, Err, refl, sym, ap, ◌∙◌, append_assoc, arith, drop-cons, append-nil, at_drop_all, map-append, view, items_view, Value, VocFault, NamedRange, then_on, VariableRange, stated_by, named_range, range_of, ranges_from}
+use Rattle.voc_read.proofs.Prelude.{◌≡◌, ◌≢◌, ℕ, ℤ, suc, ◌+◌, ◌<◌, ◌≤◌, ◌++◌, List, [], ◌∷◌, length, drop, get_or, map, None, Result, Ok, Err, refl, sym, ap, ◌∙◌, append_assoc, arith, drop-cons, append-nil, at_drop_all, map-append, view, items_view, Value, VocFault, NamedRange, then_on, VariableRange, range_stated_by, named_range, range_stated, ranges_from}
 
 -- ---- a range
 
-pub not_three : (list : List Value) → length list ≢ 3 → stated_by (items_view list) ≡ None
+pub not_three : (list : List Value) → length list ≢ 3 → range_stated_by (items_view list) ≡ None
 not_three [] other = refl
 not_three (name ∷ []) other = refl
 not_three (name ∷ lowest ∷ []) other = refl
@@ -19,7 +19,7 @@ put_behind (Ok more) before range = ap Ok (sym (append_assoc before (range ∷ [
 put_behind (Err fault) before range = refl
 
 pub reads_one_more : (i : ℕ) (lo : ℤ) (count : ℕ) (names : List (List ℕ)) (list : List Value) (value : Value) (before : List NamedRange) (range : NamedRange) (whole : Result (List VariableRange) VocFault)
-    → i < length list → value ≡ get_or list i value → range_of i lo count names (view value) ≡ Ok (named_range range)
+    → i < length list → value ≡ get_or list i value → range_stated i lo count names (view value) ≡ Ok (named_range range)
     → then_on (ranges_from i lo count names (items_view (drop i list))) (λ more. Ok (map named_range before ++ more)) ≡ whole
     → then_on (ranges_from (i + 1) lo count names (items_view (drop (i + 1) list))) (λ more. Ok (map named_range (before ++ range ∷ []) ++ more)) ≡ whole
 reads_one_more i lo count names list value before range whole within is read so_far =
@@ -33,7 +33,7 @@ reads_one_more i lo count names list value before range whole within is read so_
 
 -- a range that isn't read ends the reading
 pub reads_no_more : (i : ℕ) (lo : ℤ) (count : ℕ) (names : List (List ℕ)) (list : List Value) (value : Value) (before : List NamedRange) (fault : VocFault) (whole : Result (List VariableRange) VocFault)
-    → i < length list → value ≡ get_or list i value → range_of i lo count names (view value) ≡ Err fault
+    → i < length list → value ≡ get_or list i value → range_stated i lo count names (view value) ≡ Err fault
     → then_on (ranges_from i lo count names (items_view (drop i list))) (λ more. Ok (map named_range before ++ more)) ≡ whole → whole ≡ Err fault
 reads_no_more i lo count names list value before fault whole within is refused so_far =
     let next : i + 1 ≡ suc i = omega arith in

@@ -1,5 +1,5 @@
 -- The values of each variable, one range more at a time.
-use Rattle.voc_read.proofs.Prelude.{◌≡◌, ◌≢◌, ℕ, ℤ, ◌+◌, ◌<◌, ◌++◌, ◌==◌, true, false, cond, List, [], ◌∷◌, length, take, get_or, sym, ap, ◌∙◌, subst, arith, inl, inr, ◌⊎◌, All, slice_set, replicate, take_more, length-take, get_or-take, get_or_default, ext_get_or, get_or-set_same, get_or-set_other, get_or-replicate, length-replicate, All-head, All-tail, length-map-range_with_len, get_or-map-range_with_len, ne_eqb, cases_eq, whole_range, Frame, range_between, ValueRange, VariableRange, values_for, ranges_by, with_ranges, HasWholeRanges, IsKnown, AreApart}
+use Rattle.voc_read.proofs.Prelude.{◌≡◌, ◌≢◌, ℕ, ℤ, ◌+◌, ◌<◌, ◌++◌, ◌==◌, true, false, cond, List, [], ◌∷◌, length, take, get_or, sym, ap, ◌∙◌, subst, arith, inl, inr, ◌⊎◌, All, slice_set, replicate, take_more, length-take, get_or-take, get_or_default, ext_get_or, get_or-set_same, get_or-set_other, get_or-replicate, length-replicate, All-head, All-tail, length-map-range_with_len, get_or-map-range_with_len, ne_eqb, cases_eq, whole_range, Frame, range_between, ValueRange, VariableRange, values_for, ranges_by, with_ranges, HasWholeRanges, IsKnown, HaveDistinctVariables}
 use Rattle.std.proofs.Math.ListN.{length-set}
 use Rattle.voc_read.proofs.KnownRanges.{numbered}
 
@@ -85,7 +85,7 @@ goes_on frame old new before range so_far sets known apart = λ i. record {
 -- ---- ranges set in order
 
 -- no earlier one is of its variable
-apart_before : (ranges : List VariableRange) (i : ℕ) (d : VariableRange) → AreApart ranges → i < length ranges → All (λ (r : VariableRange). r.variable ≢ (get_or ranges i d).variable) (take i ranges)
+apart_before : (ranges : List VariableRange) (i : ℕ) (d : VariableRange) → HaveDistinctVariables ranges → i < length ranges → All (λ (r : VariableRange). r.variable ≢ (get_or ranges i d).variable) (take i ranges)
 apart_before ranges i d apart within = λ k e low same.
     let above : k < i = grind (arith, length-take) in
     apart k i e above within (ap (λ (r : VariableRange). r.variable) (sym (get_or-take i ranges k e above)) ∙ same ∙ ap (λ (r : VariableRange). r.variable) (get_or_default ranges i d e within))
@@ -97,7 +97,7 @@ known_at frame old ranges before i d so_far within known =
     subst P (sym so_far) (known i d within)
 
 pub one_more : (frame old new : Frame) (ranges : List VariableRange) (i : ℕ) (d : VariableRange) → i < length ranges
-    → All (IsKnown frame.names frame.least_value frame.value_count) ranges → AreApart ranges → old ≡ with_ranges frame (take i ranges) → Sets old new (get_or ranges i d)
+    → All (IsKnown frame.names frame.least_value frame.value_count) ranges → HaveDistinctVariables ranges → old ≡ with_ranges frame (take i ranges) → Sets old new (get_or ranges i d)
     → new ≡ with_ranges frame (take (i + 1) ranges)
 one_more frame old new ranges i d within known apart so_far sets =
     goes_on frame old new (take i ranges) (get_or ranges i d) so_far sets (numbered frame.names _ _ (known i d within).numbered).0 (apart_before ranges i d apart within)

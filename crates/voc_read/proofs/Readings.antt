@@ -1,5 +1,5 @@
 -- What holds of each relation that is read.
-use Rattle.voc_read.proofs.Prelude.{◌≡◌, ℕ, ◌+◌, ◌^◌, ◌≤◌, Bool, true, false, cond, ◌&&◌, nat_le, nat_eq, List, [], ◌∷◌, length, map, Option, Some, None, ℤ, pos, negsuc, Result, Ok, Err, refl, ◌∙◌, All, list_all, list_any, option_map, leb-true, and_from, length-map, All-nil, All-cons, All-head, All-tail, All-weaker, length-map-range_with_len, Relation, tuples, size_for, first_fault, place_of_shown, is_true, shown_tuple, first_too_big, formula_in, TooBig, Items, no_items, item, Given, is_name, AreNames, VocFault, BadRelName, RelRepeated, Table, TableOf, then_on, unless, first_repeat, RuleData, tuples_data, formula, accepting, formula_of, relation_by, RelationData, relation_data, counted_arity, small_arity, made_of, relation_of, relations_from, given_names, relation_names_refusal, given_of}
+use Rattle.voc_read.proofs.Prelude.{◌≡◌, ℕ, ◌+◌, ◌^◌, ◌≤◌, Bool, true, false, cond, ◌&&◌, nat_le, nat_eq, List, [], ◌∷◌, length, map, Option, Some, None, ℤ, pos, negsuc, Result, Ok, Err, refl, ◌∙◌, All, list_all, list_any, option_map, leb-true, and_from, length-map, All-nil, All-cons, All-head, All-tail, All-weaker, length-map-range_with_len, Relation, tuples, size_for, first_fault, place_of_shown, is_true, shown_tuple, first_too_big, formula_in, TooBig, Items, no_items, item, Given, is_name, AreNames, VocFault, BadRelName, RelRepeated, Table, TableOf, then_on, unless, first_repeat, RuleData, tuples_data, formula, accepting, rule_formula, relation_of_rule, RelationData, relation_data, counted_arity, small_arity, made_of, relation_stated, relations_from, given_names, relation_names_refusal, listed_relations}
 use Rattle.rel_table.specs.declared.table.TableFault.TheVariants.{TooLarge}
 use Rattle.rel_table.proofs.PlaceLemmas.{length-tuples}
 use Rattle.voc_read.specs.declared.fault.Spot.TheVariants as spot
@@ -38,12 +38,12 @@ fitting : (i d : ℕ) (arity : ℤ) → OfOk (λ n. d ^ n ≤ 65536) (small_arit
 fitting i d (pos a) = by_arity i d a (nat_le 1 a && nat_le a 4)
 fitting i d (negsuc a) = tt
 
-sized : (i : ℕ) (lo : ℤ) (d a : ℕ) (rule : RuleData (List (List ℤ))) → OfOk (λ (r : Relation). length r ≡ d ^ a) (relation_by i lo d a rule)
+sized : (i : ℕ) (lo : ℤ) (d a : ℕ) (rule : RuleData (List (List ℤ))) → OfOk (λ (r : Relation). length r ≡ d ^ a) (relation_of_rule i lo d a rule)
 sized i lo d a (tuples_data given) =
     unrefused (λ (r : Relation). length r ≡ d ^ a) (option_map (Table i) (first_fault a lo d 0 given)) (Ok (accepting lo d a given))
     (length-map-range_with_len (λ at. list_any (λ tuple. nat_eq (place_of_shown lo d tuple) at) given) 0 (d ^ a))
 sized i lo d a (formula value) =
-    after (λ (r : Relation). length r ≡ d ^ a) (formula_of i (formula_in a value)) _ (λ truth.
+    after (λ (r : Relation). length r ≡ d ^ a) (rule_formula i (formula_in a value)) _ (λ truth.
     unrefused (λ (r : Relation). length r ≡ d ^ a) (option_map (λ place. TableOf i (TooBig place)) (first_too_big truth a lo d)) _
     (length-map (tuples d a) (λ tuple. is_true (shown_tuple lo tuple) truth) ∙ length-tuples d a))
 
@@ -61,7 +61,7 @@ made : (i : ℕ) (lo : ℤ) (d : ℕ) (stated : RelationData) → OfOk (IsGiven 
 made i lo d stated =
     when_named d i stated.name _ (is_name stated.name) refl (λ named.
     after_such (λ n. d ^ n ≤ 65536) (IsGiven d) (small_arity i d stated.arity) _ (fitting i d stated.arity) (λ arity fits.
-    after_such (λ (r : Relation). length r ≡ d ^ arity) (IsGiven d) (relation_by i lo d arity stated.rule) _ (sized i lo d arity stated.rule) (λ relation long.
+    after_such (λ (r : Relation). length r ≡ d ^ arity) (IsGiven d) (relation_of_rule i lo d arity stated.rule) _ (sized i lo d arity stated.rule) (λ relation long.
     record { right = record { sized = long; fits = fits }; named = named })))
 
 -- ---- All of them
@@ -75,7 +75,7 @@ one_more d (Ok g) (Ok more) x y = All-cons (IsGiven d) g more x y
 each : (i : ℕ) (lo : ℤ) (d : ℕ) (items : Items) → OfOk (All (IsGiven d)) (relations_from i lo d items)
 each i lo d no_items = All-nil (IsGiven d)
 each i lo d (item value values) =
-    one_more d (relation_of i lo d value) (relations_from (i + 1) lo d values) (after (IsGiven d) (relation_data (spot.Relation i) value) (made_of i lo d) (made i lo d)) (each (i + 1) lo d values)
+    one_more d (relation_stated i lo d value) (relations_from (i + 1) lo d values) (after (IsGiven d) (relation_data (spot.Relation i) value) (made_of i lo d) (made i lo d)) (each (i + 1) lo d values)
 
 all_named : (given : List Given) → All (λ (g : Given). is_name g.name ≡ true) given → list_all is_name (given_names given) ≡ true
 all_named [] h = refl
@@ -103,6 +103,6 @@ when_apart : (d : ℕ) (given : List Given) (refusal : Option VocFault) → rela
 when_apart d given None none all = are_given d given all none
 when_apart d given (Some fault) some all = tt
 
-pub given_right : (lo : ℤ) (d : ℕ) (items : Items) → OfOk (AreGiven d) (given_of lo d items)
+pub given_right : (lo : ℤ) (d : ℕ) (items : Items) → OfOk (AreGiven d) (listed_relations lo d items)
 given_right lo d items =
     after_such (All (IsGiven d)) (AreGiven d) (relations_from 0 lo d items) _ (each 0 lo d items) (λ given all. when_apart d given (relation_names_refusal given) refl all)

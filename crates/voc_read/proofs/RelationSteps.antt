@@ -1,5 +1,5 @@
 -- One relation more is read.
-use Rattle.voc_read.proofs.Prelude.{◌≡◌, ℕ, ℤ, suc, ◌+◌, ◌<◌, ◌≤◌, ◌++◌, List, [], ◌∷◌, length, drop, get_or, map, Result, Ok, Err, refl, sym, ap, ◌∙◌, append_assoc, arith, drop-cons, append-nil, at_drop_all, map-append, view, items_view, Value, Given, given_by, RelPart, VocFault, then_on, relation_of, relations_from}
+use Rattle.voc_read.proofs.Prelude.{◌≡◌, ℕ, ℤ, suc, ◌+◌, ◌<◌, ◌≤◌, ◌++◌, List, [], ◌∷◌, length, drop, get_or, map, Result, Ok, Err, refl, sym, ap, ◌∙◌, append_assoc, arith, drop-cons, append-nil, at_drop_all, map-append, view, items_view, Value, Given, given_by, RelPart, VocFault, then_on, relation_stated, relations_from}
 
 -- it stands behind those that were read before
 put_behind : (rest : Result (List Given) VocFault) (before : List Given) (g : Given)
@@ -8,7 +8,7 @@ put_behind (Ok more) before g = ap Ok (sym (append_assoc before (g ∷ []) more)
 put_behind (Err fault) before g = refl
 
 pub reads_one_more : (i : ℕ) (lo : ℤ) (count : ℕ) (list : List Value) (value : Value) (before : List RelPart) (relation : RelPart) (whole : Result (List Given) VocFault)
-    → i < length list → value ≡ get_or list i value → relation_of i lo count (view value) ≡ Ok (given_by relation)
+    → i < length list → value ≡ get_or list i value → relation_stated i lo count (view value) ≡ Ok (given_by relation)
     → then_on (relations_from i lo count (items_view (drop i list))) (λ more. Ok (map given_by before ++ more)) ≡ whole
     → then_on (relations_from (i + 1) lo count (items_view (drop (i + 1) list))) (λ more. Ok (map given_by (before ++ relation ∷ []) ++ more)) ≡ whole
 reads_one_more i lo count list value before relation whole within is read so_far =
@@ -22,7 +22,7 @@ reads_one_more i lo count list value before relation whole within is read so_far
 
 -- a relation that isn't read ends the reading
 pub reads_no_more : (i : ℕ) (lo : ℤ) (count : ℕ) (list : List Value) (value : Value) (before : List RelPart) (fault : VocFault) (whole : Result (List Given) VocFault)
-    → i < length list → value ≡ get_or list i value → relation_of i lo count (view value) ≡ Err fault
+    → i < length list → value ≡ get_or list i value → relation_stated i lo count (view value) ≡ Err fault
     → then_on (relations_from i lo count (items_view (drop i list))) (λ more. Ok (map given_by before ++ more)) ≡ whole → whole ≡ Err fault
 reads_no_more i lo count list value before fault whole within is refused so_far =
     let next : i + 1 ≡ suc i = omega arith in

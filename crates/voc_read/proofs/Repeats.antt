@@ -1,5 +1,6 @@
 -- The names that a table of numbers holds, one more at a time.
 use Rattle.voc_read.proofs.Prelude.{◌≡◌, ℕ, zero, suc, ◌+◌, ◌<◌, ◌≤◌, ◌++◌, ◌||◌, true, false, not, cond, Bool, Option, List, [], ◌∷◌, length, take, drop, get_or, Some, None, Bor, refl, sym, ap, ap₂, ◌∙◌, arith, drop-cons, take_more, length-take, length-map, get_or-map, position, list_any, position_or_len, bytes_eq, repeat_after, texts_of}
+use Rattle.std.proofs.lemmas.List.{drop_all}
 
 any_text : (text : List ℕ) (keys : List (Bor (List ℕ))) → list_any (λ key. bytes_eq text key.now) keys ≡ list_any (bytes_eq text) (texts_of keys)
 any_text text [] = refl
@@ -45,17 +46,11 @@ goes_on keys names j d within seen new =
     let more : take (j + 1) (texts_of names) ≡ take j (texts_of names) ++ (get_or names j d).now ∷ [] = take_more (texts_of names) j d.now inside ∙ ap (λ text. take j (texts_of names) ++ text ∷ []) here in
     (texts_of-append keys (get_or names j d) ∙ ap (λ texts. texts ++ (get_or names j d).now ∷ []) seen ∙ sym more, rw (from_here names j d within, new_in, texts_of-append keys (get_or names j d)) refl)
 
-drop_past : {X : Type 0} (xs : List X) (j : ℕ) → length xs ≤ j → drop j xs ≡ []
-drop_past [] zero h = refl
-drop_past [] (suc j) h = refl
-drop_past (x ∷ xs) zero h = absurd (omega arith)
-drop_past (x ∷ xs) (suc j) h = drop_past xs j (omega arith)
-
 -- no name is left
 pub all_are_new : (keys names : List (Bor (List ℕ))) (j : ℕ) → length names ≤ j → repeat_after (texts_of keys) (drop j (texts_of names)) ≡ None
 unfolding repeat_after
 all_are_new keys names j past =
-    let none : drop j (texts_of names) ≡ [] = drop_past (texts_of names) j (rw (length-map names (λ (name : Bor (List ℕ)). name.now)) past) in
+    let none : drop j (texts_of names) ≡ [] = drop_all j (texts_of names) (rw (length-map names (λ (name : Bor (List ℕ)). name.now)) past) in
     rw none refl
 
 count : (keys : List (Bor (List ℕ))) → length keys ≡ length (texts_of keys)

@@ -1,5 +1,5 @@
 -- One scope more is read.
-use Rattle.voc_read.proofs.Prelude.{◌≡◌, ℕ, suc, ◌+◌, ◌<◌, ◌≤◌, ◌++◌, List, [], ◌∷◌, length, drop, get_or, map, Result, Ok, Err, refl, sym, ap, ◌∙◌, append_assoc, arith, drop-cons, append-nil, at_drop_all, map-append, view, items_view, Value, VocFault, then_on, scope_of, scopes_from}
+use Rattle.voc_read.proofs.Prelude.{◌≡◌, ℕ, suc, ◌+◌, ◌<◌, ◌≤◌, ◌++◌, List, [], ◌∷◌, length, drop, get_or, map, Result, Ok, Err, refl, sym, ap, ◌∙◌, append_assoc, arith, drop-cons, append-nil, at_drop_all, map-append, view, items_view, Value, VocFault, then_on, scope_stated, scopes_from}
 use Rattle.smallvec.specs.SmallVec.{SmallVec}
 
 abbrev pub Listed : Type 0
@@ -15,7 +15,7 @@ put_behind (Ok more) before scope = ap Ok (sym (append_assoc before (scope ∷ [
 put_behind (Err fault) before scope = refl
 
 pub reads_one_more : (i : ℕ) (names : List (List ℕ)) (list : List Value) (value : Value) (before : List Listed) (scope : Listed) (whole : Result (List (List ℕ)) VocFault)
-    → i < length list → value ≡ get_or list i value → scope_of i names (view value) ≡ Ok scope.items
+    → i < length list → value ≡ get_or list i value → scope_stated i names (view value) ≡ Ok scope.items
     → then_on (scopes_from i names (items_view (drop i list))) (λ more. Ok (variables before ++ more)) ≡ whole
     → then_on (scopes_from (i + 1) names (items_view (drop (i + 1) list))) (λ more. Ok (variables (before ++ scope ∷ []) ++ more)) ≡ whole
 reads_one_more i names list value before scope whole within is read so_far =
@@ -29,7 +29,7 @@ reads_one_more i names list value before scope whole within is read so_far =
 
 -- a scope that isn't read ends the reading
 pub reads_no_more : (i : ℕ) (names : List (List ℕ)) (list : List Value) (value : Value) (before : List Listed) (fault : VocFault) (whole : Result (List (List ℕ)) VocFault)
-    → i < length list → value ≡ get_or list i value → scope_of i names (view value) ≡ Err fault
+    → i < length list → value ≡ get_or list i value → scope_stated i names (view value) ≡ Err fault
     → then_on (scopes_from i names (items_view (drop i list))) (λ more. Ok (variables before ++ more)) ≡ whole → whole ≡ Err fault
 reads_no_more i names list value before fault whole within is refused so_far =
     let next : i + 1 ≡ suc i = omega arith in

@@ -55,9 +55,9 @@ evaluation_text (evaluation.TooBig p) = codes "value too big " ++ decimal p
 evaluation_text evaluation.Memory = codes "memory"
 
 -- why relations have no closing
-abbrev pub closing_text : CloseFault → List ℕ
-closing_text (closing.TooMany arity) = codes "too many relations " ++ decimal arity
-closing_text closing.Memory = codes "memory"
+abbrev pub close_fault_text : CloseFault → List ℕ
+close_fault_text (closing.TooMany arity) = codes "too many relations " ++ decimal arity
+close_fault_text closing.Memory = codes "memory"
 
 -- why there is no language
 abbrev pub lang_text : LangFault → List ℕ
@@ -70,7 +70,7 @@ lang_text lang.TooManyScopes = codes "too many scopes"
 lang_text (lang.ScopeRepeated i j) = codes "scope repeated " ++ pair_text i j
 lang_text (lang.Nested i j) = codes "nested " ++ pair_text i j
 lang_text (lang.NoRelationOfArity i) = codes "no relation of arity " ++ decimal i
-lang_text (lang.Closing fault) = closing_text fault
+lang_text (lang.Closing fault) = close_fault_text fault
 lang_text lang.Memory = codes "memory"
 
 -- why a vocabulary is refused

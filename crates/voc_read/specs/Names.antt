@@ -22,8 +22,8 @@ abbrev pub first_repeat : List (List ℕ) → Option (ℕ × ℕ)
 first_repeat names = repeat_after [] names
 
 -- the number of the variable of this name
-abbrev pub number_of : List (List ℕ) → List ℕ → Option ℕ
-number_of names name = position (bytes_eq name) names
+abbrev pub variable_number : List (List ℕ) → List ℕ → Option ℕ
+variable_number names name = position (bytes_eq name) names
 
 -- why the names of the variables are refused
 abbrev pub names_refusal : List (List ℕ) → Option VocFault

@@ -13,7 +13,7 @@ use Rattle.voc_read.specs.declared.fault.Spot.TheVariants as spot
 use Rattle.voc_read.specs.declared.ranges.StatedRange.{StatedRange}
 use Rattle.voc_read.specs.declared.ranges.NamedRange.{NamedRange}
 use Rattle.voc_read.specs.Answers.{then_on, unless}
-use Rattle.voc_read.specs.Names.{first_repeat, number_of}
+use Rattle.voc_read.specs.Names.{first_repeat, variable_number}
 use Rattle.voc_read.specs.Values.{whole_number}
 
 -- what a range states: the name of a variable, and the lowest and the highest value
@@ -28,16 +28,16 @@ stated_of name lowest highest =
     option_and_then (λ name. option_and_then (λ lowest. option_map (λ highest. record { name = name; lowest = lowest; highest = highest }) (whole_number highest)) (whole_number lowest)) (as_str name)
 
 -- what a list of them states
-abbrev pub stated_by : Items → Option RangeData
-stated_by no_items = None
-stated_by (item name no_items) = None
-stated_by (item name (item lowest no_items)) = None
-stated_by (item name (item lowest (item highest no_items))) = stated_of name lowest highest
-stated_by (item name (item lowest (item highest (item more rest)))) = None
+abbrev pub range_stated_by : Items → Option RangeData
+range_stated_by no_items = None
+range_stated_by (item name no_items) = None
+range_stated_by (item name (item lowest no_items)) = None
+range_stated_by (item name (item lowest (item highest no_items))) = stated_of name lowest highest
+range_stated_by (item name (item lowest (item highest (item more rest)))) = None
 
 -- and an array
 abbrev pub range_data : Data → Option RangeData
-range_data value = option_and_then stated_by (as_array value)
+range_data value = option_and_then range_stated_by (as_array value)
 
 abbrev pub stated_range : StatedRange → RangeData
 stated_range stated = record { name = stated.name.now; lowest = stated.lowest; highest = stated.highest }
@@ -64,20 +64,20 @@ named_range range = record { name = range.name.now; variable = range.variable; l
 -- what is stated for one of these variables, over so many values from the least one on
 abbrev pub range_for : ℕ → ℤ → ℕ → List (List ℕ) → RangeData → Result VariableRange VocFault
 range_for i least_value value_count names stated =
-    then_on (ok_or (number_of names stated.name) (RangeName i)) (λ variable.
+    then_on (ok_or (variable_number names stated.name) (RangeName i)) (λ variable.
     unless (bounds_refusal i least_value value_count stated) (
     Ok (record { name = stated.name; variable = variable; lowest = stated.lowest; highest = stated.highest })))
 
 -- range i
-abbrev pub range_of : ℕ → ℤ → ℕ → List (List ℕ) → Data → Result VariableRange VocFault
-range_of i least_value value_count names value =
+abbrev pub range_stated : ℕ → ℤ → ℕ → List (List ℕ) → Data → Result VariableRange VocFault
+range_stated i least_value value_count names value =
     then_on (ok_or (range_data value) (WrongKind (spot.Range i))) (range_for i least_value value_count names)
 
 -- the ranges from i on
 abbrev pub ranges_from : ℕ → ℤ → ℕ → List (List ℕ) → Items → Result (List VariableRange) VocFault
 ranges_from i least_value value_count names no_items = Ok []
 ranges_from i least_value value_count names (item value values) =
-    then_on (range_of i least_value value_count names value) (λ range.
+    then_on (range_stated i least_value value_count names value) (λ range.
     then_on (ranges_from (i + 1) least_value value_count names values) (λ ranges.
     Ok (range ∷ ranges)))
 
@@ -106,14 +106,14 @@ ranges_by n least_value value_count ranges = map (values_for least_value value_c
 
 -- a range of one of these variables, within the values
 pub record IsKnown (names : List (List ℕ)) (least_value : ℤ) (value_count : ℕ) (range : VariableRange) : Type 0 where
-  pub numbered : number_of names range.name ≡ Some range.variable
+  pub numbered : variable_number names range.name ≡ Some range.variable
   pub some : range.lowest ≤ℤ range.highest
   pub low : least_value ≤ℤ range.lowest
   pub high : range.highest <ℤ (least_value +ℤ pos value_count)
 
 -- no two are of one variable
-abbrev pub AreApart : List VariableRange → Type 0
-AreApart ranges = AllPairs (λ (one other : VariableRange). one.variable ≢ other.variable) ranges
+abbrev pub HaveDistinctVariables : List VariableRange → Type 0
+HaveDistinctVariables ranges = AllPairs (λ (one other : VariableRange). one.variable ≢ other.variable) ranges
 
 -- each variable has all values
 abbrev pub HasWholeRanges : Frame → Type 0

@@ -16,7 +16,7 @@ use Rattle.voc_read.specs.Answers.{then_on, unless}
 use Rattle.voc_read.specs.Keys.{keys_refusal, under}
 use Rattle.voc_read.specs.Names.{first_repeat}
 use Rattle.voc_read.specs.Values.{whole_number}
-use Rattle.voc_read.specs.Rules.{RuleData, stated_under, rule_in, rule_data, relation_by}
+use Rattle.voc_read.specs.Rules.{RuleData, stated_under, rule_in, rule_data, relation_of_rule}
 
 -- a relation as a vocabulary states it
 pub record RelationData : Type 0 where
@@ -60,18 +60,18 @@ abbrev pub made_of : ℕ → ℤ → ℕ → RelationData → Result Given VocFa
 made_of i least_value value_count stated =
     unless (name_refusal i stated.name) (
     then_on (small_arity i value_count stated.arity) (λ arity.
-    then_on (relation_by i least_value value_count arity stated.rule) (λ relation.
+    then_on (relation_of_rule i least_value value_count arity stated.rule) (λ relation.
     Ok (record { name = stated.name; arity = arity; relation = relation }))))
 
 -- what relation i is
-abbrev pub relation_of : ℕ → ℤ → ℕ → Data → Result Given VocFault
-relation_of i least_value value_count value = then_on (relation_data (spot.Relation i) value) (made_of i least_value value_count)
+abbrev pub relation_stated : ℕ → ℤ → ℕ → Data → Result Given VocFault
+relation_stated i least_value value_count value = then_on (relation_data (spot.Relation i) value) (made_of i least_value value_count)
 
 -- what the relations from i on are
 abbrev pub relations_from : ℕ → ℤ → ℕ → Items → Result (List Given) VocFault
 relations_from i least_value value_count no_items = Ok []
 relations_from i least_value value_count (item value values) =
-    then_on (relation_of i least_value value_count value) (λ relation.
+    then_on (relation_stated i least_value value_count value) (λ relation.
     then_on (relations_from (i + 1) least_value value_count values) (λ relations.
     Ok (relation ∷ relations)))
 
@@ -88,6 +88,6 @@ abbrev pub relation_names_refusal : List Given → Option VocFault
 relation_names_refusal given = option_map (λ pair. RelRepeated pair.0 pair.1) (first_repeat (given_names given))
 
 -- relations over so many values from the least one on, no two of one name
-abbrev pub given_of : ℤ → ℕ → Items → Result (List Given) VocFault
-given_of least_value value_count relations =
+abbrev pub listed_relations : ℤ → ℕ → Items → Result (List Given) VocFault
+listed_relations least_value value_count relations =
     then_on (relations_from 0 least_value value_count relations) (λ given. unless (relation_names_refusal given) (Ok given))

@@ -7,7 +7,7 @@ use Rattle.serde_json.specs.Find.{get}
 use Rattle.serde_json.specs.View.{view}
 use Rattle.rel_table.specs.Relation.{Relation}
 use Rattle.rel_table.specs.Made.{place_of_shown, first_fault, lists}
-use Rattle.rel_formula.specs.Formula.{Truth, first_too_big, relation_of}
+use Rattle.rel_formula.specs.Formula.{Truth, first_too_big, relation_from_formula}
 use Rattle.rel_formula.specs.Reading.{formula_in}
 use Rattle.rel_formula.specs.declared.fault.FormulaFault.{FormulaFault}
 use Rattle.rel_formula.specs.declared.fault.TableOfFault.TheVariants.{TooBig}
@@ -71,18 +71,18 @@ relation_of_tuples i least_value value_count arity given =
     unless (option_map (Table i) (first_fault arity least_value value_count 0 given)) (Ok (accepting least_value value_count arity given))
 
 -- the formula of relation i
-abbrev pub formula_of : ℕ → Result Truth FormulaFault → Result Truth VocFault
-formula_of i (Ok truth) = Ok truth
-formula_of i (Err fault) = Err (Formula i fault)
+abbrev pub rule_formula : ℕ → Result Truth FormulaFault → Result Truth VocFault
+rule_formula i (Ok truth) = Ok truth
+rule_formula i (Err fault) = Err (Formula i fault)
 
 -- the relation of a formula, for relation i
 abbrev pub relation_of_formula : ℕ → ℤ → ℕ → ℕ → Data → Result Relation VocFault
 relation_of_formula i least_value value_count arity value =
-    then_on (formula_of i (formula_in arity value)) (λ truth.
+    then_on (rule_formula i (formula_in arity value)) (λ truth.
     unless (option_map (λ place. TableOf i (TooBig place)) (first_too_big truth arity least_value value_count)) (
-    Ok (relation_of truth arity least_value value_count)))
+    Ok (relation_from_formula truth arity least_value value_count)))
 
 -- the relation of a rule, for relation i
-abbrev pub relation_by : ℕ → ℤ → ℕ → ℕ → RuleData (List (List ℤ)) → Result Relation VocFault
-relation_by i least_value value_count arity (tuples given) = relation_of_tuples i least_value value_count arity given
-relation_by i least_value value_count arity (formula value) = relation_of_formula i least_value value_count arity value
+abbrev pub relation_of_rule : ℕ → ℤ → ℕ → ℕ → RuleData (List (List ℤ)) → Result Relation VocFault
+relation_of_rule i least_value value_count arity (tuples given) = relation_of_tuples i least_value value_count arity given
+relation_of_rule i least_value value_count arity (formula value) = relation_of_formula i least_value value_count arity value

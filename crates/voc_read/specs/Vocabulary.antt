@@ -1,7 +1,6 @@
 -- What a vocabulary's bytes mean: the parts of a language, or the first fault.
 use Rattle.std.specs.Prelude.{◌≡◌, ℕ, ℤ, List, length, nat_lt, Option, Some, None, Result, Ok, Err, if◌then◌else◌}
 use Rattle.std.specs.Option.{ok_or, option_map}
-use Rattle.std.specs.Str.{is_utf8}
 use Rattle.serde_json.specs.Data.{Data}
 use Rattle.serde_json.specs.Read.{read}
 use Rattle.language.specs.Language.{Language, Given}
@@ -12,8 +11,9 @@ use Rattle.voc_read.specs.Answers.{then_on, unless}
 use Rattle.voc_read.specs.Names.{names_refusal}
 use Rattle.voc_read.specs.Outline.{OutlineData, held_by, outline_of}
 use Rattle.voc_read.specs.Ranges.{VariableRange, ranges_of, ranges_by, HasWholeRanges}
-use Rattle.voc_read.specs.Relations.{given_of}
-use Rattle.voc_read.specs.Scopes.{scopes_of}
+use Rattle.voc_read.specs.Relations.{listed_relations}
+use Rattle.voc_read.specs.Scopes.{scopes_stated}
+use Rattle.rel_formula.specs.Json.{json_of}
 
 -- the parts that a language is built of
 pub record Parts : Type 0 where
@@ -43,25 +43,21 @@ parts_from outline =
     unless (names_refusal outline.names) (
     unless (outline_refusal outline) (
     then_on (ranges_of outline.least_value value_count outline.names outline.ranges) (λ ranges.
-    then_on (given_of outline.least_value value_count outline.relations) (λ given.
-    then_on (scopes_of outline.names outline.listed) (λ listed.
+    then_on (listed_relations outline.least_value value_count outline.relations) (λ given.
+    then_on (scopes_stated outline.names outline.listed) (λ listed.
     Ok (record { names = outline.names; least_value = outline.least_value; greatest_value = outline.greatest_value; ranges = ranges; given = given; listed = listed }))))))
 
 -- the parts that a JSON value holds
 abbrev pub parts_in : Data → Result Parts VocFault
 parts_in whole = then_on (held_by whole) (λ held. then_on (outline_of held) parts_from)
 
--- the JSON value that a text is
-abbrev pub json_of : List ℕ → Option Data
-json_of bytes = if is_utf8 bytes then read bytes else None
-
 -- the most bytes that a vocabulary has
 abbrev pub MOST_VOCABULARY : ℕ
 MOST_VOCABULARY = 4194304
 
 -- the parts that the bytes hold
-unfoldable pub parts_of : List ℕ → Result Parts VocFault
-parts_of bytes = if nat_lt MOST_VOCABULARY (length bytes) then Err TooLong else then_on (ok_or (json_of bytes) NotJson) parts_in
+unfoldable pub vocabulary_parts : List ℕ → Result Parts VocFault
+vocabulary_parts bytes = if nat_lt MOST_VOCABULARY (length bytes) then Err TooLong else then_on (ok_or (json_of bytes) NotJson) parts_in
 
 -- the names and the values, with those of each variable
 abbrev pub frame_of : Parts → Frame
@@ -76,7 +72,7 @@ refusal_after (Ok parts) = option_map Lang (build_refusal (length parts.names) p
 
 -- why a vocabulary is refused
 unfoldable pub refusal_of_vocabulary : List ℕ → Option VocFault
-refusal_of_vocabulary bytes = refusal_after (parts_of bytes)
+refusal_of_vocabulary bytes = refusal_after (vocabulary_parts bytes)
 
 -- the language that is built of the parts, where some were read
 pub record IsLanguageOf (stated : Result Parts VocFault) (l : Language) : Type 0 where
@@ -88,4 +84,4 @@ pub record IsLanguageOf (stated : Result Parts VocFault) (l : Language) : Type 0
 
 -- the language that a vocabulary's bytes describe
 abbrev pub IsVocabulary : List ℕ → Language → Type 0
-IsVocabulary bytes l = IsLanguageOf (parts_of bytes) l
+IsVocabulary bytes l = IsLanguageOf (vocabulary_parts bytes) l

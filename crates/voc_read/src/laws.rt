@@ -1,10 +1,10 @@
 //! Laws of the definitions, as contracts of functions that do nothing.
 
-ghost use Rattle.voc_read.specs.Laws.{EachIsReadOrRefused, NoTwoLanguages, ReadIsNotRefused};
+ghost use Rattle.voc_read.specs.Laws.{EachVocabularyIsReadOrRefused, NoTwoLanguages, ReadVocabularyIsNotRefused};
 
 /// What describes a language isn't refused.
 pub fn read_is_not_refused()
-    ensures { ReadIsNotRefused }
+    ensures { ReadVocabularyIsNotRefused }
 {}
 
 /// No bytes describe two languages.
@@ -14,5 +14,5 @@ pub fn no_two_languages()
 
 /// Each list of bytes describes a language, or is refused, and not for want of memory.
 pub fn each_is_read_or_refused()
-    ensures { EachIsReadOrRefused }
+    ensures { EachVocabularyIsReadOrRefused }
 {}

@@ -7,7 +7,7 @@ ghost use Rattle.language.specs.Building.{frame_refusal, values_between};
 ghost use Rattle.voc_read.specs.Answers.{Reads, Refuses};
 ghost use Rattle.voc_read.specs.Outline.{outline_data};
 ghost use Rattle.voc_read.specs.Vocabulary.{outline_refusal, parts_from, refusal_after, IsFrameOf, IsLanguageOf};
-ghost use Rattle.voc_read.specs.Ranges.{named_range, with_ranges, AreApart, HasWholeRanges, IsKnown};
+ghost use Rattle.voc_read.specs.Ranges.{named_range, with_ranges, HaveDistinctVariables, HasWholeRanges, IsKnown};
 ghost use Rattle.voc_read.specs.Texts.{texts_of};
 ghost use Rattle.voc_read.specs.Widest.{items_widest};
 
@@ -60,7 +60,7 @@ fn domain_of(frame: &Frame) -> Domain
 fn set_ranges(frame: &mut Frame, ranges: &[NamedRange<'_>])
     requires whole { HasWholeRanges frame.old }
     requires known { All (IsKnown frame.old.names frame.old.least_value frame.old.value_count) (map named_range ranges.now) }
-    requires apart { AreApart (map named_range ranges.now) }
+    requires apart { HaveDistinctVariables (map named_range ranges.now) }
     ensures { frame.new ≡ with_ranges frame.old (map named_range ranges.now) }
 {
     for range in ranges {

@@ -1,7 +1,7 @@
 // The names of variables and of relations.
 ghost use Rattle.std.specs.Prelude.{◌≡◌, ◌<◌, ◌≤◌, ◌^◌, not, length, map, string_bytes, position, None, IfOk, OnOk};
 ghost use Rattle.language.specs.Language.{is_name, AreNames};
-ghost use Rattle.voc_read.specs.Names.{first_repeat, number_of, names_refusal};
+ghost use Rattle.voc_read.specs.Names.{first_repeat, variable_number, names_refusal};
 ghost use Rattle.voc_read.specs.Answers.{Refuses};
 ghost use Rattle.voc_read.specs.Texts.{texts_of};
 
@@ -48,7 +48,7 @@ pub fn index_names<'a>(alloc: Global, names: &[&'a str]) -> Result<IndexSet<&'a 
 /// The number of the variable of this name.
 pub fn number_of(names: &IndexSet<&str>, name: &str) -> Option<u8>
     requires { length names.now.keys ≤ 128 }
-    ensures { result ≡ number_of (texts_of names.now.keys) name.now }
+    ensures { result ≡ variable_number (texts_of names.now.keys) name.now }
 {
     match names.get_index_of(&name) {
         Some(number) => Some(number as u8),

@@ -3,8 +3,8 @@ ghost use Rattle.std.specs.Prelude.{◌≡◌, ◌+◌, ◌≤◌, length, IfOk}
 ghost use Rattle.std.specs.Option.{ok_or};
 ghost use Rattle.serde_json.specs.View.{view};
 ghost use Rattle.voc_read.specs.Answers.{Reads};
-ghost use Rattle.voc_read.specs.Vocabulary.{json_of};
 ghost use Rattle.voc_read.specs.Widest.{widest};
+ghost use Rattle.rel_formula.specs.Json.{json_of};
 
 use crate::fault::VocFault;
 use serde_json::Value;

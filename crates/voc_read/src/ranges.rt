@@ -4,7 +4,7 @@ ghost use Rattle.std.specs.Option.{ok_or};
 ghost use Rattle.serde_json.specs.View.{view, items_view};
 ghost use Rattle.voc_read.specs.Answers.{Reads, Refuses};
 ghost use Rattle.voc_read.specs.Names.{first_repeat};
-ghost use Rattle.voc_read.specs.Ranges.{stated_of, stated_by, range_data, stated_range, bounds_refusal, named_range, range_for, range_of, ranges_from, ranged_names, ranges_refusal, ranges_of};
+ghost use Rattle.voc_read.specs.Ranges.{stated_of, range_stated_by, range_data, stated_range, bounds_refusal, named_range, range_for, range_stated, ranges_from, ranged_names, ranges_refusal, ranges_of};
 ghost use Rattle.voc_read.specs.Texts.{texts_of};
 
 use crate::domain::Domain;
@@ -44,7 +44,7 @@ fn stated_of<'a>(
 
 /// What a list of one string and two whole numbers states.
 fn stated_by<'a>(list: &'a [Value], here: Spot) -> Result<StatedRange<'a>, VocFault>
-    ensures { Reads stated_range (ok_or (stated_by (items_view list.entry.now)) (VocFault.WrongKind here)) result }
+    ensures { Reads stated_range (ok_or (range_stated_by (items_view list.entry.now)) (VocFault.WrongKind here)) result }
 {
     match list {
         [name, lowest, highest] => stated_of(name, lowest, highest, here),
@@ -108,7 +108,7 @@ fn range_of<'a>(
     value: &'a Value,
 ) -> Result<NamedRange<'a>, VocFault>
     requires { length names.now.keys ≤ 128 }
-    ensures { Reads named_range (range_of i domain.least_value domain.value_count (texts_of names.now.keys) (view value.entry.now)) result }
+    ensures { Reads named_range (range_stated i domain.least_value domain.value_count (texts_of names.now.keys) (view value.entry.now)) result }
 {
     let stated = stated_in(value, Spot::Range(i))?;
     range_for(i, domain, names, stated)

@@ -26,7 +26,7 @@ fn read_whole(alloc: Global, whole: &Value) -> Result<Language, VocFault>
     language_of(alloc, &outline)
 }
 
-#[tactic(auto, unfolding(crate::specs::Vocabulary::parts_of, crate::specs::Vocabulary::refusal_of_vocabulary))]
+#[tactic(auto, unfolding(crate::specs::Vocabulary::vocabulary_parts, crate::specs::Vocabulary::refusal_of_vocabulary))]
 /// The language that a vocabulary describes, or the first fault in the order of the format, with its least place.
 pub fn read_vocabulary(alloc: Global, bytes: &[u8]) -> Result<Language, VocFault>
     ensures ok { IfOk result (λ l. IsVocabulary bytes.now l) }

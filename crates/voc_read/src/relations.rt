@@ -5,7 +5,7 @@ ghost use Rattle.language.specs.Inside.{given_by};
 ghost use Rattle.language.specs.Building.{IsOver};
 ghost use Rattle.language.specs.Language.{AreNames};
 ghost use Rattle.voc_read.specs.Answers.{Reads, Refuses};
-ghost use Rattle.voc_read.specs.Relations.{relation_data, stated_relation, name_refusal, small_arity, made_of, relation_of, relations_from, given_names, relation_names_refusal, given_of, IsNamed};
+ghost use Rattle.voc_read.specs.Relations.{relation_data, stated_relation, name_refusal, small_arity, made_of, relation_stated, relations_from, given_names, relation_names_refusal, listed_relations, IsNamed};
 ghost use Rattle.voc_read.specs.Rules.{tuple_count};
 ghost use Rattle.voc_read.specs.Texts.{texts_of};
 ghost use Rattle.voc_read.specs.Widest.{widest, items_widest};
@@ -95,7 +95,7 @@ fn made_of(
 /// Relation i, over the values of the domain.
 fn relation_of(alloc: Global, i: u32, domain: Domain, value: &Value) -> Result<RelPart, VocFault>
     requires { widest (view value.now) < 2 ^ 32 }
-    ensures is { Reads given_by (relation_of i domain.least_value domain.value_count (view value.now)) result }
+    ensures is { Reads given_by (relation_stated i domain.least_value domain.value_count (view value.now)) result }
     ensures kind { IfOk result (IsOver domain.value_count) }
     ensures named { IfOk result IsNamed }
 {
@@ -147,7 +147,7 @@ fn check_names_apart(alloc: Global, relations: &[RelPart]) -> Result<(), VocFaul
 pub fn given_of(alloc: Global, domain: Domain, list: &[Value]) -> Result<Vec<RelPart>, VocFault>
     requires few { length list.now < 2 ^ 32 }
     requires parts { items_widest (items_view list.now) < 2 ^ 32 }
-    ensures is { Reads (λ v. map given_by v.items) (given_of domain.least_value domain.value_count (items_view list.now)) result }
+    ensures is { Reads (λ v. map given_by v.items) (listed_relations domain.least_value domain.value_count (items_view list.now)) result }
     ensures kinds { IfOk result (λ v. All (IsOver domain.value_count) v.items) }
     ensures names { IfOk result (λ v. AreNames (given_names (map given_by v.items))) }
 {

@@ -6,7 +6,7 @@ ghost use Rattle.rel_table.specs.Made.{lists};
 ghost use Rattle.rel_table.specs.Table.{TruthTable};
 ghost use Rattle.rel_formula.specs.Reading.{formula_in};
 ghost use Rattle.voc_read.specs.Answers.{Reads};
-ghost use Rattle.voc_read.specs.Rules.{stated_under, stated_data, stated_widest, rule_in, rule_data, tuple_count, formula_of, relation_of_tuples, relation_of_formula, relation_by};
+ghost use Rattle.voc_read.specs.Rules.{stated_under, stated_data, stated_widest, rule_in, rule_data, tuple_count, rule_formula, relation_of_tuples, relation_of_formula, relation_of_rule};
 ghost use Rattle.voc_read.specs.Widest.{widest};
 
 use crate::domain::Domain;
@@ -103,7 +103,7 @@ fn table_of_tuples(
 
 /// The formula of relation i.
 fn formula_of(alloc: Global, i: u32, arity: u8, value: &Value) -> Result<Formula, VocFault>
-    ensures { Reads (λ f. f) (formula_of i (formula_in arity (view value.now))) result }
+    ensures { Reads (λ f. f) (rule_formula i (formula_in arity (view value.now))) result }
 {
     match read_formula(alloc, value, arity) {
         Ok(formula) => Ok(formula),
@@ -163,7 +163,7 @@ pub fn table_by(
     requires short { arity ≤ 4 }
     requires fits { domain.value_count ^ arity ≤ 65536 }
     requires few { tuple_count rule.now < 2 ^ 32 }
-    ensures is { Reads (λ (t : TruthTable). t.truth) (relation_by i domain.least_value domain.value_count arity (rule_data rule.now)) result }
+    ensures is { Reads (λ (t : TruthTable). t.truth) (relation_of_rule i domain.least_value domain.value_count arity (rule_data rule.now)) result }
     ensures long { IfOk result (λ t. t.arity ≡ arity) }
     ensures values { IfOk result (λ t. t.value_count ≡ domain.value_count) }
 {

@@ -6,7 +6,7 @@ ghost use Rattle.language.specs.Building.{listed_in, AreKnown, AreCountable};
 ghost use Rattle.voc_read.specs.Answers.{Reads};
 ghost use Rattle.voc_read.specs.Names.{first_repeat};
 ghost use Rattle.voc_read.specs.Outline.{listed_items};
-ghost use Rattle.voc_read.specs.Scopes.{numbers_of, scope_of, scopes_from, scopes_of};
+ghost use Rattle.voc_read.specs.Scopes.{numbers_of, scope_stated, scopes_from, scopes_stated};
 ghost use Rattle.voc_read.specs.Texts.{texts_of};
 
 use crate::fault::{Spot, VocFault};
@@ -44,7 +44,7 @@ fn scope_of(
     value: &Value,
 ) -> Result<SmallVec<u8, 4>, VocFault>
     requires { length names.now.keys ≤ 128 }
-    ensures { Reads (λ scope. scope.items) (scope_of i (texts_of names.now.keys) (view value.now)) result }
+    ensures { Reads (λ scope. scope.items) (scope_stated i (texts_of names.now.keys) (view value.now)) result }
 {
     let listed = text_list(alloc, value, Spot::Scope(i))?;
     numbers_of(alloc, i, names, &listed)
@@ -78,7 +78,7 @@ pub fn scopes_of(
     requires variables { length names.now ≤ 128 }
     requires apart { first_repeat (texts_of names.now) ≡ None }
     requires few { IfSome listed (λ list. length list.now < 2 ^ 32) }
-    ensures is { Reads listed_in (scopes_of (texts_of names.now) (listed_items listed.entry)) result }
+    ensures is { Reads listed_in (scopes_stated (texts_of names.now) (listed_items listed.entry)) result }
     ensures known { IfOk result (λ part. AreKnown (length names.now) (listed_in part)) }
     ensures countable { IfOk result (λ part. AreCountable (listed_in part)) }
 {

@@ -1,4 +1,4 @@
-use Rattle.acq_cli.proofs.Prelude.{Candidate, Err, HasDriven, IsNetwork, IsTrue, Language, List, Ok, Option, Plan, Quacq, agrees, both_as, demo_text, ends_part, events_of, lang_of, learned_after, length, plan_of, standing_on, subst, sym, target_of, terms_with, ℕ, ◌∙◌, ◌≡◌}
+use Rattle.acq_cli.proofs.Prelude.{Err, HasDriven, IsNetwork, IsTrue, Language, List, Option, Quacq, agrees, demo_text, ends_part, events_of, lang_of, learned_after, length, plan_of, standing_on, subst, sym, terms_with, transport, ℕ, ◌∙◌, ◌≡◌}
 use Rattle.std.proofs.lemmas.Result.{err_from_is_err_and}
 use Rattle.acq_io.specs.declared.streams.Put.TheVariants as put
 use Rattle.acq_loop.specs.declared.ending.Ending.TheVariants as ending
@@ -8,8 +8,7 @@ use Rattle.acq_cli.proofs.demo.demo_number.Goals as goal
 
 pub drive_quietly-drove-requires-clause-target : goal.drive_quietly-drove-requires-clause-target
 drive_quietly-drove-requires-clause-target g c κs within =
-    let Lawful : Language → Type 0 = λ m. IsNetwork m c.in-Ok.target.list in
-    subst Lawful (sym c.in-Ok-new.ensures.lang) c.in-Ok.ensures.network
+    transport (λ i. IsNetwork (sym c.in-Ok-new.ensures.lang i) c.in-Ok.target.list) c.in-Ok.ensures.network
 
 pub returns-in_err-put-clause-demos : goal.returns-in_err-put-clause-demos
 returns-in_err-put-clause-demos g c =
@@ -17,7 +16,7 @@ returns-in_err-put-clause-demos g c =
     let old : Option (List ℕ) = g.K.Sink.written c.args.out.now in
     let new : Option (List ℕ) = g.K.Sink.written c.put.new.out in
     let lawful = subst (IsNetwork l) c.in-Ok.ensures.target c.in-Ok.ensures.network in
-    let line = line_put c.args.number l c.made.result c.or_silent.result old new (Err c.in_err-put.field-0.0) c.or_silent.ensures c.made.ensures.says c.in_err-put.ensures.writes in
+    let line = line_put c.args.number l c.made.result c.or_silent.result old new (Err c.in_err-put.field-0.0) c.or_silent.ensures.is c.made.ensures.says c.in_err-put.ensures.writes in
     let p = err_from_is_err_and c.from_residual.result c.from_residual.ensures.1 in
     rw (p.1, p.2)
     (demo_stopped c.args.number c.args.budget l c.in-Ok.ensures.language c.made.ensures.lawful lawful old new c.in_err-put.field-0.0 (ends_part ending.Done (demo_text c.args.number l) old new (Err c.in_err-put.field-0.0) line))
@@ -28,7 +27,7 @@ returns-in_default-new-clause-demos g c =
     let old : Option (List ℕ) = g.K.Sink.written c.args.out.now in
     let new : Option (List ℕ) = g.K.Sink.written c.put.new.out in
     let lawful = subst (IsNetwork l) c.in-Ok.ensures.target c.in-Ok.ensures.network in
-    let line = line_put c.args.number l c.made.result c.or_silent.result old new _ c.or_silent.ensures c.made.ensures.says c.in_ok-put.ensures.writes in
+    let line = line_put c.args.number l c.made.result c.or_silent.result old new _ c.or_silent.ensures.is c.made.ensures.says c.in_ok-put.ensures.writes in
     demo_stopped c.args.number c.args.budget l c.in-Ok.ensures.language c.made.ensures.lawful lawful old new put.Memory (front_whole old new (demo_text c.args.number l) line.1)
 
 pub returns-clause-demos : goal.returns-clause-demos
@@ -38,17 +37,14 @@ returns-clause-demos g c =
     let after = c.drive_quietly-drove.new.keep in
     let events = events_of after in
     let how = c.drive_quietly-drove.result in
-    let target : List Candidate = target_of c.args.number l in
     let lawful = subst (IsNetwork l) c.in-Ok.ensures.target c.in-Ok.ensures.network in
-    let Own : List Candidate → Type 0 = λ net. HasDriven net (lang_of keep) (terms_with (plan_of keep) c.args.budget) events how in
-    let Driven : Language → Plan → Type 0 = λ m plan. HasDriven target m (terms_with plan c.args.budget) events how in
-    let Given : List Candidate → Type 0 = λ net. IsTrue (agrees (lang_of keep) net (standing_on (lang_of keep) events)) in
-    let Agreeing : Language → Type 0 = λ m. IsTrue (agrees m target (standing_on m events)) in
-    let Learned : Language → Plan → Type 0 = λ m plan. c.learned_by-learned.result ≡ length (learned_after m (terms_with plan c.args.budget) (standing_on m events)) in
+    let lang : lang_of keep ≡ l = c.in-Ok-new.ensures.lang in
+    let plan : plan_of keep ≡ Quacq = c.in-Ok-new.ensures.plan in
+    let still : lang_of after ≡ l = c.drive_quietly-drove.ensures.same.lang ∙ lang in
     let old : Option (List ℕ) = g.K.Sink.written c.args.out.now in
     let middle : Option (List ℕ) = g.K.Sink.written c.put.new.out in
-    let line = line_put c.args.number l c.made.result c.or_silent.result old middle _ c.or_silent.ensures c.made.ensures.says c.in_ok-put.ensures.writes in
+    let line = line_put c.args.number l c.made.result c.or_silent.result old middle _ c.or_silent.ensures.is c.made.ensures.says c.in_ok-put.ensures.writes in
     demo_done c.args.number c.args.budget l c.in-Ok.ensures.language c.made.ensures.lawful lawful old events middle (g.K.Sink.written c.put-2.new.out) c.learned_by-learned.result line.1
-    (both_as Learned (lang_of after) l (plan_of after) Quacq (c.drive_quietly-drove.ensures.same.lang ∙ c.in-Ok-new.ensures.lang) (c.drive_quietly-drove.ensures.same.plan ∙ c.in-Ok-new.ensures.plan) (c.learned_by-learned.ensures.is c.args.budget))
-    (subst Agreeing c.in-Ok-new.ensures.lang (subst Given c.in-Ok.ensures.target c.drive_quietly-drove.ensures.agreeing)) how c.summed.result c.put-2.result
-    (both_as Driven (lang_of keep) l (plan_of keep) Quacq c.in-Ok-new.ensures.lang c.in-Ok-new.ensures.plan (subst Own c.in-Ok.ensures.target c.drive_quietly-drove.ensures.driven)) c.summed.ensures c.put-2.ensures.writes
+    (c.learned_by-learned.ensures.is c.args.budget ∙ (λ i. length (learned_after (still i) (terms_with ((c.drive_quietly-drove.ensures.same.plan ∙ plan) i) c.args.budget) (standing_on (still i) events))))
+    (transport (λ i. IsTrue (agrees (lang i) (c.in-Ok.ensures.target i) (standing_on (lang i) events))) c.drive_quietly-drove.ensures.agreeing) how c.summed.result c.put-2.result
+    (transport (λ i. HasDriven (c.in-Ok.ensures.target i) (lang i) (terms_with (plan i) c.args.budget) events how) c.drive_quietly-drove.ensures.driven) c.summed.ensures c.put-2.ensures.writes

@@ -1,5 +1,5 @@
-use Rattle.acq_cli.proofs.Prelude.{Candidate, IsAdded, IsLanguage, Language, List, MayEnd, Option, Some, ap, arith, ending_of, events_of, false_is_not_true, lang_of, net_may_say, plan_of, standing_on, subst, terms_with, ℕ, ◌∙◌}
-use Rattle.acq_cli.proofs.Demoing.{driven_by, driven_from, not_collapsed}
+use Rattle.acq_cli.proofs.Prelude.{Candidate, Drives, IfSome, IsAdded, IsOwned, IsLanguage, Language, List, MayEnd, Option, Some, ap, arith, ending_of, events_of, false_is_not_true, lang_of, net_may_say, net_turn, plan_of, point_of, closing_of, standing_on, subst, terms_with, transport, ℕ, ◌∙◌}
+use Rattle.acq_cli.proofs.Demoing.{driven_by}
 use Rattle.acq_cli.proofs.Targets.{agreeing_added, not_filled}
 use Rattle.acq_cli.proofs.demo.drive_quietly.Goals as goal
 
@@ -11,8 +11,8 @@ returns-clause-agreeing g c =
     let l : Language = lang_of c.args.keep.now in
     let before = events_of c.args.keep.now in
     let after = events_of c.drive.new.keep in
-    let Own : List Candidate → Type 0 = λ net. IsAdded l (plan_of c.args.keep.now) (net_may_say net l) before after in
-    agreeing_added l (plan_of c.args.keep.now) c.args.target.list before after (ap (standing_on l) c.requires.fresh) (subst Own c.new-teacher.ensures.network c.drive.ensures.taught.added)
+    agreeing_added l (plan_of c.args.keep.now) c.args.target.list before after (ap (standing_on l) c.requires.fresh)
+    (transport (λ i. IsAdded l (plan_of c.args.keep.now) (net_may_say (c.new-teacher.ensures.network i) l) before after) c.drive.ensures.taught.added)
 
 pub returns-clause-driven : goal.returns-clause-driven
 returns-clause-driven g c =
@@ -21,13 +21,13 @@ returns-clause-driven g c =
     let target : List Candidate = c.args.target.list in
     let after = events_of c.drive.new.keep in
     let how = c.drive.result in
-    let Own : List Candidate → Type 0 = λ net. MayEnd (net_may_say net l) (ending_of how) in
-    let Grown : List Candidate → Type 0 = λ net. IsAdded l (plan_of c.args.keep.now) (net_may_say net l) (events_of c.args.keep.now) after in
     driven_by target l terms after (Some c.new-sink.result) (Some c.drive.new.source) (Some c.drive.new.sink) how
-    (driven_from c.new-teacher.result.network target c.new-teacher.result.quiet l terms (events_of c.args.keep.now) after (Some c.new-source.result) (Some c.new-sink.result) (Some c.drive.new.source) (Some c.drive.new.sink) how
-    c.new-teacher.ensures.network c.new-teacher.ensures.quiet c.requires.fresh (c.new-source.ensures.tells ∙ ap told_bytes c.new-5.ensures.items) c.drive.ensures.ends.ends)
-    (subst Own c.new-teacher.ensures.network c.drive.ensures.taught.said)
-    (not_collapsed l terms target (standing_on l after) how (c.drive.ensures.owner target c.requires.target (returns-clause-agreeing g c)))
+    (transport
+    (λ i. Drives (net_turn (c.new-teacher.ensures.network i) (c.new-teacher.ensures.quiet i)) l terms
+    (point_of (c.requires.fresh i) ((c.new-source.ensures.tells ∙ ap told_bytes c.new-5.ensures.items) i) (Some c.new-sink.result)) (point_of after (Some c.drive.new.source) (Some c.drive.new.sink)) how) c.drive.ensures.ends.ends)
+    (transport (λ i. MayEnd (net_may_say (c.new-teacher.ensures.network i) l) (ending_of how)) c.drive.ensures.taught.said)
+    (λ m is. transport (λ i. IfSome (closing_of (is i)) (IsOwned l terms target (standing_on l after))) (c.drive.ensures.owner target c.requires.target (returns-clause-agreeing g c)))
     (λ is. let rose = c.drive.ensures.faults.write.rose is in omega (arith, rose))
     (λ is. false_is_not_true (c.drive.ensures.keeps.cause is).0)
-    (not_filled l terms target (events_of c.args.keep.now) after how (subst IsLanguage c.lang_of-lang.ensures.is c.n-variables.ensures.lawful) c.requires.fresh (subst Grown c.new-teacher.ensures.network c.drive.ensures.taught.added) c.drive.ensures.ends.ends.full)
+    (not_filled l terms target (events_of c.args.keep.now) after how (subst IsLanguage c.lang_of-lang.ensures.is c.n-variables.ensures.lawful) c.requires.fresh
+    (transport (λ i. IsAdded l (plan_of c.args.keep.now) (net_may_say (c.new-teacher.ensures.network i) l) (events_of c.args.keep.now) after) c.drive.ensures.taught.added) c.drive.ensures.ends.ends.full)

@@ -1,12 +1,12 @@
-use Rattle.acq_cli.proofs.Prelude.{Bool, Candidate, Err, Event, GoesOn, Holds, IfOk, IsAnsweredBy, IsDisk, IsSaid, Language, List, Loses, Ok, OnErr, Option, Plan, ReadsTarget, Result, Saying, SaysNoNetwork, SaysUnplayed, Tries, Unsaid, [], ap, arith, called_as, false, goes_on_with, inl, inr, net_may_say, net_turn, ok_any, opened_raised, over_opened, over_refused, point_of, question_of, refl, said_as, silent_not, standing_on, subst, sym, takes_then, terms_with, voc_of, ℕ, ◌∙◌, ◌≡◌, ◌≤◌}
-use Rattle.acq_cli.proofs.Short.{stale_said}
+use Rattle.acq_cli.proofs.Prelude.{Candidate, Err, Event, SaysOpened, IfOk, IsAnsweredBy, IsDisk, IsSaid, Language, List, Loses, Ok, OnErr, Plan, ReadsTarget, Result, Saying, SaysNoNetwork, SaysUnplayed, Tries, Unsaid, [], ap, arith, called_as, called_not, false, goes_on_with, inl, inr, net_may_say, net_turn, ok_any, opened_raised, over_opened, over_refused, point_of, question_of, refl, said_as, silent_not, standing_on, sym, takes_some_on, terms_with, transport, voc_of, ◌∙◌, ◌≡◌, ◌≤◌}
+use Rattle.acq_cli.proofs.Exactly.{stale_said}
 use Rattle.acq_io.proofs.CallLemmas.{called_on}
 use Rattle.session_store.specs.Keeping.{FailsWith}
 use Rattle.session_store.specs.Store.{lang_of, plan_of, events_of}
 use Rattle.acq_said.specs.Breaks.{BreaksRun}
 use Rattle.acq_said.specs.Inputs.{SaysOfInput}
 use Rattle.acq_cli.proofs.Targets.{answered, none_at_all}
-use Rattle.acq_cli.proofs.Causes.{called_unless, ends_read}
+use Rattle.acq_cli.proofs.Causes.{ends_read}
 use Rattle.acq_said.specs.declared.said.Unsaid.TheVariants as unsaid
 use Rattle.network.specs.Learned.{Learned}
 use Rattle.acq_cli.proofs.playing.play_journal.Goals as goal
@@ -42,9 +42,8 @@ returns-then-count-ge1-clause-plays g c =
     let left = g.S.Source.left c.args.input.now in
     let said = c.or_silent.result in
     let m = c.answers_of-count.result in
-    let Stale : ℕ → Type 0 = λ n. (1 ≤ n) × IsSaid (stale_said n) said in
-    let stale : Stale m = (omega (arith, c.if-count-ge1.true), said_as c.stale.result said (stale_said m) (stale_said m) c.or_silent.ensures refl c.stale.ensures) in
-    let told = subst Stale c.answers_of-count.ensures.is stale in
+    let told = transport (λ i. (1 ≤ c.answers_of-count.ensures.is i) × IsSaid (stale_said (c.answers_of-count.ensures.is i)) said)
+    (omega (arith, c.if-count-ge1.true), said_as c.stale.result said (stale_said m) (stale_said m) c.or_silent.ensures.is refl c.stale.ensures) in
     inl (
       said,
       over_opened g.D.Disk (SaysUnplayed left left) (λ o. Unit {0}) c.args.disk.now c.open.new.disk said c.open.ensures.only_read.same c.open.ensures.only_read.any_moment c.open.ensures.few_calls
@@ -58,12 +57,11 @@ returns-clause-plays g c =
     let left = g.S.Source.left c.args.input.now in
     let left' = g.S.Source.left c.read_target.new.input in
     let said = c.in-Err-read_target.said in
-    let Lacks : Language → Type 0 = λ l. SaysOfInput 4194304 (SaysNoNetwork l) left left' said in
     let fresh : standing_on (lang_of store) (events_of store) ≡ [] = none_at_all (standing_on (lang_of store) (events_of store)) (let few = c.if-count-ge1.false in let is = c.answers_of-count.ensures.is in omega (arith, few, is)) in
     inl (
       said,
       over_opened g.D.Disk (SaysUnplayed left left') (λ o. Unit {0}) c.args.disk.now c.open.new.disk said c.open.ensures.only_read.same c.open.ensures.only_read.any_moment c.open.ensures.few_calls
-          store c.in-Ok.ensures.opened c.in-Ok.ensures.some c.in-Ok.ensures.sound.read c.in-Ok.ensures.places (c.in-Ok.ensures.sits c.in-Ok.ensures.live) (inr (fresh, subst Lacks c.lang_of.ensures.is c.in-Err-read_target.ensures.lacks)) (ok_any said tt),
+          store c.in-Ok.ensures.opened c.in-Ok.ensures.some c.in-Ok.ensures.sound.read c.in-Ok.ensures.places (c.in-Ok.ensures.sits c.in-Ok.ensures.live) (inr (fresh, transport (λ i. SaysOfInput 4194304 (SaysNoNetwork (c.lang_of.ensures.is i)) left left' said) c.in-Err-read_target.ensures.lacks)) (ok_any said tt),
       c.put-in-Err-read_target.ensures.writes,
     )
 
@@ -76,38 +74,31 @@ returns-in-Ok-read_target-clause-plays g c =
     let terms = terms_with (plan_of store) c.args.budget in
     let target : List Candidate = c.new-teacher.result.network in
     let left = g.S.Source.left c.args.input.now in
-    let rest = g.S.Source.left c.read_target.new.input in
     let written = g.K.Sink.written c.args.out.now in
     let left' = g.S.Source.left c.ask_on.new.input in
     let written' = g.K.Sink.written c.ask_on.new.out in
     let fresh : standing_on l (events_of store) ≡ [] = none_at_all (standing_on l (events_of store)) (let few = c.if-count-ge1.false in let is = c.answers_of-count.ensures.is in omega (arith, few, is)) in
-    let Read : Language → Type 0 = λ m. ReadsTarget m left rest c.in-Ok-read_target.target.list in
-    let Own : List Candidate → Type 0 = ReadsTarget l left rest in
-    let reads : Own target = subst Own (sym c.new-teacher.ensures.network) (subst Read c.lang_of.ensures.is c.in-Ok-read_target.ensures.target) in
-    let Tried : Bool → Type 0 = λ quiet. IfOk c.ask_on.result (Tries (net_turn target quiet) l terms (events_of store) (events_of after) rest written left' written') in
-    let Part : Bool → Type 0 = λ quiet. OnErr c.ask_on.result (BreaksRun (net_turn target quiet) l terms (events_of store) (events_of after) rest written left' written') in
-    let Lost : Bool → Type 0 = λ quiet.
-    IsDisk c.ask_on.result → FailsWith D store.journal.raised c.ask_on.ensures.keeps.grown.more (plan_of store) (voc_of store) (events_of store) (events_of after) (question_of after)
-    (Loses (net_turn target quiet) l terms (point_of (events_of store) rest written) (point_of (events_of after) left' written')) c.open.new.disk c.ask_on.new.disk in
-    let tries = subst Tried c.new-teacher.ensures.quiet c.ask_on.ensures.asked.tries in
-    let Holds : Language → Plan → List Event → List Event → Type 0 = λ m plan before later.
-    (standing_on m before ≡ []) × ReadsTarget m left rest target × IsAnsweredBy target m (terms_with plan c.args.budget) (standing_on m later) c.ask_on.result in
-    let on = goes_on_with D Holds (net_turn target false) (net_may_say target) c.args.budget rest written left' written'
+    let quiet = c.new-teacher.ensures.quiet in
+    -- nothing is read behind the target
+    let rest : g.S.Source.left c.read_target.new.input ≡ left' = sym (ap g.S.Source.left (c.ask_on.ensures.unread refl)) in
+    let reads = transport (λ i. ReadsTarget (c.lang_of.ensures.is i) left (rest i) (sym c.new-teacher.ensures.network i)) c.in-Ok-read_target.ensures.target in
+    let tries = transport (λ i. IfOk c.ask_on.result (Tries (net_turn target (quiet i)) l terms (events_of store) (events_of after) (rest i) written left' written')) c.ask_on.ensures.asked.tries in
+    let part = transport (λ i. OnErr c.ask_on.result (BreaksRun (net_turn target (quiet i)) l terms (events_of store) (events_of after) (rest i) written left' written')) c.ask_on.ensures.asked.part in
+    let fails = transport (λ i. IsDisk c.ask_on.result → FailsWith D store.journal.raised c.ask_on.ensures.keeps.grown.more (plan_of store) (voc_of store) (events_of store) (events_of after) (question_of after)
+    (Loses (net_turn target (quiet i)) l terms (point_of (events_of store) (rest i) written) (point_of (events_of after) left' written')) c.open.new.disk c.ask_on.new.disk) (λ is. c.ask_on.ensures.keeps.fails is) in
+    let SaysOpened : Language → Plan → List Event → List Event → Type 0 = λ m plan before later.
+    (standing_on m before ≡ []) × ReadsTarget m left left' target × IsAnsweredBy target m (terms_with plan c.args.budget) (standing_on m later) c.ask_on.result in
+    let on = goes_on_with D SaysOpened (net_turn target false) (net_may_say target) c.args.budget left' written left' written'
     c.args.disk.now c.open.new.disk c.ask_on.new.disk c.ask_on.result (plan_of store) (voc_of store) (events_of store) (events_of after) (question_of after) l store.journal.raised after.journal.raised
     c.in-Ok.ensures.opened c.in-Ok.ensures.some c.in-Ok.ensures.sound.read c.in-Ok.ensures.places c.open.ensures.only_read.same c.open.ensures.only_read.any_moment c.open.ensures.few_calls
     (λ bytes told. let was = c.open.ensures.only_read.same ∙ told in opened_raised store (D.may_leave c.open.new.disk) bytes (c.in-Ok.ensures.sits c.in-Ok.ensures.live bytes was)) c.ask_on.ensures.keeps.grown
     (λ no. c.ask_on.ensures.keeps.calls no) c.ask_on.ensures.lawful c.ask_on.ensures.taught.added c.ask_on.ensures.keeps.told
-    (λ no bytes told. c.ask_on.ensures.keeps.persists refl bytes told no) (subst Lost c.new-teacher.ensures.quiet (λ is. c.ask_on.ensures.keeps.fails is))
-    tries (subst Part c.new-teacher.ensures.quiet c.ask_on.ensures.asked.part)
-    (fresh, reads, answered (net_turn target false) l terms target (events_of store) (events_of after) rest written left' written' c.ask_on.result reads.lawful fresh c.ask_on.ensures.taught.added c.ask_on.ensures.taught.said tries) in
-    let Played : Option (List ℕ) → Type 0 = λ r.
-    (on : GoesOn D (net_turn target false) (net_may_say target) c.args.budget r written left' written' c.args.disk.now c.ask_on.new.disk c.ask_on.result) × (standing_on on.of.lang on.of.events ≡ []) × ReadsTarget on.of.lang left r target
-    × IsAnsweredBy target on.of.lang (terms_with on.of.plan c.args.budget) (standing_on on.of.lang on.later) c.ask_on.result in
-    let played = subst Played (sym (ap g.S.Source.left (c.ask_on.ensures.unread refl))) (on.0, on.1.0, on.1.1, on.1.2) in
-    inr (record { target = target; on = played.0; fresh = played.1; reads = played.2; answered = played.3 })
+    (λ no bytes told. c.ask_on.ensures.keeps.persists refl bytes told no) fails tries part
+    (fresh, reads, answered (net_turn target false) l terms target (events_of store) (events_of after) left' written left' written' c.ask_on.result reads.lawful fresh c.ask_on.ensures.taught.added c.ask_on.ensures.taught.said tries) in
+    inr (record { target = target; on = on.0; fresh = on.1.0; reads = on.1.1; answered = on.1.2 })
 
 pub returns-in-Ok-read_target-clause-takes : goal.returns-in-Ok-read_target-clause-takes
-returns-in-Ok-read_target-clause-takes g c = takes_then _ _ _ c.read_target.ensures.takes c.ask_on.ensures.faults.read.takes
+returns-in-Ok-read_target-clause-takes g c = takes_some_on _ _ _ c.read_target.ensures.takes c.ask_on.ensures.faults.read.takes
 
 pub returns-in-Ok-read_target-clause-read : goal.returns-in-Ok-read_target-clause-read
 returns-in-Ok-read_target-clause-read g c =
@@ -116,10 +107,10 @@ returns-in-Ok-read_target-clause-read g c =
     c.ask_on.ensures.faults.read.called
 
 pub returns-then-count-ge1-clause-read : goal.returns-then-count-ge1-clause-read
-returns-then-count-ge1-clause-read g c = called_unless _ _ _ (λ is. silent_not c.stale.result c.or_silent.result unsaid.ReadFault (λ e. cc) c.or_silent.ensures (c.put.ensures.read is))
+returns-then-count-ge1-clause-read g c = called_not _ _ _ (λ is. silent_not c.stale.result c.or_silent.result unsaid.ReadFault (λ e. cc) c.or_silent.ensures.is (c.put.ensures.read is))
 
 pub returns-then-count-ge1-clause-lost : goal.returns-then-count-ge1-clause-lost
-returns-then-count-ge1-clause-lost g c is = absurd (silent_not c.stale.result c.or_silent.result unsaid.DiskFault (λ e. cc) c.or_silent.ensures (c.put.ensures.lost is))
+returns-then-count-ge1-clause-lost g c is = absurd (silent_not c.stale.result c.or_silent.result unsaid.DiskFault (λ e. cc) c.or_silent.ensures.is (c.put.ensures.lost is))
 
 pub returns-clause-read : goal.returns-clause-read
 returns-clause-read g c =

@@ -1,4 +1,4 @@
-use Rattle.acq_cli.proofs.Prelude.{◌≡◌, ◌∙◌, Result, Ok, Err, AllFault, ap, sym, refl, rules, network_of}
+use Rattle.acq_cli.proofs.Prelude.{◌≡◌, ◌∙◌, Ok, Err, ap, sym, refl, rules, network_of}
 use Rattle.acq_io.specs.declared.whole.AllFault.TheVariants as all
 use Rattle.acq_cli.proofs.playing.read_target.Goals as goal
 

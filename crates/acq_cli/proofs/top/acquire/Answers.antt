@@ -1,76 +1,53 @@
-use Rattle.acq_cli.proofs.Prelude.{Command, Does, Ending, EndsExactly, IfOk, IsBrokenOff, Ok, Result, UsageFault, ap, command_asked, failed, inl, inr, kept, map, okay, refl, string_bytes, subst, ⊎_elim, ◌≡◌, ◌⊎◌}
+use Rattle.acq_cli.proofs.Prelude.{Command, Completes, DiskOf, Does, Ending, EndsExactly, Err, IfOk, IsBrokenOff, List, Ok, Option, Put, ReadOnce, Result, UsageFault, command_asked, ended_as, inl, inr, map, refl, string_bytes, sym, ℕ, ⊎_elim, ⊎_map, transport, ◌∙◌, ◌⊎◌}
 use Rattle.acq_io.specs.declared.streams.Put.TheVariants as put
 use Rattle.acq_loop.specs.declared.ending.Ending.TheVariants as ending
+use Rattle.acq_said.proofs.SaidOver.{broken_own}
 use Rattle.acq_cli.proofs.Completing.{completes}
-use Rattle.acq_cli.proofs.Headline.{finds}
-use Rattle.acq_cli.proofs.Targets.{broken_or, ends_exactly}
+use Rattle.acq_cli.proofs.Exactly.{broken_or, ends_exactly}
+use Rattle.acq_cli.proofs.Headline.{Finds, finds, own_finds}
 use Rattle.acq_cli.proofs.top.acquire.Goals as goal
 
-pub returns-in-Ok : goal.returns-in-Ok
-returns-in-Ok g c =
+-- what is known of how a command ended
+record IsTold (asked : Result Command UsageFault) (left content written' : Option (List ℕ)) (end : Ending) : Type 0 where
+  found : Finds asked left content written' end
+  exactly : IsBrokenOff end ⊎ IfOk asked (λ c. EndsExactly c left content end)
+  completes : (IsBrokenOff end → ⊥) → IfOk asked (λ c. Completes c left content end)
+
+broke_off : (asked : Result Command UsageFault) (left content written' : Option (List ℕ)) (end : Ending) → IsBrokenOff end → IsTold asked left content written' end
+broke_off asked left content written' end broken = record { found = own_finds asked left content written' end (broken_own end broken); exactly = inl broken; completes = λ calm. absurd (calm broken) }
+
+module _ {D : Type 0} (disk : DiskOf D) (once : ReadOnce) (left written left' written' : Option (List ℕ)) (old new : D) (asked : Result Command UsageFault) where
+  told : (got : Result Ending Put) → Does disk asked left written left' written' old new got → IsTold asked left (disk.content old) written' (ended_as got)
+  told (Err put.Failed) does = broke_off asked left (disk.content old) written' ending.WriteFault (inr (inl refl))
+  told (Err put.Memory) does = broke_off asked left (disk.content old) written' ending.Memory (inr (inr (inr refl)))
+  told (Ok end) does =
+      let exact = λ (calm : IsBrokenOff end → ⊥). ends_exactly disk once left written left' written' old new end calm asked does in
+      record {
+        found = finds disk left written left' written' old new asked end does;
+        exactly = ⊎_map (λ broken. broken) exact (broken_or end);
+        completes = λ calm. completes disk once left written left' written' old new end calm asked does (exact calm);
+      }
+
+pub returns : goal.returns
+returns g c =
     let D = g.D.Disk in
     let asked : Result Command UsageFault = command_asked (map string_bytes c.args.words.now) in
     let left = g.S.Source.left c.args.input.now in
     let written = g.K.Sink.written c.args.out.now in
     let left' = g.S.Source.left c.perform.new.input in
     let written' = g.K.Sink.written c.perform.new.out in
-    let old = c.args.disk.now in
-    let new = c.perform.new.disk in
-    let end : Ending = c.in-Ok.ending in
-    let does = c.in-Ok.ensures.does in
-    let Done : Result Command UsageFault → Type 0 = λ a. Does D a left written left' written' old new (okay end) in
-    let found = finds D left written left' written' old new end asked does in
-    let exactly : IsBrokenOff end ⊎ IfOk asked (λ command. EndsExactly command left (D.content old) end) =
-    ⊎_elim (λ broken. inl broken) (λ is. inr (ends_exactly D c.no_two_readings.ensures left written left' written' old new end is asked does)) (broken_or end) in
+    let got = c.perform.result in
+    let does = c.perform.ensures.does in
+    let causes = c.perform.ensures.causes in
+    let is = c.ended.ensures in
+    let so = told D c.no_two_readings.ensures left written left' written' c.args.disk.now c.perform.new.disk asked got does in
     record {
-      converged = found.network;
-      collapsed = found.none;
-      does = (okay end, refl, does);
+      converged = λ m e. so.found.network m (sym is ∙ e);
+      collapsed = λ m e. so.found.none m (sym is ∙ e);
+      does = (got, is, does);
       spares = c.perform.ensures.spares;
-      refuses = λ fault. (λ is. (okay end, refl, subst Done is does), found.usage fault);
-      causes = c.in-Ok.ensures.causes;
-      exactly = exactly;
-      completes = λ read write kept memory.
-          completes D c.no_two_readings.ensures left written left' written' old new end
-          (record { read = λ e. read (c.in-Ok.ensures.causes.read e); write = c.in-Ok.ensures.no_fault; kept = λ e. kept (c.in-Ok.ensures.causes.lost e); memory = memory }) asked does exactly;
+      refuses = λ fault. (λ e. (got, is, transport (λ i. Does D (e i) left written left' written' c.args.disk.now c.perform.new.disk got) does), λ e. so.found.usage fault (sym is ∙ e));
+      causes = rw is causes;
+      exactly = rw is so.exactly;
+      completes = λ read write kept memory. rw is (so.completes (⊎_elim (λ e. read (causes.read e)) (⊎_elim (λ e. write (causes.write e)) (⊎_elim (λ e. kept (causes.lost e)) (λ e. memory (is ∙ e))))));
     }
-
-pub returns-in-Err-Failed-clause-does : goal.returns-in-Err-Failed-clause-does
-returns-in-Err-Failed-clause-does g c = (failed put.Failed, refl, rw c.in-Err-Failed.field-0-is at c.in-Err-Failed.ensures.does)
-
-pub returns-in-Err-Memory-clause-does : goal.returns-in-Err-Memory-clause-does
-returns-in-Err-Memory-clause-does g c = (failed put.Memory, refl, rw c.in-Err-Memory.field-0-is at c.in-Err-Memory.ensures.does)
-
-pub returns-in-Err-Failed-clause-refuses : goal.returns-in-Err-Failed-clause-refuses
-returns-in-Err-Failed-clause-refuses g c fault =
-    let does = rw c.in-Err-Failed.field-0-is at c.in-Err-Failed.ensures.does in
-    (λ is. (failed put.Failed, refl, rw is at does), λ is. absurd (let bad : ending.WriteFault ≡ ending.Usage fault = is in let no : ⊥ = cc in no))
-
-pub returns-in-Err-Memory-clause-refuses : goal.returns-in-Err-Memory-clause-refuses
-returns-in-Err-Memory-clause-refuses g c fault =
-    let does = rw c.in-Err-Memory.field-0-is at c.in-Err-Memory.ensures.does in
-    (λ is. (failed put.Memory, refl, rw is at does), λ is. absurd (let bad : ending.Memory ≡ ending.Usage fault = is in let no : ⊥ = cc in no))
-
-pub returns-in-Err-Failed-clause-exactly : goal.returns-in-Err-Failed-clause-exactly
-returns-in-Err-Failed-clause-exactly g c = inl (inr (inl refl))
-
-pub returns-in-Err-Memory-clause-exactly : goal.returns-in-Err-Memory-clause-exactly
-returns-in-Err-Memory-clause-exactly g c = inl (inr (inr (inr refl)))
-
-pub returns-in-Err-Failed-clause-completes : goal.returns-in-Err-Failed-clause-completes
-returns-in-Err-Failed-clause-completes g c read write kept memory = absurd (write (c.in-Err-Failed.ensures.failed (ap failed c.in-Err-Failed.field-0-is)))
-
-pub returns-in-Err-Memory-clause-completes : goal.returns-in-Err-Memory-clause-completes
-returns-in-Err-Memory-clause-completes g c read write kept memory = absurd (memory refl)
-
-pub returns-in-Err-Failed-clause-converged : goal.returns-in-Err-Failed-clause-converged
-returns-in-Err-Failed-clause-converged g c m is = absurd (let bad : ending.WriteFault ≡ ending.Converged m = is in let no : ⊥ = cc in no)
-
-pub returns-in-Err-Memory-clause-converged : goal.returns-in-Err-Memory-clause-converged
-returns-in-Err-Memory-clause-converged g c m is = absurd (let bad : ending.Memory ≡ ending.Converged m = is in let no : ⊥ = cc in no)
-
-pub returns-in-Err-Failed-clause-collapsed : goal.returns-in-Err-Failed-clause-collapsed
-returns-in-Err-Failed-clause-collapsed g c m is = absurd (let bad : ending.WriteFault ≡ ending.Collapsed m = is in let no : ⊥ = cc in no)
-
-pub returns-in-Err-Memory-clause-collapsed : goal.returns-in-Err-Memory-clause-collapsed
-returns-in-Err-Memory-clause-collapsed g c m is = absurd (let bad : ending.Memory ≡ ending.Collapsed m = is in let no : ⊥ = cc in no)

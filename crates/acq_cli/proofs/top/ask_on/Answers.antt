@@ -1,7 +1,7 @@
-use Rattle.acq_cli.proofs.Prelude.{Ending, Err, IsLanguage, Language, Ok, Put, Result, arith, at_turn, begun_part, called_as, failed, inl, inr, keeps_as, keeps_still, knowledge_of, okay, refl, rose_later, rules, said_of, standing_on, subst, sym, terms_with, ℕ, ⊎_elim, ◌∙◌, ◌≡◌, ◌≤◌, ◌⊎◌}
+use Rattle.acq_cli.proofs.Prelude.{IsLanguage, Ok, arith, at_turn, begun_part, called_as, failed, inl, inr, keeps_as, keeps_still, knowledge_of, okay, refl, rose_later, rules, said_of, standing_on, subst, sym, terms_with, transport, ℕ, ⊎_elim, ◌∙◌, ◌≡◌, ◌≤◌, ◌⊎◌}
 use Rattle.acq_io.specs.Streams.{Rose}
 use Rattle.acq_io.specs.declared.streams.Put.TheVariants as puts
-use Rattle.query_gen.specs.Marks.{IsMadeFor}
+use Rattle.query_gen.specs.Marks.{AreMarksFor}
 use Rattle.acq_loop.specs.declared.driving.Drove.{Drove}
 use Rattle.acq_loop.specs.declared.driving.Drove.TheVariants as drove
 use Rattle.acq_loop.specs.declared.ending.Ending.TheVariants as ending
@@ -17,12 +17,6 @@ write_failed how = inr (λ e. cc)
 
 rose_still : (a b c : ℕ) → Rose a b → b ≤ c → Rose a c
 rose_still a b c rose le = omega arith
-
-wanting : (let r : Result Ending Put = Err puts.Memory in r) ≡ Err puts.Failed → ⊥
-wanting e = cc
-
-not_okay : (let r : Result Ending Put = Err puts.Memory in r) ≡ Ok ending.DiskFault → ⊥
-not_okay e = cc
 
 pub returns : goal.returns
 returns g c =
@@ -73,12 +67,12 @@ returns-in_default g c =
       };
       faults = record {
         read = record { takes = takes_same (g.S.Source.left c.args.input.now); called = called_idle _ _ _ tt };
-        write = record { later = omega arith; rose = λ failed. absurd (wanting failed) };
+        write = record { later = omega arith; rose = λ failed. absurd (let no : ⊥ = cc in no) };
       };
       no_fault = tt;
       taught = taught_none l plan may (P.record_of c.args.keep.now) (P.record_of c.args.keep.now) refl tt;
       unread = λ still. refl;
-      keeps = keeps_still D g.met.D.Disk.counts_now g.met.D.Disk.only_now P _ _ c.args.keep.now c.args.keep.now c.args.disk.now not_okay refl refl refl refl refl refl c.requires.keeper.live c.requires.keeper.sits
+      keeps = keeps_still D g.met.D.Disk.counts_now g.met.D.Disk.only_now P _ _ c.args.keep.now c.args.keep.now c.args.disk.now (λ is. cc) refl refl refl refl refl refl c.requires.keeper.live c.requires.keeper.sits
           (λ w bytes told f left. g.met.P.Keep.lasts c.args.keep.now c.args.disk.now w c.requires.keeper.live c.requires.keeper.sits bytes told f left);
       same = search rules;
       lawful = at.lawful;
@@ -102,12 +96,12 @@ returns-in_default-new g c =
       };
       faults = record {
         read = record { takes = takes_same (g.S.Source.left c.args.input.now); called = called_idle _ _ _ tt };
-        write = record { later = omega arith; rose = λ failed. absurd (wanting failed) };
+        write = record { later = omega arith; rose = λ failed. absurd (let no : ⊥ = cc in no) };
       };
       no_fault = tt;
       taught = taught_none l plan may (P.record_of c.args.keep.now) (P.record_of c.args.keep.now) refl tt;
       unread = λ still. refl;
-      keeps = keeps_still D g.met.D.Disk.counts_now g.met.D.Disk.only_now P _ _ c.args.keep.now c.args.keep.now c.args.disk.now not_okay refl refl refl refl refl refl c.requires.keeper.live c.requires.keeper.sits
+      keeps = keeps_still D g.met.D.Disk.counts_now g.met.D.Disk.only_now P _ _ c.args.keep.now c.args.keep.now c.args.disk.now (λ is. cc) refl refl refl refl refl refl c.requires.keeper.live c.requires.keeper.sits
           (λ w bytes told f left. g.met.P.Keep.lasts c.args.keep.now c.args.disk.now w c.requires.keeper.live c.requires.keeper.sits bytes told f left);
       same = search rules;
       lawful = at.lawful;
@@ -116,5 +110,4 @@ returns-in_default-new g c =
 pub say-requires : goal.say-requires
 say-requires g c =
     let P = g.P.Keep in
-    let Made : Language → Type 0 = λ m. IsMadeFor m c.drive-drove.new.screen in
-    record { made = subst Made (sym (c.session-session.ensures.lang ∙ c.drive-drove.ensures.same.lang)) c.drive-drove.ensures.ends.tells.made }
+    record { made = transport (λ i. AreMarksFor (sym (c.session-session.ensures.lang ∙ c.drive-drove.ensures.same.lang) i) c.drive-drove.new.screen) c.drive-drove.ensures.ends.tells.made }

@@ -1,4 +1,4 @@
-use Rattle.acq_cli.proofs.Prelude.{Err, Ok, map, string_bytes}
+use Rattle.acq_cli.proofs.Prelude.{map, string_bytes}
 use Rattle.acq_cli.proofs.Asked.{is_asked, is_refused}
 use Rattle.acq_cli.proofs.top.command_asked.Goals as goal
 

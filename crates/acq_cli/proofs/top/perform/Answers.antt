@@ -1,6 +1,6 @@
-use Rattle.acq_cli.proofs.Prelude.{Ok, acquires_as, command_asked, map, string_bytes, terms_with}
+use Rattle.acq_cli.proofs.Prelude.{acquires_as, called_as, command_asked, map, string_bytes, terms_with}
 use Rattle.acq_cli.proofs.Asked.{does_nothing, does_speak}
-use Rattle.acq_cli.proofs.Causes.{called_put, ok_causes}
+use Rattle.acq_cli.proofs.Causes.{ends_read, told_causes}
 use Rattle.acq_cli.proofs.top.perform.Goals as goal
 
 pub returns-in-Err-Memory-clause-does : goal.returns-in-Err-Memory-clause-does
@@ -30,8 +30,8 @@ returns-in-New-clause-does g c =
 pub returns-in-New-clause-spares : goal.returns-in-New-clause-spares
 returns-in-New-clause-spares g c = rw c.in-Ok.ensures.is c.speak.ensures.spares
 
-pub returns-in-New-clause-read : goal.returns-in-New-clause-read
-returns-in-New-clause-read g c = called_put _ _ _ _ c.speak.result (g.K.Sink.written c.args.out.now) (g.K.Sink.written c.put.new.out) c.put.result c.put.ensures.writes c.put.ensures.read c.speak.ensures.read
-
 pub returns-in-New-clause-causes : goal.returns-in-New-clause-causes
-returns-in-New-clause-causes g c = ok_causes _ _ _ _ _ _ _ _ c.put.result (returns-in-New-clause-read g c) c.put.ensures.no_fault (λ is. c.speak.ensures.lost (c.put.ensures.lost is))
+returns-in-New-clause-causes g c =
+    told_causes _ _ _ _ _ _ _ _ c.put.result
+    (called_as _ _ _ _ _ _ (ends_read c.speak.result (g.K.Sink.written c.args.out.now) (g.K.Sink.written c.put.new.out) c.put.result c.put.ensures.writes) c.put.ensures.read c.speak.ensures.read)
+    c.put.ensures.no_fault c.put.ensures.failed (λ is. c.speak.ensures.lost (c.put.ensures.lost is))

@@ -5,4 +5,4 @@ use Rattle.acq_cli.proofs.top.refuse_words.Goals as goal
 pub returns-clause-tells : goal.returns-clause-tells
 returns-clause-tells g c =
     let what = saying usage_text (ending.Usage c.args.fault) in
-    ends_as what c.or_silent.result _ _ c.put.result (said_as c.fixed.result c.or_silent.result what what c.or_silent.ensures refl c.fixed.ensures) c.put.ensures.writes
+    ends_as what c.or_silent.result _ _ c.put.result (said_as c.fixed.result c.or_silent.result what what c.or_silent.ensures.is refl c.fixed.ensures) c.put.ensures.writes

@@ -1,4 +1,4 @@
-use Rattle.acq_cli.proofs.Prelude.{AllFault, Err, Global, IsVocabulary, List, Ok, Result, Some, Vec, acquires_in, ap, breaks_in, breaks_refused, called_as, failed, refl, refusal_of_vocabulary, rules, subst, sym, takes_then, ℕ, ◌∙◌, ◌≡◌}
+use Rattle.acq_cli.proofs.Prelude.{AllFault, Err, Global, IsVocabulary, Ok, Result, Some, Vec, acquires_in, ap, breaks_in, breaks_refused, called_as, failed, refl, refusal_of_vocabulary, rules, sym, takes_some_on, transport, ℕ, ◌∙◌, ◌≡◌}
 use Rattle.acq_io.specs.declared.whole.AllFault.TheVariants.{TooLong}
 use Rattle.acq_cli.proofs.top.try_input.Goals as goal
 
@@ -19,20 +19,18 @@ returns-in-Err-Fault-clause-read g c = called_as _ _ _ _ _ _ (λ is. refl) (λ i
 
 pub returns-in-Ok-read_vocabulary-clause-acquires : goal.returns-in-Ok-read_vocabulary-clause-acquires
 returns-in-Ok-read_vocabulary-clause-acquires g c =
-    let P : List ℕ → Type 0 = λ line. IsVocabulary line c.in-Ok-read_vocabulary.lang in
     acquires_in c.args.terms (g.S.Source.left c.args.input.now) (g.S.Source.left c.read_first_line.new.source) (g.K.Sink.written c.args.out.now)
     (g.S.Source.left c.try_language.new.input) (g.K.Sink.written c.try_language.new.out) c.in-Ok.line.items c.in-Ok-read_vocabulary.lang c.try_language.result
-    c.in-Ok.ensures.line (subst P c.deref.ensures.value c.in-Ok-read_vocabulary.ensures.ok) c.try_language.ensures.no_disk c.try_language.ensures.tries
+    c.in-Ok.ensures.line (transport (λ i. IsVocabulary (c.deref.ensures.value i) c.in-Ok-read_vocabulary.lang) c.in-Ok-read_vocabulary.ensures.ok) c.try_language.ensures.no_disk c.try_language.ensures.tries
 
 pub returns-in-Ok-read_vocabulary-clause-part : goal.returns-in-Ok-read_vocabulary-clause-part
 returns-in-Ok-read_vocabulary-clause-part g c =
-    let P : List ℕ → Type 0 = λ line. IsVocabulary line c.in-Ok-read_vocabulary.lang in
     breaks_in c.args.terms (g.S.Source.left c.args.input.now) (g.S.Source.left c.read_first_line.new.source) (g.K.Sink.written c.args.out.now)
     (g.S.Source.left c.try_language.new.input) (g.K.Sink.written c.try_language.new.out) c.in-Ok.line.items c.in-Ok-read_vocabulary.lang c.try_language.result
-    c.in-Ok.ensures.line (subst P c.deref.ensures.value c.in-Ok-read_vocabulary.ensures.ok) c.try_language.ensures.part
+    c.in-Ok.ensures.line (transport (λ i. IsVocabulary (c.deref.ensures.value i) c.in-Ok-read_vocabulary.lang) c.in-Ok-read_vocabulary.ensures.ok) c.try_language.ensures.part
 
 pub returns-in-Ok-read_vocabulary-clause-takes : goal.returns-in-Ok-read_vocabulary-clause-takes
-returns-in-Ok-read_vocabulary-clause-takes g c = takes_then _ _ _ c.read_first_line.ensures.takes c.try_language.ensures.takes
+returns-in-Ok-read_vocabulary-clause-takes g c = takes_some_on _ _ _ c.read_first_line.ensures.takes c.try_language.ensures.takes
 
 pub returns : goal.returns
 returns g c =

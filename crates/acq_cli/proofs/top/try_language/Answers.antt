@@ -1,5 +1,6 @@
 use Rattle.acq_cli.proofs.Prelude.{[], begun, begun_part, events_of, false_is_not_true, fresh_part, fresh_tries, lang_of, line_turn, plan_of}
-use Rattle.acq_cli.proofs.Causes.{no_disk_fault}
+use Rattle.acq_loop.specs.declared.ending.Ending.TheVariants as ending
+use Rattle.acq_cli.proofs.Causes.{never_ends}
 use Rattle.acq_cli.proofs.top.try_language.Goals as goal
 
 pub returns-in_default-clause-part : goal.returns-in_default-clause-part
@@ -28,4 +29,4 @@ pub returns-clause-takes : goal.returns-clause-takes
 returns-clause-takes g c = c.ask_on.ensures.faults.read.takes
 
 pub returns-clause-no_disk : goal.returns-clause-no_disk
-returns-clause-no_disk g c = no_disk_fault c.ask_on.result (λ is. false_is_not_true (c.ask_on.ensures.keeps.cause is).0)
+returns-clause-no_disk g c = never_ends c.ask_on.result ending.DiskFault (λ is. false_is_not_true (c.ask_on.ensures.keeps.cause is).0)

@@ -1,15 +1,10 @@
-use Rattle.acq_said.proofs.Prelude.{◌+◌, ◌∙◌, ℕ, length, refl, ap, subst, inl, inr, Result, Err, arith, eq-eqb, standing_on, rose_later, Opened, lang_of, events_of, question_of, SFault, Store, is_full, Saying, saying, EndsBack, back_said, some_there, room_not_full, room_unless}
+use Rattle.acq_said.proofs.Prelude.{◌≡◌, ◌+◌, ◌∙◌, false, length, refl, sym, ap, subst, inl, inr, arith, eq-eqb, rose_later, Opened, lang_of, events_of, question_of, Saying, EndsBack, back_on, back_said, some_there, room_unless}
 use Rattle.session_store.proofs.Placing.{back_has_place}
-use Rattle.acq_loop.specs.declared.ending.Ending.TheVariants as ending
-use Rattle.acq_said.specs.declared.said.Unsaid.TheVariants as unsaid
 use Rattle.session_store.specs.Opened.{IsSession}
-use Rattle.acq_said.proofs.Journals.{holds_session, opened_in, opened_raised, over_opened, over_refused}
-use Rattle.acq_said.proofs.Spoken.{ok_any, said_as, silent_not}
-use Rattle.acq_said.proofs.TakenBack.{Untaken, back_calls, back_reads, full_back, full_said, leaves_back, none_back, nothing_back, one_back, taken_said}
+use Rattle.acq_said.proofs.Journals.{not_opened, opened_in, opened_raised, over_opened, over_refused}
+use Rattle.acq_said.proofs.Spoken.{ok_any, said_as}
+use Rattle.acq_said.proofs.TakenBack.{Untaken, back_calls, leaves_back}
 use Rattle.acq_said.proofs.back.back_journal.Goals as goal
-
-abbrev not_opened : SFault → Result Store SFault
-not_opened e = Err e
 
 pub returns-in-Err-clause-backs : goal.returns-in-Err-clause-backs
 returns-in-Err-clause-backs g c =
@@ -18,26 +13,15 @@ returns-in-Err-clause-backs g c =
     inl (over_refused g.D.Disk Untaken (λ o. Unit {0}) c.args.disk.now c.open.new.disk c.refused.result call.only_read.same call.only_read.any_moment call.few_calls
     c.in-Err.fault err.refused err.some (inl err.synced) c.refused.ensures.refuses)
 
-pub returns-in_default-clause-backs : goal.returns-in_default-clause-backs
-returns-in_default-clause-backs g c =
+pub returns-then-m-eq0-clause-backs : goal.returns-then-m-eq0-clause-backs
+returns-then-m-eq0-clause-backs g c =
     let ok = c.in-Ok.ensures in
     let call = c.open.ensures in
     let o : Opened = opened_in c.in-Ok.store in
-    let none = none_back (length (standing_on o.lang o.events)) (is_full o.events) (ap length c.in_default.ensures.none) in
+    let same : back_on c.standing_answers-m.result c.is_full-full.result ≡ back_said o = λ i. back_on (c.standing_answers-m.ensures i) (c.is_full-full.ensures i) in
     inl (over_opened g.D.Disk Untaken (λ o. Unit {0}) c.args.disk.now c.open.new.disk c.or_silent.result call.only_read.same call.only_read.any_moment call.few_calls c.in-Ok.store
     ok.opened ok.some ok.sound.read ok.places (ok.sits ok.live)
-    (said_as c.fixed.result c.or_silent.result nothing_back (back_said o) c.or_silent.ensures none.1 c.fixed.ensures, none.0) (ok_any c.or_silent.result tt))
-
-pub returns-then-is_full-clause-backs : goal.returns-then-is_full-clause-backs
-returns-then-is_full-clause-backs g c =
-    let ok = c.in-Ok.ensures in
-    let call = c.open.ensures in
-    let o : Opened = opened_in c.in-Ok.store in
-    let number = c.in-Some.ensures.some in
-    let full = full_back (length (standing_on o.lang o.events)) (is_full o.events) (omega (arith, number.0, number.1)) (eq-eqb (length o.events + 1) 1000000 (c.is_full.ensures.0 c.if-is_full.true)) in
-    inl (over_opened g.D.Disk Untaken (λ o. Unit {0}) c.args.disk.now c.open.new.disk c.or_silent-then-is_full.result call.only_read.same call.only_read.any_moment call.few_calls c.in-Ok.store
-    ok.opened ok.some ok.sound.read ok.places (ok.sits ok.live)
-    (said_as c.fixed-then-is_full.result c.or_silent-then-is_full.result full_said (back_said o) c.or_silent-then-is_full.ensures full.1 c.fixed-then-is_full.ensures, full.0) (ok_any c.or_silent-then-is_full.result tt))
+    (said_as c.untaken.result c.or_silent.result _ (back_said o) c.or_silent.ensures.is same c.untaken.ensures.says, λ done. c.untaken.ensures.refuses (ap (λ (s : Saying). s.ending) same ∙ done)) (ok_any c.or_silent.result tt))
 
 pub returns-clause-backs : goal.returns-clause-backs
 returns-clause-backs g c =
@@ -48,10 +32,10 @@ returns-clause-backs g c =
     let keeps = c.take_last.ensures.keeps in
     let o : Opened = opened_in store in
     let after = c.take_last.new.keep in
-    let number = c.in-Some.ensures.some in
-    let room = room_unless (length o.events) c.is_full.result ok.sound.held.few c.is_full.ensures.1 c.if-is_full.false in
-    let one = one_back (length (standing_on o.lang o.events)) (is_full o.events) (omega (arith, number.0, number.1)) (room_not_full o.events room) in
-    let taken : Saying = taken_said c.in-Some.m in
+    let m = c.standing_answers-m.result in
+    let room = room_unless (length o.events) c.is_full-full.result ok.sound.held.few (λ e. c.is_full-full.ensures ∙ eq-eqb (length o.events + 1) 1000000 e) c.if-full.false in
+    let taken : Saying = back_on m false in
+    let same : taken ≡ back_said o = λ i. back_on (c.standing_answers-m.ensures i) ((sym c.if-full.false ∙ c.is_full-full.ensures) i) in
     let Ends : Saying → Type 0 = λ what. EndsBack what o.events (events_of after) c.take_last.result in
     let leaves = leaves_back D store.journal.raised keeps.grown.more o.plan o.voc taken o.events (events_of after) (question_of after)
     c.args.disk.now c.open.new.disk c.take_last.new.disk c.take_last.result call.only_read.same call.only_read.any_moment c.take_last.ensures.ends keeps.told
@@ -59,13 +43,13 @@ returns-clause-backs g c =
     let session : IsSession o = record { read = ok.sound.read; places = ok.places } in
     inr (record {
       of = o;
-      opens = λ bytes told. holds_session bytes store (ok.opened bytes told) session;
-      some = let said = ok.some in (said.0, holds_session said.0 store said.1 session);
-      takes = one.0;
+      opens = λ bytes told. record { says = ok.opened bytes told; session = session };
+      some = let said = ok.some in (said.0, record { says = said.1; session = session });
+      takes = sym (ap (λ (s : Saying). s.ending) same) ∙ c.take_last.ensures.done;
       room = room;
       later = events_of after;
-      ends = subst Ends (ap taken_said number.0 ∙ one.1) c.take_last.ensures.ends;
-      all_places = back_has_place o.lang o.plan o.events ok.places (some_there o.lang o.events c.in-Some.m number.0 number.1);
+      ends = subst Ends same c.take_last.ensures.ends;
+      all_places = back_has_place o.lang o.plan o.events ok.places (some_there o.lang o.events m c.standing_answers-m.ensures (omega arith));
       any_moment = leaves.any_moment;
       now = leaves.now;
       failed = leaves.failed;
@@ -75,26 +59,8 @@ returns-clause-backs g c =
           keeps.grown (λ no. keeps.calls no) (λ is. keeps.fails is) (D.calls c.args.disk.now) bytes (call.few_calls bytes told);
     })
 
-pub take_last-requires-clause-room : goal.take_last-requires-clause-room
-take_last-requires-clause-room g c = room_unless (length (events_of c.in-Ok.store)) c.is_full.result c.in-Ok.ensures.sound.held.few c.is_full.ensures.1 c.if-is_full.false
-
 pub take_last-requires-clause-stands : goal.take_last-requires-clause-stands
-take_last-requires-clause-stands g c = let number = c.in-Some.ensures.some in some_there (lang_of c.in-Ok.store) (events_of c.in-Ok.store) c.in-Some.m number.0 number.1
-
-pub returns-in_default-clause-no_read : goal.returns-in_default-clause-no_read
-returns-in_default-clause-no_read g c is = silent_not c.fixed.result c.or_silent.result unsaid.ReadFault (λ e. cc) c.or_silent.ensures is
-
-pub returns-then-is_full-clause-no_read : goal.returns-then-is_full-clause-no_read
-returns-then-is_full-clause-no_read g c is = silent_not c.fixed-then-is_full.result c.or_silent-then-is_full.result unsaid.ReadFault (λ e. cc) c.or_silent-then-is_full.ensures is
-
-pub returns-clause-no_read : goal.returns-clause-no_read
-returns-clause-no_read g c is = back_reads (taken_said c.in-Some.m) (events_of c.in-Ok.store) (events_of c.take_last.new.keep) c.take_last.result c.take_last.ensures.ends is
-
-pub returns-in_default-clause-lost : goal.returns-in_default-clause-lost
-returns-in_default-clause-lost g c is = absurd (silent_not c.fixed.result c.or_silent.result unsaid.DiskFault (λ e. cc) c.or_silent.ensures is)
-
-pub returns-then-is_full-clause-lost : goal.returns-then-is_full-clause-lost
-returns-then-is_full-clause-lost g c is = absurd (silent_not c.fixed-then-is_full.result c.or_silent-then-is_full.result unsaid.DiskFault (λ e. cc) c.or_silent-then-is_full.ensures is)
+take_last-requires-clause-stands g c = some_there (lang_of c.in-Ok.store) (events_of c.in-Ok.store) c.standing_answers-m.result c.standing_answers-m.ensures (omega arith)
 
 pub returns-clause-lost : goal.returns-clause-lost
 returns-clause-lost g c is = rose_later _ _ _ c.open.ensures.only_read.later (c.take_last.ensures.keeps.cause is).1

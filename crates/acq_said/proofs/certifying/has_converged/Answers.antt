@@ -1,4 +1,4 @@
-use Rattle.acq_said.proofs.Prelude.{◌∙◌, subst, Language, IsMadeFor, network_in}
+use Rattle.acq_said.proofs.Prelude.{◌∙◌, subst, Language, AreMarksFor, network_in}
 use Rattle.query_gen.proofs.Marking.{no_marks_hold}
 use Rattle.par_screen.specs.Eighths.{AreMadeFor}
 use Rattle.acq_said.proofs.certifying.has_converged.Goals as goal
@@ -10,7 +10,7 @@ next_of-requires-clause-ready g c κs within =
     let l : Language = P.lang c.args.keep.now in
     let same = c.lang-lang.ensures.is ∙ c.session.ensures.lang in
     let Equipped : Language → Type 0 = λ m. AreMadeFor m c.in_ok-places.places in
-    let Made : Language → Type 0 = λ m. IsMadeFor m c.in_ok-screen.screen in
+    let Made : Language → Type 0 = λ m. AreMarksFor m c.in_ok-screen.screen in
     record {
       settled = c.requires.settled;
       equipped = subst Equipped same c.in_ok-places.ensures.made;

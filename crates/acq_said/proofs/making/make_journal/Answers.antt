@@ -1,11 +1,7 @@
-use Rattle.acq_said.proofs.Prelude.{refl, sym, ap, subst, ℕ, List, Result, Ok, Err, inl, inr, Language, IsVocabulary, bytes_told, lang_of, SFault, Store, made_said, Saying}
-use Rattle.acq_said.specs.declared.said.Unsaid.TheVariants as unsaid
-use Rattle.acq_said.proofs.Journals.{made_now}
-use Rattle.acq_said.proofs.Spoken.{said_as, silent_not}
+use Rattle.acq_said.proofs.Prelude.{refl, sym, ap, subst, ℕ, List, Ok, inl, inr, Language, IsVocabulary, bytes_told, lang_of, made_said, Saying}
+use Rattle.acq_said.proofs.Journals.{not_opened, opened_now}
+use Rattle.acq_said.proofs.Spoken.{said_as}
 use Rattle.acq_said.proofs.making.make_journal.Goals as goal
-
-abbrev not_made : SFault → Result Store SFault
-not_made e = Err e
 
 pub returns-in-Ok-clause-makes : goal.returns-in-Ok-clause-makes
 returns-in-Ok-clause-makes g c =
@@ -18,10 +14,10 @@ returns-in-Ok-clause-makes g c =
       free = ok.free;
       lang = c.lang_of.result.now;
       read = subst Read (sym c.lang_of.ensures.is) (subst Voc ok.made.voc ok.sound.read);
-      says = said_as c.created.result c.or_silent.result what what c.or_silent.ensures refl c.created.ensures;
+      says = said_as c.created.result c.or_silent.result what what c.or_silent.ensures.is refl c.created.ensures;
       now = λ bytes told.
           let t = bytes_told (g.D.Disk.content c.create.new.disk) (ok.leaves.goes_on.told bytes told) in
-          made_now g.D.Disk c.create.new.disk store c.args.plan c.args.voc.now t.0 t.1 ok.made.plan ok.made.voc ok.made.events (ok.sits ok.made.live t.0 t.1);
+          rw (ok.made.plan, ok.made.voc, ok.made.events) at (opened_now g.D.Disk c.create.new.disk store t.0 t.1 (ok.sits ok.made.live t.0 t.1));
       any_moment = ok.leaves.any_moment;
       calls = c.create.ensures.leaves.few_calls;
     })
@@ -32,7 +28,7 @@ returns-in-Err-clause-makes g c =
       fault = c.in-Err.fault;
       why = c.in-Err.ensures.refused;
       some = c.in-Err.ensures.some_refusal;
-      unread = λ f is. c.in-Err.ensures.unread f (ap not_made is);
+      unread = λ f is. c.in-Err.ensures.unread f (ap not_opened is);
       refuses = c.unmade.ensures.refuses;
       untouched = c.in-Err.ensures.untouched;
       spared = c.in-Err.ensures.spared;
@@ -41,11 +37,5 @@ returns-in-Err-clause-makes g c =
       calls = c.create.ensures.leaves.few_calls;
     })
 
-pub returns-in-Ok-clause-no_read : goal.returns-in-Ok-clause-no_read
-returns-in-Ok-clause-no_read g c is = silent_not c.created.result c.or_silent.result unsaid.ReadFault (λ e. cc) c.or_silent.ensures is
-
-pub returns-in-Ok-clause-lost : goal.returns-in-Ok-clause-lost
-returns-in-Ok-clause-lost g c is = absurd (silent_not c.created.result c.or_silent.result unsaid.DiskFault (λ e. cc) c.or_silent.ensures is)
-
 pub returns-in-Err-clause-lost : goal.returns-in-Err-clause-lost
-returns-in-Err-clause-lost g c is = c.in-Err.ensures.failed (ap not_made (c.unmade.ensures.lost is))
+returns-in-Err-clause-lost g c is = c.in-Err.ensures.failed (ap not_opened (c.unmade.ensures.lost is))

@@ -1,12 +1,9 @@
-use Rattle.acq_said.proofs.Prelude.{◌∙◌, refl, ap, subst, ℕ, List, Result, Err, Vec, Global, AllFault, voc_refused}
+use Rattle.acq_said.proofs.Prelude.{◌∙◌, refl, ap, subst, ℕ, List, Err, voc_refused}
 use Rattle.acq_said.proofs.Journals.{MakesOf}
 use Rattle.acq_io.specs.declared.whole.AllFault.TheVariants as all
 use Rattle.voc_read.specs.declared.fault.VocFault.TheVariants as vocs
-use Rattle.acq_said.proofs.Spoken.{fine, long_one, said_as}
+use Rattle.acq_said.proofs.Spoken.{fault_of, fine, long_one, said_as}
 use Rattle.acq_said.proofs.making.new_journal.Goals as goal
-
-abbrev fault_of : AllFault → Result (Vec ℕ Global) AllFault
-fault_of e = Err e
 
 pub returns-in-Ok-clause-news : goal.returns-in-Ok-clause-news
 returns-in-Ok-clause-news g c =
@@ -20,7 +17,7 @@ returns-in-Err-TooLong-clause-news g c =
       read = long_one;
       says = (
         c.read_all.ensures.too_long (c.in-Err-TooLong.is ∙ ap fault_of c.in-Err-TooLong.field-0-is),
-        said_as c.refused_voc.result c.or_silent.result what what c.or_silent.ensures refl c.refused_voc.ensures,
+        said_as c.refused_voc.result c.or_silent.result what what c.or_silent.ensures.is refl c.refused_voc.ensures,
       );
       untouched = λ none. refl;
     }

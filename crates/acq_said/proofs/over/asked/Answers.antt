@@ -1,43 +1,26 @@
-use Rattle.acq_said.proofs.Prelude.{◌≡◌, subst, sym, Result, IfOk, Opened, Saying, AsksTruly, asked_said, Ask}
-use Rattle.acq_said.specs.Asks.{IsAskable}
-use Rattle.acq_said.proofs.Reduced.{of_keeper}
-use Rattle.acq_said.proofs.Spoken.{ok_any}
+use Rattle.acq_said.proofs.Prelude.{◌≡◌, subst, sym, Result, IfOk, Opened, Saying, Ask}
+use Rattle.acq_said.specs.Asks.{IsBudgeted, SaysAsked}
+use Rattle.acq_said.proofs.Moved.{of_keeper}
 use Rattle.acq_said.proofs.over.asked.Goals as goal
 
 pub reduced-requires-clause-budget : goal.reduced-requires-clause-budget
-reduced-requires-clause-budget g c = subst IsAskable c.in-Reduce.is c.requires.budget
+reduced-requires-clause-budget g c = subst IsBudgeted c.in-Reduce.is c.requires.budget
 
 pub certified-requires-clause-budget : goal.certified-requires-clause-budget
-certified-requires-clause-budget g c κs within = subst IsAskable c.in-Certify.is c.requires.budget
+certified-requires-clause-budget g c κs within = subst IsBudgeted c.in-Certify.is c.requires.budget
 
 -- what is said to this, which was asked
-module _ {E : Type 0} (o : Opened) (asked what : Ask) (is : asked ≡ what) (r : Result Saying E) where
-  says_of : IfOk r (λ said. said ≡ asked_said what o) → IfOk r (λ said. said ≡ asked_said asked o)
-  says_of = let Of : Ask → Type 0 = λ a. IfOk r (λ said. said ≡ asked_said a o) in subst Of (sym is)
+to_asked : {E : Type 0} (o : Opened) (asked what : Ask) (r : Result Saying E) → asked ≡ what → IfOk r (SaysAsked what o) → IfOk r (SaysAsked asked o)
+to_asked o asked what r is = subst (λ (a : Ask). IfOk r (SaysAsked a o)) (sym is)
 
-  so_of : IfOk r (λ _. AsksTruly what o) → IfOk r (λ _. AsksTruly asked o)
-  so_of = let Of : Ask → Type 0 = λ a. IfOk r (λ _. AsksTruly a o) in subst Of (sym is)
+pub returns-in-Show : goal.returns-in-Show
+returns-in-Show g c = to_asked (of_keeper g.P.Keep c.args.keep.now) c.args.ask _ c.shown.result c.in-Show.is c.shown.ensures
 
-pub returns-in-Show-clause-says : goal.returns-in-Show-clause-says
-returns-in-Show-clause-says g c = says_of (of_keeper g.P.Keep c.args.keep.now) c.args.ask _ c.in-Show.is c.shown.result c.shown.ensures
+pub returns-in-Reduce : goal.returns-in-Reduce
+returns-in-Reduce g c = to_asked (of_keeper g.P.Keep c.args.keep.now) c.args.ask _ c.reduced.result c.in-Reduce.is c.reduced.ensures
 
-pub returns-in-Show-clause-so : goal.returns-in-Show-clause-so
-returns-in-Show-clause-so g c = so_of (of_keeper g.P.Keep c.args.keep.now) c.args.ask _ c.in-Show.is c.shown.result (ok_any c.shown.result tt)
+pub returns-in-Cnf : goal.returns-in-Cnf
+returns-in-Cnf g c = to_asked (of_keeper g.P.Keep c.args.keep.now) c.args.ask _ c.printed.result c.in-Cnf.is c.printed.ensures
 
-pub returns-in-Reduce-clause-says : goal.returns-in-Reduce-clause-says
-returns-in-Reduce-clause-says g c = says_of (of_keeper g.P.Keep c.args.keep.now) c.args.ask _ c.in-Reduce.is c.reduced.result c.reduced.ensures.says
-
-pub returns-in-Reduce-clause-so : goal.returns-in-Reduce-clause-so
-returns-in-Reduce-clause-so g c = so_of (of_keeper g.P.Keep c.args.keep.now) c.args.ask _ c.in-Reduce.is c.reduced.result c.reduced.ensures.so
-
-pub returns-in-Cnf-clause-says : goal.returns-in-Cnf-clause-says
-returns-in-Cnf-clause-says g c = says_of (of_keeper g.P.Keep c.args.keep.now) c.args.ask _ c.in-Cnf.is c.printed.result c.printed.ensures.says
-
-pub returns-in-Cnf-clause-so : goal.returns-in-Cnf-clause-so
-returns-in-Cnf-clause-so g c = so_of (of_keeper g.P.Keep c.args.keep.now) c.args.ask _ c.in-Cnf.is c.printed.result c.printed.ensures.so
-
-pub returns-in-Certify-clause-says : goal.returns-in-Certify-clause-says
-returns-in-Certify-clause-says g c = says_of (of_keeper g.P.Keep c.args.keep.now) c.args.ask _ c.in-Certify.is c.certified.result c.certified.ensures.says
-
-pub returns-in-Certify-clause-so : goal.returns-in-Certify-clause-so
-returns-in-Certify-clause-so g c = so_of (of_keeper g.P.Keep c.args.keep.now) c.args.ask _ c.in-Certify.is c.certified.result c.certified.ensures.so
+pub returns-in-Certify : goal.returns-in-Certify
+returns-in-Certify g c = to_asked (of_keeper g.P.Keep c.args.keep.now) c.args.ask _ c.certified.result c.in-Certify.is c.certified.ensures

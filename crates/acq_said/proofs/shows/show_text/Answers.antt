@@ -1,4 +1,4 @@
-use Rattle.acq_said.proofs.Prelude.{◌≡◌, ◌∙◌, ap, [], ◌∷◌, ◌++◌, length, codes, decimal, string_bytes, standing_on, network_text, knowledge_of, state_after, plan_text, answer_lines, back_line, is_back, reading_text}
+use Rattle.acq_said.proofs.Prelude.{◌≡◌, ◌∙◌, ap, [], ◌∷◌, ◌++◌, length, codes, decimal, string_bytes, standing_on, network_text, knowledge_of, state_after, plan_words, answer_lines, back_line, is_back, reading_text}
 use Rattle.std.specs.Prelude.{filter}
 use Rattle.acq_said.proofs.shows.show_text.Goals as goal
 
@@ -9,7 +9,7 @@ returns c =
     let same = c.lang-lang.ensures.is in
     let lines : string_bytes c.in-Ok-event_lines.lines ≡ answer_lines k.lang 1 t = c.in-Ok-event_lines.ensures ∙ ap (λ l. answer_lines l 1 (standing_on l c.args.events.now)) same in
     let network : string_bytes c.in-Ok-network_text.network ≡ network_text k.lang k.network.list = c.in-Ok-network_text.ensures ∙ (λ i. network_text (same i) (c.network-learned.ensures.is i).list) in
-    let plan : c.plan_word-plan.result.now ≡ plan_text k.plan = c.plan_word-plan.ensures ∙ ap plan_text c.plan.ensures in
+    let plan : c.plan_word-plan.result.now ≡ plan_words k.plan = c.plan_word-plan.ensures ∙ ap plan_words c.plan.ensures in
     let answers : c.answers-answers.result ≡ length t = c.answers-answers.ensures ∙ c.requires.stands.knows.count in
     let count : c.len-count.result ≡ length k.network.list = c.len-count.ensures.is ∙ ap (λ n. length n.list) c.network-learned.ensures.is in
     let state : c.state_word-state.result.now ≡ reading_text (state_after k.lang k.plan t) = c.state_word-state.ensures t c.requires.stands c.requires.settled in

@@ -1,10 +1,7 @@
-use Rattle.acq_said.proofs.Prelude.{refl, ap, inl, Result, Err, SFault, Store, Solves}
-use Rattle.acq_said.proofs.Journals.{over_opened, over_refused}
+use Rattle.acq_said.proofs.Prelude.{refl, ap, inl, Solves}
+use Rattle.acq_said.proofs.Journals.{not_opened, over_opened, over_refused}
 use Rattle.acq_said.proofs.Spoken.{ok_any}
 use Rattle.acq_said.proofs.solving.solve_journal.Goals as goal
-
-abbrev not_opened : SFault → Result Store SFault
-not_opened e = Err e
 
 pub returns-in-Ok-clause-says : goal.returns-in-Ok-clause-says
 returns-in-Ok-clause-says g c =

@@ -1,10 +1,10 @@
 use Rattle.std.proofs.Common.{rules}
-use Rattle.answer_journal.proofs.Prelude.{◌≡◌, ◌+◌, ◌∷◌, ◌++◌, ◌∙◌, [], ℕ, Some, length, take, ap, subst, sym, List, inl, inr, arith, length-append, Only, LeavesBehind, none_done, then_behind, MAGIC, session_tail, IsClosedAfter, HasNoSession, HasRecord, IsWithOrWithout, StartsWith, IsCreating, Sits}
+use Rattle.answer_journal.proofs.Prelude.{◌≡◌, ◌+◌, ◌∷◌, ◌++◌, ◌∙◌, [], ℕ, Some, length, take, ap, subst, sym, List, inl, inr, arith, length-append, Only, LeavesBehind, none_done, then_behind, MAGIC, session_tail, IsClosedAfter, HasNoSession, HasRecord, IsWithOrWithout, StartsWith, IsCreating, Sits, none_given}
 use Rattle.answer_journal.proofs.Gate.{told_before, told_same}
 use Rattle.answer_journal.proofs.Emptied.{head_free, starts, creating, sits}
 use Rattle.answer_journal.proofs.OnlyRead.{read_behind, then_written}
 use Rattle.answer_journal.proofs.Sizes.{session_size}
-use Rattle.answer_journal.proofs.Exits.{none_given, refusal, ended_by}
+use Rattle.answer_journal.proofs.Exits.{refusal, ended_by}
 use Rattle.answer_journal.specs.Heads.{IsHead}
 use Rattle.answer_journal.specs.Making.{CreateRefused}
 use Rattle.answer_journal.proofs.SomeBytes.{session_there_somewhere, not_made_somewhere}

@@ -1,10 +1,10 @@
-use Rattle.answer_journal.proofs.Prelude.{◌≡◌, ◌<◌, ◌≤◌, ◌⊎◌, ◌+◌, ◌-◌, ◌++◌, ◌∙◌, ℕ, List, false, All, length, drop, [], inl, inr, ⊎_elim, ap, sym, subst, arith, take_at, err_from_is_err_and, IsStorableEvent, session_tail, IsHead, Spells, ReadsAs, Session, EventsRefused, HasEvents}
+use Rattle.answer_journal.proofs.Prelude.{◌≡◌, ◌<◌, ◌≤◌, ◌⊎◌, ◌+◌, ◌-◌, ◌++◌, ◌∙◌, ℕ, List, false, All, length, drop, [], inl, inr, ⊎_elim, ap, sym, subst, arith, take_at, err_from_is_err_and, IsStorableEvent, session_tail, IsHead, Spells, ReadsAs, Session, EventsRefused, HasEvents, none_given}
 use Rattle.answer_journal.proofs.Sizes.{read_size}
 use Rattle.answer_journal.proofs.RecordLists.{all_storable}
 use Rattle.answer_journal.proofs.OnlyRead.{read_more, then_read}
 use Rattle.answer_journal.proofs.WholeFile.{damaged_first, rest_is, spells, sits, refused}
 use Rattle.answer_journal.proofs.FirstPiece.{rest_within, none_first, start_is, spelled_first}
-use Rattle.answer_journal.proofs.Exits.{none_given, refusal, ended_by}
+use Rattle.answer_journal.proofs.Exits.{refusal, ended_by}
 use Rattle.answer_journal.proofs.Emptied.{head_free}
 use Rattle.answer_journal.specs.Found.{Refused}
 use Rattle.answer_journal.proofs.SomeBytes.{no_session_somewhere, foreign_somewhere, damaged_somewhere, begins_at, refused_somewhere, session_somewhere}

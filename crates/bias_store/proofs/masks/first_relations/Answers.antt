@@ -1,6 +1,6 @@
 use Rattle.bias_store.proofs.Prelude.{◌<◌, ◌-◌, ◌∙◌, ap, sym, arith, lit≤, one_shl, numbers, ones_of}
-use Rattle.bias_store.proofs.Ones.{ones_of-first}
 use Rattle.bias_store.proofs.masks.first_relations.Goals as goal
+use Rattle.assign.proofs.Ones.{ones_of-first}
 
 pub returns-then-count-eq64 : goal.returns-then-count-eq64
 returns-then-count-eq64 c = ones_of-first 64 (lit≤ tt) ∙ ap numbers (sym c.if-count-eq64.true)

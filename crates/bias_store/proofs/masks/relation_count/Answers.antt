@@ -1,5 +1,4 @@
-use Rattle.bias_store.proofs.Prelude.{sym}
-use Rattle.bias_store.proofs.Ones.{length-ones_of}
+use Rattle.bias_store.proofs.Prelude.{sym, length-ones_of}
 use Rattle.bias_store.proofs.masks.relation_count.Goals as goal
 
 pub returns : goal.returns

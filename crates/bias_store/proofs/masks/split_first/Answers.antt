@@ -1,6 +1,6 @@
 use Rattle.bias_store.proofs.Prelude.{◌<◌, ◌∷◌, ◌∙◌, ap, sym, arith, bit_and, bit_not, trailing_zeros, w64, one_shl, bit_at-trailing_zeros, ones_of}
-use Rattle.bias_store.proofs.Ones.{ones_of-first_and_others}
 use Rattle.bias_store.proofs.masks.split_first.Goals as goal
+use Rattle.assign.proofs.Ones.{ones_of-first_and_others}
 
 pub returns : goal.returns
 returns c =

@@ -1,5 +1,4 @@
-use Rattle.bias_store.proofs.Exits.{none_given}
-use Rattle.bias_store.proofs.Prelude.{◌≡◌, ℕ, ◌+◌, ◌*◌, sym, ◌∙◌, ap, subst, arith, Accepts, AreAdded}
+use Rattle.bias_store.proofs.Prelude.{◌≡◌, ℕ, ◌+◌, ◌*◌, sym, ◌∙◌, ap, subst, arith, Accepts, AreAdded, none_given}
 use Rattle.bias_store.proofs.Tabled.{added_none, row_more}
 use Rattle.bias_store.proofs.tables.add_masks.Goals as goal
 

@@ -1,6 +1,5 @@
-use Rattle.bias_store.proofs.Exits.{none_given}
 use Rattle.bias_store.proofs.Tabled.{added_none, added_more}
-use Rattle.bias_store.proofs.Prelude.{ℕ, ◌+◌, List, sym, subst, AreAdded}
+use Rattle.bias_store.proofs.Prelude.{ℕ, ◌+◌, List, sym, subst, AreAdded, none_given}
 use Rattle.bias_store.specs.Made.{AcceptBy}
 use Rattle.bias_store.proofs.tables.add_pair_masks.Goals as goal
 

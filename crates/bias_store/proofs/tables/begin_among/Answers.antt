@@ -1,5 +1,5 @@
 use Rattle.bias_store.proofs.Prelude.{sym, subst, arith}
-use Rattle.bias_store.specs.Made.{HasTables, AreMasksOf}
+use Rattle.bias_store.specs.Made.{HasTables, HasMasksAt}
 use Rattle.bias_store.specs.declared.tables.Class.{Class}
 use Rattle.bias_store.proofs.Likeness.{class_table}
 use Rattle.bias_store.proofs.tables.begin_among.Goals as goal
@@ -11,4 +11,4 @@ returns-then-has_tables c = λ masks are some.
     let has : HasTables l c.args.s class.tables.items = subst (HasTables l c.args.s) c.deref.ensures.value (c.has_tables.ensures c.if-has_tables.true) in
     let low = c.loop-class-test.true in
     class_table l c.requires.lawful c.args.s class.begin masks c.requires.scope c.requires.two class.tables.items has
-    (subst (λ (k : Class). AreMasksOf l k.tables.items masks k.begin) (sym c.class-item.is) (are c.loop-class.class-index class (omega arith)))
+    (subst (λ (k : Class). HasMasksAt l k.tables.items masks k.begin) (sym c.class-item.is) (are c.loop-class.class-index class (omega arith)))

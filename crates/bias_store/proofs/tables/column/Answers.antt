@@ -1,5 +1,4 @@
-use Rattle.bias_store.proofs.Prelude.{◌≡◌, get_or, arith, refl, ◌∙◌, ap, numbers, filter, length, ◌==◌, bit_at}
-use Rattle.bias_store.proofs.Ones.{ones_of-listed}
+use Rattle.bias_store.proofs.Prelude.{◌≡◌, get_or, arith, refl, ◌∙◌, ap, numbers, filter, length, ◌==◌, bit_at, ones_of-listed}
 use Rattle.bias_store.proofs.PairPlaces.{pair_more}
 use Rattle.bias_store.proofs.tables.column.Goals as goal
 

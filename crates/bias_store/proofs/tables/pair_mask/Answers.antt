@@ -1,6 +1,5 @@
-use Rattle.bias_store.proofs.Prelude.{◌≡◌, [], false, get_or, arith, refl, sym, subst, ◌∙◌, ap, numbers, filter, length, ◌==◌, bit_at}
+use Rattle.bias_store.proofs.Prelude.{◌≡◌, [], false, get_or, arith, refl, sym, subst, ◌∙◌, ap, numbers, filter, length, ◌==◌, bit_at, ones_of-listed}
 use Rattle.std.proofs.Common.{◌/◌, ◌%◌}
-use Rattle.bias_store.proofs.Ones.{ones_of-listed}
 use Rattle.bias_store.proofs.PairPlaces.{pair_bit, pair_more}
 use Rattle.bias_store.proofs.tables.pair_mask.Goals as goal
 

@@ -1,7 +1,6 @@
-use Rattle.bias_store.proofs.Prelude.{◌-◌, get_or, refl, sym, ◌∙◌, ap, arith}
+use Rattle.bias_store.proofs.Prelude.{◌-◌, get_or, refl, sym, ◌∙◌, ap, arith, none_given}
 use Rattle.bias_store.proofs.Runs.{step_apart, step_on}
 use Rattle.bias_store.proofs.tables.runs_of.Goals.{then-scope, else-scope}
-use Rattle.bias_store.proofs.Exits.{none_given}
 use Rattle.bias_store.proofs.tables.runs_of.Goals as goal
 
 pub loop-back-preserved : goal.loop-back-preserved

@@ -1,8 +1,7 @@
 use Rattle.std.proofs.lemmas.List.{length_push}
 use Rattle.std.proofs.lemmas.List.Elements.{All-push}
-use Rattle.bias_store.proofs.Prelude.{◌≡◌, ◌+◌, ◌<◌, ℕ, List, All, length, get_or, sym, ◌∙◌, ap, subst, IsPairTableOn}
+use Rattle.bias_store.proofs.Prelude.{◌≡◌, ◌+◌, ◌<◌, ℕ, List, All, length, get_or, sym, ◌∙◌, ap, subst, IsPairTableOn, none_given}
 use Rattle.language.specs.Pairs.{IsPairTable}
-use Rattle.bias_store.proofs.Exits.{none_given}
 use Rattle.bias_store.proofs.Tabled.{each_more}
 use Rattle.bias_store.proofs.tables.tables_on.Goals as goal
 

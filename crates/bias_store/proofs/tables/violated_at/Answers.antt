@@ -1,5 +1,4 @@
-use Rattle.bias_store.proofs.Prelude.{◌∙◌, sym, violates, nothing_passes, ones_of}
-use Rattle.bias_store.proofs.Ones.{ones_of-zero}
+use Rattle.bias_store.proofs.Prelude.{◌∙◌, sym, violates, nothing_passes, ones_of, ones_of-zero}
 use Rattle.bias_store.proofs.Picked.{bare}
 use Rattle.bias_store.proofs.Bits.{without_accepting}
 use Rattle.bias_store.proofs.tables.violated_at.Goals as goal

@@ -1,4 +1,4 @@
-use Rattle.cert_check.proofs.Prelude.{◌≤◌, length, All, IsAt, ahead}
+use Rattle.cert_check.proofs.Prelude.{◌≤◌, length, All, IsPrefixAt, ahead}
 use Rattle.cert_check.proofs.Growing.{IsWritten}
 use Rattle.cert_check.proofs.OnLast.{IsClean}
 use Rattle.cert_check.proofs.Trees.{forest}
@@ -6,7 +6,7 @@ use Rattle.cert_check.proofs.tree.add_tree.Given as goal
 
 abbrev pub invariant-loop-is_open : goal.invariant-loop-is_open
 invariant-loop-is_open l = record {
-  at : IsAt l.fn.lang l.fn.c l.values.items l.e;
+  at : IsPrefixAt l.fn.lang l.fn.c l.values.items l.e;
   written : IsWritten l.fn.lang l.fn.net l.fn.c l.fn.sheet l.sheet l.count (ahead l.is_open l.fn.lang l.fn.c l.values.items);
   clean : All (IsClean l.fn.lang l.fn.net l.fn.c) (ahead l.is_open l.fn.lang l.fn.c l.values.items);
   few : l.count ≤ l.fn.budget;

@@ -1,8 +1,9 @@
-use Rattle.cert_check.proofs.Prelude.{rules, ◌≡◌, ◌<◌, ◌+◌, ℕ, List, length, true, lit<, sym, ◌∙◌, ap, subst, arith, append-nil, variable_count, range_of, ahead, later, last_behind, IsAt}
+use Rattle.cert_check.proofs.Prelude.{rules, ◌≡◌, ◌<◌, ◌+◌, ℕ, List, length, true, lit<, sym, ◌∙◌, ap, subst, arith, append-nil, variable_count, range_of, ahead, later, last_behind, IsPrefixAt}
 use Rattle.cert_check.proofs.Within.{next_known_at}
-use Rattle.cert_check.proofs.Walking.{place_in, next_in, pushed, popped, last_fits, last_from, may_follow, at_next, later_next, later_last, later_none, no_items}
+use Rattle.cert_check.proofs.Walking.{place_in, next_in, pushed, popped, last_fits, last_from, may_follow, at_next, later_next, later_last, later_none}
 use Rattle.cert_check.proofs.walk.go_on.Goals as goal
 use Rattle.cert_check.proofs.walk.go_on.Goals.{After-clear, After-range-last}
+use Rattle.shared_lemmas.proofs.Lists.{empty_list}
 
 pub bounds-order-len : goal.bounds-order-len
 bounds-order-len c = (place_in c.args.lang.now c.requires.lawful c.args.c c.requires.candidate c.args.order.now c.loop-x.values.items c.pop.new.self.items c.loop-x.e c.in-Some.x c.len.result c.requires.order c.len.ensures.value c.in-Some.ensures.items c.loop-x.invariant.at).0
@@ -15,7 +16,7 @@ room : (c : After-clear) → length c.pop.new.self.items < variable_count c.args
 room c = last_fits c.args.lang.now c.requires.lawful c.args.c c.requires.candidate c.loop-x.values.items c.pop.new.self.items c.loop-x.e c.in-Some.x c.in-Some.ensures.items c.loop-x.invariant.at
 
 -- what is left without it
-left : (c : After-clear) → IsAt c.args.lang.now c.args.c c.pop.new.self.items c.clear.new.self
+left : (c : After-clear) → IsPrefixAt c.args.lang.now c.args.c c.pop.new.self.items c.clear.new.self
 left c = popped c.args.lang.now c.requires.lawful c.args.c c.requires.candidate c.args.order.now c.loop-x.values.items c.pop.new.self.items c.loop-x.e c.clear.new.self c.in-Some.x c.len.result c.requires.order c.len.ensures.value c.in-Some.ensures.items c.clear.ensures c.loop-x.invariant.at
 
 pub range-last-requires : goal.range-last-requires
@@ -78,9 +79,9 @@ loop-x-preserved c =
     }
 
 pub returns-clause-at : goal.returns-clause-at
-returns-clause-at c = subst (λ (vs : List ℕ). IsAt c.args.lang.now c.args.c vs c.loop-x.e) (c.in_default.ensures.items ∙ append-nil c.pop.new.self.items) c.loop-x.invariant.at
+returns-clause-at c = subst (λ (vs : List ℕ). IsPrefixAt c.args.lang.now c.args.c vs c.loop-x.e) (c.in_default.ensures.items ∙ append-nil c.pop.new.self.items) c.loop-x.invariant.at
 
 pub returns-clause-next : goal.returns-clause-next
 returns-clause-next c =
     let none : length c.loop-x.values.items ≡ 0 = search rules in
-    c.loop-x.invariant.same ∙ ap (later c.args.lang.now c.args.c) (no_items c.loop-x.values.items none) ∙ later_none c.args.lang.now c.args.c
+    c.loop-x.invariant.same ∙ ap (later c.args.lang.now c.args.c) (empty_list c.loop-x.values.items none) ∙ later_none c.args.lang.now c.args.c

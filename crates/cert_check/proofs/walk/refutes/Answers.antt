@@ -1,4 +1,4 @@
-use Rattle.cert_check.proofs.Prelude.{ℕ, suc, List, drop, get_or, sym, ◌∙◌, ap, add-one, drop-cons, drop_all, Branch, are_trees, is_lawful, ahead}
+use Rattle.cert_check.proofs.Prelude.{ℕ, suc, List, drop, get_or, sym, ◌∙◌, ap, add-one, drop-cons, drop_all, Branch, are_trees, is_lawful_node, ahead}
 use Rattle.cert_check.proofs.Walking.{at_blank, tree_begins, tree_ends, tree_shut, tree_unlawful, tree_step}
 use Rattle.cert_check.proofs.walk.refutes.Goals as goal
 use Rattle.cert_check.proofs.walk.refutes.Goals.{then-not-is_open-via-then-not-is_open, then-not-is_open-via-else-not-is_open+then-not-is_lawful}
@@ -18,7 +18,7 @@ returns-then-not-is_open c =
           ∙ c.loop-token.invariant.rest
       | then-not-is_open-via-else-not-is_open+then-not-is_lawful w ↦
           sym (tree_unlawful c.args.lang.now c.args.net.now c.args.c c.loop-token.is_open c.loop-token.values.items (get_or c.args.tokens.now c.loop-token.token-index Branch) (drop (suc c.loop-token.token-index) c.args.tokens.now)
-          (ap (λ (vs : List ℕ). is_lawful c.args.lang.now c.args.net.now c.args.c vs (get_or c.args.tokens.now c.loop-token.token-index Branch)) (sym w.deref.ensures.0) ∙ sym w.is_lawful.ensures ∙ w.if-not-is_lawful.true))
+          (ap (λ (vs : List ℕ). is_lawful_node c.args.lang.now c.args.net.now c.args.c vs (get_or c.args.tokens.now c.loop-token.token-index Branch)) (sym w.deref.ensures.0) ∙ sym w.is_lawful.ensures ∙ w.if-not-is_lawful.true))
           ∙ sym (ap (are_trees c.args.lang.now c.args.net.now c.args.c (ahead c.loop-token.is_open c.args.lang.now c.args.c c.loop-token.values.items)) (drop-cons c.args.tokens.now c.loop-token.token-index Branch c.loop-token-test.true))
           ∙ c.loop-token.invariant.rest
     ]
@@ -30,7 +30,7 @@ loop-token-preserved c = record {
       ap (λ k. are_trees c.args.lang.now c.args.net.now c.args.c (ahead c.step-is_open.result c.args.lang.now c.args.c c.step-is_open.new.values.items) (drop k c.args.tokens.now)) (add-one c.loop-token.token-index)
       ∙ sym (tree_step c.args.lang.now c.args.net.now c.args.c c.loop-token.is_open c.loop-token.values.items (get_or c.args.tokens.now c.loop-token.token-index Branch) (drop (suc c.loop-token.token-index) c.args.tokens.now)
       (ahead c.step-is_open.result c.args.lang.now c.args.c c.step-is_open.new.values.items) c.if-not-is_open.false
-      (ap (λ (vs : List ℕ). is_lawful c.args.lang.now c.args.net.now c.args.c vs (get_or c.args.tokens.now c.loop-token.token-index Branch)) (sym c.deref.ensures.0) ∙ sym c.is_lawful.ensures ∙ c.if-not-is_lawful.false)
+      (ap (λ (vs : List ℕ). is_lawful_node c.args.lang.now c.args.net.now c.args.c vs (get_or c.args.tokens.now c.loop-token.token-index Branch)) (sym c.deref.ensures.0) ∙ sym c.is_lawful.ensures ∙ c.if-not-is_lawful.false)
       c.step-is_open.ensures.next)
       ∙ sym (ap (are_trees c.args.lang.now c.args.net.now c.args.c (ahead c.loop-token.is_open c.args.lang.now c.args.c c.loop-token.values.items)) (drop-cons c.args.tokens.now c.loop-token.token-index Branch c.loop-token-test.true))
       ∙ c.loop-token.invariant.rest;

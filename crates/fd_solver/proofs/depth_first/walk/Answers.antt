@@ -4,6 +4,7 @@ use Rattle.fd_solver.proofs.Walking.{begins, size_is, spent, found, down, next_v
 use Rattle.fd_solver.proofs.Narrowing.{ready_alive, ready_up}
 use Rattle.fd_solver.proofs.Knowing.{known_up}
 use Rattle.fd_solver.proofs.depth_first.walk.Goals as goal
+use Rattle.shared_lemmas.proofs.Lists.{empty_list}
 
 pub loop-x-init : goal.loop-x-init
 loop-x-init c =
@@ -41,10 +42,6 @@ loop-x-smaller-else-enter c = let passed = work_passed c.args.cons.now.lang.now.
 
 pub loop-x-preserved-else-enter : goal.loop-x-preserved-else-enter
 loop-x-preserved-else-enter c = (next_value c.args.cons.now.lang.now c.args.cons.now.list.now c.args.cons.now.against c.args.order.now c.requires.order c.args.budget c.loop-x.e c.loop-x.stack c.next_value-x.result c.loop-x.left (moved c.args.cons.now.lang.now c.args.cons.now.list.now c.args.cons.now.against c.args.order.now c.requires.order c.args.budget c.loop-x.e c.loop-x.stack c.loop-x.x c.loop-x.left c.loop-x.invariant.0 c.next_value-x.result c.next_value-x.ensures.from c.next_value-x.ensures.within c.next_value-x.ensures.dead) (let d = c.d-d.ensures.is in let low = c.if-x-d.true in omega arith) (sym c.enter.ensures.is ∙ c.if-enter.false), c.enter.ensures.ready)
-
-empty_list : (xs : List ℕ) → length xs ≡ 0 → xs ≡ []
-empty_list [] h = refl
-empty_list (x ∷ xs) h = absurd (omega arith)
 
 pub returns-then-len-eq0 : goal.returns-then-len-eq0
 returns-then-len-eq0 c =

@@ -1,4 +1,4 @@
-use Rattle.find_c.proofs.Prelude.{ℕ, suc, ◌+◌, ◌-◌, ◌<◌, ◌≡◌, ◌^◌, ◌&&◌, length, take, get_or, not, sym, ◌∙◌, ap, arith, bit_at-zero, ◌==◌, is_one-not, tuple_at, scope_at, range_of, is_in, range_in, are_in, is_outside}
+use Rattle.find_c.proofs.Prelude.{ℕ, suc, ◌+◌, ◌-◌, ◌<◌, ◌≡◌, ◌^◌, ◌&&◌, length, take, get_or, not, sym, ◌∙◌, ap, arith, bit_at-zero, ◌==◌, tuple_at, scope_at, range_of, is_in, range_in, are_in, is_outside, is_one-not}
 use Rattle.find_c.proofs.Splitting.{row_fits}
 use Rattle.find_c.proofs.Outside.{inside_row, none_outside}
 use Rattle.find_c.proofs.choices.outside_row.Goals as goal

@@ -1,5 +1,5 @@
-use Rattle.multi_tree.proofs.Prelude.{◌≡◌, Bool, take, sym, ◌∙◌, ap, arith, list_any, option_map, take_all, is_within, Violated}
-use Rattle.multi_tree.proofs.Turning.{find_first, find_never}
+use Rattle.multi_tree.proofs.Prelude.{◌≡◌, Bool, take, sym, ◌∙◌, ap, arith, list_any, option_map, take_all, is_within, Violated, find_nothing}
+use Rattle.multi_tree.proofs.Turning.{find_first}
 use Rattle.multi_tree.proofs.tree.first_within.Goals as goal
 
 pub returns-then-within : goal.returns-then-within
@@ -12,4 +12,4 @@ pub returns : goal.returns
 returns c =
     let passes : Violated → Bool = λ v. is_within v.variables c.args.set in
     let all : take c.loop-v.v-index c.args.list.now ≡ c.args.list.now = take_all c.loop-v.v-index c.args.list.now (omega arith) in
-    ap (option_map (λ (v : Violated). v.item)) (sym (find_never passes c.args.list.now (ap (list_any passes) (sym all) ∙ c.loop-v.invariant)))
+    ap (option_map (λ (v : Violated). v.item)) (sym (find_nothing passes c.args.list.now (ap (list_any passes) (sym all) ∙ c.loop-v.invariant)))

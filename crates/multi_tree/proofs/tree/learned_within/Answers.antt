@@ -1,5 +1,5 @@
-use Rattle.multi_tree.proofs.Prelude.{◌≡◌, ◌&&◌, Bool, true, take, sym, ◌∙◌, ap, arith, slice_index_or, list_any, get_or_default, take_all, and_from, is_within, Candidate, scope_of, violates}
-use Rattle.multi_tree.proofs.Turning.{find_first, find_never}
+use Rattle.multi_tree.proofs.Prelude.{◌≡◌, ◌&&◌, Bool, true, take, sym, ◌∙◌, ap, arith, slice_index_or, list_any, get_or_default, take_all, and_from, is_within, Candidate, scope_of, violates, find_nothing}
+use Rattle.multi_tree.proofs.Turning.{find_first}
 use Rattle.multi_tree.proofs.tree.learned_within.Goals as goal
 
 pub returns-then-within : goal.returns-then-within
@@ -15,4 +15,4 @@ pub returns : goal.returns
 returns c =
     let passes : Candidate → Bool = λ x. violates c.args.lang.now x c.args.example.now && is_within (scope_of c.args.lang.now x) c.args.set in
     let all : take c.loop-c.c-index c.args.list.now ≡ c.args.list.now = take_all c.loop-c.c-index c.args.list.now (omega arith) in
-    sym (find_never passes c.args.list.now (ap (list_any passes) (sym all) ∙ c.loop-c.invariant))
+    sym (find_nothing passes c.args.list.now (ap (list_any passes) (sym all) ∙ c.loop-c.invariant))

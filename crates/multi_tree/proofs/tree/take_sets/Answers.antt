@@ -1,7 +1,8 @@
 use Rattle.multi_tree.proofs.Prelude.{◌≡◌, ◌-◌, ◌<◌, true, false, [], length, take, refl, sym, ◌∙◌, ap, subst, arith, not-true, scope_of, next_turn}
 use Rattle.multi_tree.proofs.Turning.{none_waits, cut_off, splits, asks, drops, taken, some_asked, nothing_struck, none_struck, struck_is}
-use Rattle.multi_tree.proofs.Barren.{below_barren, nothing_barren, split_barren, un_not}
+use Rattle.multi_tree.proofs.Barren.{below_barren, nothing_barren, split_barren}
 use Rattle.multi_tree.proofs.tree.take_sets.Goals as goal
+use Rattle.std.proofs.lemmas.Bool.{not-false}
 
 pub returns-in_default-clause-turn : goal.returns-in_default-clause-turn
 returns-in_default-clause-turn c =
@@ -81,7 +82,7 @@ loop-left-init c = record {
 
 pub is_struck_within-requires-clause-struck : goal.is_struck_within-requires-clause-struck
 is_struck_within-requires-clause-struck c = λ off.
-    sym (struck_is c.args.lang.now c.args.kept.now.members c.args.example.now c.in-Some.set) ∙ c.loop-left.invariant.struck.some c.in-Some.set (un_not _ (sym c.is_barren-is_barren.ensures ∙ off))
+    sym (struck_is c.args.lang.now c.args.kept.now.members c.args.example.now c.in-Some.set) ∙ c.loop-left.invariant.struck.some c.in-Some.set (not-false _ (sym c.is_barren-is_barren.ensures ∙ off))
 
 pub is_struck_within-requires-clause-quiet : goal.is_struck_within-requires-clause-quiet
 is_struck_within-requires-clause-quiet c = λ on all.

@@ -1,4 +1,4 @@
-use Rattle.net_cnf.proofs.Prelude.{◌≡◌, List, Some, None, length, sym, ◌∙◌, ap, subst, arith, option_map, err_from_is_err_and, Assignment, AreNamed, AreOnes, truths, boolean_count, both_named, literals_of, not_one, bad_token, tokens, BadToken, NotOne, Signs}
+use Rattle.net_cnf.proofs.Prelude.{◌≡◌, List, Some, None, length, sym, ◌∙◌, ap, subst, arith, option_map, err_from_is_err_and, Assignment, AreNamed, AreOnes, positive_signs, boolean_count, both_named, literals_of, not_one, bad_token, tokens, BadToken, NotOne, Signs}
 use Rattle.net_cnf.proofs.Modelled.{bad_model, long_model, named_long, named_marked, not_one_model, read_model, reads_models, twice_model, violating_model}
 use Rattle.net_cnf.proofs.reading.read_model.Goals as goal
 use Rattle.net_cnf.proofs.reading.read_model.Goals.{After-deref, In_default, After-deref-2, After-branch-e}
@@ -58,12 +58,12 @@ returns-in_err-e-clause-is c =
     let n = named_so at.After-deref in
     let l = c.args.lang.now in
     let p = err_from_is_err_and c.from_residual-in_err-e.result c.from_residual-in_err-e.ensures.1 in
-    let missing : option_map NotOne (not_one l (truths c.deref.result.now)) ≡ Some c.in_err-e.field-0.0 =
-    ap (λ (signs : List Signs). option_map NotOne (not_one l (truths signs))) (sym (same at.After-deref-2)) ∙ c.in_err-e.ensures.is in
+    let missing : option_map NotOne (not_one l (positive_signs c.deref.result.now)) ≡ Some c.in_err-e.field-0.0 =
+    ap (λ (signs : List Signs). option_map NotOne (not_one l (positive_signs signs))) (sym (same at.After-deref-2)) ∙ c.in_err-e.ensures.is in
     rw (p.1, p.2) (λ known. not_one_model l c.args.net.now.list c.args.bytes.now c.deref.result.now c.if-bytes.false n (none_twice at.In_default n) c.in_err-e.field-0.0 missing)
 
-ones : (c : After-branch-e) (e : Assignment) → c.deref-2.result.now ≡ c.deref.result.now → AreOnes c.args.lang.now (truths c.deref-2.result.now) e → AreOnes c.args.lang.now (truths c.deref.result.now) e
-ones c e again h = subst (λ (signs : List Signs). AreOnes c.args.lang.now (truths signs) e) again h
+ones : (c : After-branch-e) (e : Assignment) → c.deref-2.result.now ≡ c.deref.result.now → AreOnes c.args.lang.now (positive_signs c.deref-2.result.now) e → AreOnes c.args.lang.now (positive_signs c.deref.result.now) e
+ones c e again h = subst (λ (signs : List Signs). AreOnes c.args.lang.now (positive_signs signs) e) again h
 
 pub returns-in-None-clause-is : goal.returns-in-None-clause-is
 returns-in-None-clause-is c =

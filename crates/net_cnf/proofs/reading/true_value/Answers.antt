@@ -1,4 +1,4 @@
-use Rattle.net_cnf.proofs.Prelude.{◌≡◌, ℕ, ◌+◌, ◌-◌, ◌<◌, ◌≤◌, Bool, true, false, List, Option, get_or, sym, ◌∙◌, ap, arith, range_with_len, option_to_list, Language, boolean, number_of, truths, true_values, only_of}
+use Rattle.net_cnf.proofs.Prelude.{◌≡◌, ℕ, ◌+◌, ◌-◌, ◌<◌, ◌≤◌, Bool, true, false, List, Option, get_or, sym, ◌∙◌, ap, arith, range_with_len, option_to_list, Language, boolean, boolean_number, positive_signs, true_values, only_of}
 use Rattle.std.specs.Prelude.{filter}
 use Rattle.net_cnf.proofs.Numbers.{number_fits}
 use Rattle.net_cnf.proofs.Runs.{IsValue, first_of, size_of, values-run}
@@ -34,13 +34,13 @@ bounds-signs-number_of c =
 
 -- whether the Boolean of the value is true
 truth : (c : After-number_of) (b : Bool) → (get_or c.args.signs.now (c.number_of.result - 1) (record { positive = false; negative = false })).positive ≡ b →
-    get_or (truths c.args.signs.now) (number_of c.args.lang.now (boolean c.args.v c.loop-x.x) - 1) false ≡ b
+    get_or (positive_signs c.args.signs.now) (boolean_number c.args.lang.now (boolean c.args.v c.loop-x.x) - 1) false ≡ b
 truth c b is = truth_there c.args.lang.now c.args.signs.now c.args.v c.loop-x.x c.number_of.result (record { positive = false; negative = false }) b (among c) c.requires.long c.number_of.ensures is
 
 pub returns-then-is_some-clause-is : goal.returns-then-is_some-clause-is
 returns-then-is_some-clause-is c =
     let l = c.args.lang.now in
-    let p : ℕ → Bool = λ x. get_or (truths c.args.signs.now) (number_of l (boolean c.args.v x) - 1) false in
+    let p : ℕ → Bool = λ x. get_or (positive_signs c.args.signs.now) (boolean_number l (boolean c.args.v x) - 1) false in
     let at = (goal.at.returns-then-is_some-clause-is c).After-number_of in
     let range = c.range-first.ensures in
     let low : c.loop-x.x < first_of l c.args.v + size_of l c.args.v = omega (arith, range.first, range.last, range.some, range.known) in
@@ -50,7 +50,7 @@ returns-then-is_some-clause-is c =
 pub loop-x-preserved : goal.loop-x-preserved
 loop-x-preserved c =
     let l = c.args.lang.now in
-    let p : ℕ → Bool = λ x. get_or (truths c.args.signs.now) (number_of l (boolean c.args.v x) - 1) false in
+    let p : ℕ → Bool = λ x. get_or (positive_signs c.args.signs.now) (boolean_number l (boolean c.args.v x) - 1) false in
     let at = (goal.at.loop-x-preserved c).After-number_of in
     elim c.if-signs-number_of.branch [
       | then-signs-number_of+else-is_some w ↦
@@ -59,10 +59,10 @@ loop-x-preserved c =
     ]
 
 -- the values that were all looked at are the variable's
-whole : (l : Language) (truths : List Bool) (v x : ℕ) (value : Option ℕ) → x - first_of l v ≡ size_of l v →
-    filter (λ y. get_or truths (number_of l (boolean v y) - 1) false) (range_with_len (first_of l v) (x - first_of l v)) ≡ option_to_list value → value ≡ only_of (true_values l truths v)
-whole l truths v x value all listed =
-    let p : ℕ → Bool = λ y. get_or truths (number_of l (boolean v y) - 1) false in
+whole : (l : Language) (positive_signs : List Bool) (v x : ℕ) (value : Option ℕ) → x - first_of l v ≡ size_of l v →
+    filter (λ y. get_or positive_signs (boolean_number l (boolean v y) - 1) false) (range_with_len (first_of l v) (x - first_of l v)) ≡ option_to_list value → value ≡ only_of (true_values l positive_signs v)
+whole l positive_signs v x value all listed =
+    let p : ℕ → Bool = λ y. get_or positive_signs (boolean_number l (boolean v y) - 1) false in
     sym (ap only_of (ap (filter p) (values-run l v) ∙ ap (λ n. filter p (range_with_len (first_of l v) n)) (sym all) ∙ listed) ∙ only_listed value)
 
 pub returns-clause-is : goal.returns-clause-is
@@ -70,11 +70,11 @@ returns-clause-is c =
     let l = c.args.lang.now in
     let range = c.range-first.ensures in
     let all : c.loop-x.x - first_of l c.args.v ≡ size_of l c.args.v = omega (arith, range.first, range.last, range.some, range.known) in
-    whole l (truths c.args.signs.now) c.args.v c.loop-x.x c.loop-x.value all c.loop-x.invariant
+    whole l (positive_signs c.args.signs.now) c.args.v c.loop-x.x c.loop-x.value all c.loop-x.invariant
 
 pub returns-clause-fits : goal.returns-clause-fits
 returns-clause-fits c =
     let l = c.args.lang.now in
     let range = c.range-first.ensures in
     let all : c.loop-x.x - first_of l c.args.v ≡ size_of l c.args.v = omega (arith, range.first, range.last, range.some, range.known) in
-    value_below l (truths c.args.signs.now) c.args.v c.loop-x.value c.requires.variable (whole l (truths c.args.signs.now) c.args.v c.loop-x.x c.loop-x.value all c.loop-x.invariant)
+    value_below l (positive_signs c.args.signs.now) c.args.v c.loop-x.value c.requires.variable (whole l (positive_signs c.args.signs.now) c.args.v c.loop-x.x c.loop-x.value all c.loop-x.invariant)

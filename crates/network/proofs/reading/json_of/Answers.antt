@@ -1,5 +1,5 @@
-use Rattle.network.proofs.Prelude.{ap, ok_or, NotJson}
-use Rattle.network.proofs.TextsRead.{json_of-read, json_of-refused, not_both}
+use Rattle.network.proofs.Prelude.{ap, ok_or, NotJson, both_ways}
+use Rattle.rel_formula.proofs.TextsRead.{json_of-read, json_of-refused}
 use Rattle.network.proofs.reading.json_of.Goals as goal
 
 pub returns-in-Ok : goal.returns-in-Ok
@@ -7,5 +7,5 @@ returns-in-Ok c = ap (λ o. ok_or o NotJson) (json_of-read c.args.bytes.now _ c.
 
 pub returns-else-is_memory : goal.returns-else-is_memory
 returns-else-is_memory c =
-    λ _. let refused = c.in-Err.ensures.err (λ memory. not_both c.is_memory.result c.if-is_memory.false (c.is_memory.ensures.1 memory)) in
+    λ _. let refused = c.in-Err.ensures.err (λ memory. both_ways c.is_memory.result c.if-is_memory.false (c.is_memory.ensures.1 memory)) in
     ap (λ o. ok_or o NotJson) (json_of-refused c.args.bytes.now refused)

@@ -1,5 +1,4 @@
-use Rattle.propagators.proofs.Prelude.{◌∙◌, ap, sym, subst, ℕ, List, not-true, numbers, variable_count, arcs_of, AreSettled}
-use Rattle.propagators.proofs.Ones.{not_false}
+use Rattle.propagators.proofs.Prelude.{◌∙◌, ap, sym, subst, ℕ, List, not-true, numbers, variable_count, arcs_of, AreSettled, not-false}
 use Rattle.propagators.proofs.Rounds.{empty_stays}
 use Rattle.propagators.proofs.Conditions.{all_settled, arcs_over}
 use Rattle.propagators.proofs.revising.propagate.Goals as goal
@@ -10,7 +9,7 @@ returns-then-has_empty-clause-dead c = λ e. empty_stays (arcs_of c.args.cons.no
 pub settle-requires-clause-doms : goal.settle-requires-clause-doms
 settle-requires-clause-doms c = record {
   family = c.requires.family;
-  full = not_false _ (sym c.has_empty.ensures ∙ c.if-has_empty.false);
-  settled = subst (λ (xs : List ℕ). AreSettled (arcs_of c.args.cons.now.lang.now c.args.cons.now.list.now c.args.cons.now.against) xs c.args.doms.now) (sym (c.all.ensures ∙ ap numbers c.n.ensures.is))
+  full = not-false _ (sym c.has_empty.ensures ∙ c.if-has_empty.false);
+  settled = subst (λ (xs : List ℕ). AreSettled (arcs_of c.args.cons.now.lang.now c.args.cons.now.list.now c.args.cons.now.against) xs c.args.doms.now) (sym (c.of.ensures ∙ c.all.ensures ∙ ap numbers c.n.ensures.is))
       (all_settled (arcs_of c.args.cons.now.lang.now c.args.cons.now.list.now c.args.cons.now.against) (variable_count c.args.cons.now.lang.now) c.args.doms.now (arcs_over c.args.cons.now.lang.now c.args.cons.now.list.now c.args.cons.now.against c.n.ensures.lawful c.requires.constraints));
 }

@@ -1,5 +1,4 @@
-use Rattle.propagators.proofs.Prelude.{◌∙◌, sym, ap, arith, length, not-true, variable_count}
-use Rattle.propagators.proofs.Ones.{not_false}
+use Rattle.propagators.proofs.Prelude.{◌∙◌, sym, ap, arith, length, not-true, variable_count, not-false}
 use Rattle.propagators.proofs.Conditions.{supported_here, sets_below, found_within, revised_here, dead_here, scope_different}
 use Rattle.propagators.proofs.revising.revise.Goals as goal
 
@@ -36,4 +35,4 @@ returns-clause-revised c =
     c.supported-found.ensures.size c.scope-scope.ensures.scope.short
     (supported_here c.args.lang.now c.args.c c.args.holding c.table_on.result.now c.args.doms.now c.scope-scope.result.now c.on.result c.supported-found.result c.scope-scope.ensures.is c.on.ensures
     c.table_on.ensures.arity c.table_on.ensures.values c.table_on.ensures.agrees c.requires.family c.supported-found.ensures.is)
-    (not_false _ (sym c.is_empty.ensures ∙ c.if-is_empty.false)) c.cut_all.new.doms c.cut_all.ensures.is
+    (not-false _ (sym c.is_empty.ensures ∙ c.if-is_empty.false)) c.cut_all.new.doms c.cut_all.ensures.is

@@ -1,21 +1,19 @@
-use Rattle.propagators.proofs.Prelude.{◌≡◌, ℕ, List, [], ◌∷◌, length, refl, arith, arcs_of}
+use Rattle.propagators.proofs.Prelude.{◌≡◌, ℕ, List, [], ◌∷◌, length, refl, sym, arith, arcs_of}
 use Rattle.propagators.proofs.Rounds.{dead_before, turn_falls, settled_largest}
 use Rattle.propagators.proofs.Conditions.{family_under}
+use Rattle.propagators.proofs.Words.{no_length, some_length}
 use Rattle.propagators.proofs.revising.settle.Goals as goal
+use Rattle.shared_lemmas.proofs.Lists.{empty_list}
 
 pub returns-in-None-clause-dead : goal.returns-in-None-clause-dead
 returns-in-None-clause-dead c = λ e. dead_before (arcs_of c.args.cons.now.lang.now c.args.cons.now.list.now c.args.cons.now.against) c.args.doms.now c.loop-changed.doms c.loop-changed.invariant.0 (c.in-None.ensures.dead refl)
 
 pub loop-changed-smaller : goal.loop-changed-smaller
-loop-changed-smaller c = turn_falls c.loop-changed.doms c.pass.new.doms c.loop-changed.changed c.in-Some.next (let some = c.loop-changed-test.true in let count = c.len.ensures.count in omega arith) c.in-Some.ensures.passed.fewer
-
-empty_list : (xs : List ℕ) → length xs ≡ 0 → xs ≡ []
-empty_list [] h = refl
-empty_list (x ∷ xs) h = absurd (omega arith)
+loop-changed-smaller c = turn_falls c.loop-changed.doms c.pass.new.doms c.loop-changed.changed c.in-Some.next (let some = some_length c.loop-changed.changed (sym c.loop-changed-test.ensures) in omega arith) c.in-Some.ensures.passed.fewer
 
 pub returns-clause-alive : goal.returns-clause-alive
 returns-clause-alive c = λ e. record {
-  largest = settled_largest (arcs_of c.args.cons.now.lang.now c.args.cons.now.list.now c.args.cons.now.against) c.args.doms.now c.loop-changed.doms c.loop-changed.changed (empty_list c.loop-changed.changed (let none = c.loop-changed-test.false in let count = c.len.ensures.count in omega arith))
+  largest = settled_largest (arcs_of c.args.cons.now.lang.now c.args.cons.now.list.now c.args.cons.now.against) c.args.doms.now c.loop-changed.doms c.loop-changed.changed (empty_list c.loop-changed.changed (no_length c.loop-changed.changed (sym c.loop-changed-test.ensures)))
       c.loop-changed.invariant.0 c.loop-changed.invariant.1;
   full = c.loop-changed.invariant.0.full;
   family = family_under c.args.cons.now.lang.now (arcs_of c.args.cons.now.lang.now c.args.cons.now.list.now c.args.cons.now.against) c.args.doms.now c.loop-changed.doms c.requires.doms.family c.loop-changed.invariant.0;

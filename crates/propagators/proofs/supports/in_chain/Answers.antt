@@ -1,5 +1,4 @@
-use Rattle.propagators.proofs.Prelude.{◌∙◌, ◌&&◌, ◌||◌, ap, inl, inr, ◌==◌, slice_index_or, bit_at, both_ways, has, ones_of, is_wanted}
-use Rattle.propagators.proofs.Ones.{ones_of-zero}
+use Rattle.propagators.proofs.Prelude.{◌∙◌, ◌&&◌, ◌||◌, ap, inl, inr, ◌==◌, slice_index_or, bit_at, both_ways, has, ones_of, is_wanted, ones_of-zero}
 use Rattle.propagators.proofs.Chains.{chain_supported, none_supported, passing_part}
 use Rattle.propagators.proofs.supports.in_chain.Goals as goal
 

@@ -1,5 +1,4 @@
-use Rattle.propagators.proofs.Prelude.{◌∙◌, ◌∷◌, ℕ, List, [], ap, sym, ◌==◌, slice_index_or, bit_at, has, ones_of, is_wanted, goes_by}
-use Rattle.propagators.proofs.Ones.{ones_of-zero}
+use Rattle.propagators.proofs.Prelude.{◌∙◌, ◌∷◌, ℕ, List, [], ap, sym, ◌==◌, slice_index_or, bit_at, has, ones_of, is_wanted, goes_by, ones_of-zero}
 use Rattle.propagators.proofs.Sweeping.{sweep_begin, sweep_step, sweep_end, one_supported, supported_beside, both_true, part_true}
 use Rattle.propagators.proofs.supports.in_rows.Goals as goal
 

@@ -1,5 +1,4 @@
-use Rattle.propagators.proofs.Prelude.{[], ◌∷◌, refl, ones_of, continues}
-use Rattle.propagators.proofs.Ones.{ones_of-zero}
+use Rattle.propagators.proofs.Prelude.{[], ◌∷◌, refl, ones_of, continues, ones_of-zero}
 use Rattle.propagators.proofs.Sweeping.{supported_beside, none_beside}
 use Rattle.propagators.proofs.supports.in_three_beside.Goals as goal
 

@@ -1,5 +1,4 @@
-use Rattle.propagators.proofs.Prelude.{◌≡◌, ◌≤◌, ◌+◌, ◌*◌, ◌∙◌, ℕ, [], ◌∷◌, length, sym, subst, ones_of, AreSupported, continues}
-use Rattle.propagators.proofs.Ones.{ones_of-zero}
+use Rattle.propagators.proofs.Prelude.{◌≡◌, ◌≤◌, ◌+◌, ◌*◌, ◌∙◌, ℕ, [], ◌∷◌, length, sym, subst, ones_of, AreSupported, continues, ones_of-zero}
 use Rattle.propagators.proofs.Sweeping.{sweep_begin, sweep_step, sweep_end, supported_beside, place_fits}
 use Rattle.propagators.proofs.supports.in_two.Goals as goal
 

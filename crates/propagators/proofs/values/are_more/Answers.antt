@@ -1,5 +1,4 @@
-use Rattle.propagators.proofs.Prelude.{◌≡◌, ℕ, ◌^◌, ◌<◌, ◌∙◌, ◌⊎◌, true, not, ◌&&◌, inl, inr, ap, sym, length, arith, ◌==◌, ◌≢◌, nat_lt, cases_eq, eq-eqb, ne_eqb, le-ltb, lt-ltb, has, IsSet, ones_of}
-use Rattle.propagators.proofs.Ones.{ones_of-zero, no_ones}
+use Rattle.propagators.proofs.Prelude.{◌≡◌, ℕ, ◌^◌, ◌<◌, ◌∙◌, ◌⊎◌, true, not, ◌&&◌, inl, inr, ap, sym, length, arith, ◌==◌, ◌≢◌, nat_lt, cases_eq, eq-eqb, ne_eqb, le-ltb, lt-ltb, has, IsSet, ones_of, ones_of-zero, no_ones}
 use Rattle.propagators.proofs.Loose.{one_member, two_members, one_long, two_long, ones_of-set}
 use Rattle.propagators.proofs.values.are_more.Goals as goal
 

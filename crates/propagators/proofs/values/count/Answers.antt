@@ -1,5 +1,4 @@
-use Rattle.propagators.proofs.Prelude.{sym}
-use Rattle.propagators.proofs.Ones.{length-ones_of}
+use Rattle.propagators.proofs.Prelude.{sym, length-ones_of}
 use Rattle.propagators.proofs.values.count.Goals as goal
 
 pub returns-clause-is : goal.returns-clause-is

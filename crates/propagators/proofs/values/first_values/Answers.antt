@@ -1,6 +1,6 @@
 use Rattle.propagators.proofs.Prelude.{◌<◌, ◌-◌, ◌∙◌, ap, sym, arith, lit≤, one_shl, numbers, ones_of}
-use Rattle.propagators.proofs.Ones.{ones_of-first}
 use Rattle.propagators.proofs.values.first_values.Goals as goal
+use Rattle.assign.proofs.Ones.{ones_of-first}
 
 pub returns-then-d-eq64 : goal.returns-then-d-eq64
 returns-then-d-eq64 c = ones_of-first 64 (lit≤ tt) ∙ ap numbers (sym c.if-d-eq64.true)

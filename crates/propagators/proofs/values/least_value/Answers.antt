@@ -1,5 +1,5 @@
-use Rattle.propagators.proofs.Prelude.{◌<◌, ◌∙◌, ap, arith, ◌==◌, w64, bit_at-trailing_zeros}
-use Rattle.propagators.proofs.Ones.{has-ones_of, none_lower}
+use Rattle.propagators.proofs.Prelude.{◌<◌, ◌∙◌, ap, arith, ◌==◌, w64, bit_at-trailing_zeros, has-ones_of}
+use Rattle.propagators.proofs.Ones.{none_lower}
 use Rattle.propagators.proofs.values.least_value.Goals as goal
 
 pub returns-clause-there : goal.returns-clause-there

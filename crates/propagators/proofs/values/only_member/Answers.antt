@@ -1,5 +1,5 @@
-use Rattle.propagators.proofs.Prelude.{◌∙◌, ap, both_ways, ones_of}
-use Rattle.propagators.proofs.Ones.{ones_of-zero, none_in, no_ones}
+use Rattle.propagators.proofs.Prelude.{◌∙◌, ap, both_ways, ones_of, ones_of-zero, no_ones}
+use Rattle.propagators.proofs.Ones.{none_in}
 use Rattle.propagators.proofs.Loose.{one_member, two_members}
 use Rattle.propagators.proofs.values.only_member.Goals as goal
 

@@ -1,5 +1,4 @@
-use Rattle.propagators.proofs.Prelude.{◌∙◌, ap, ◌&&◌, ◌==◌, bit_and, one_shl, is_one, is_one-pow, ones_of}
-use Rattle.propagators.proofs.Ones.{ones_of-passing, is_one-and}
+use Rattle.propagators.proofs.Prelude.{◌∙◌, ap, ◌&&◌, ◌==◌, bit_and, one_shl, is_one, is_one-pow, ones_of, ones_of-passing, is_one-and}
 use Rattle.propagators.proofs.values.only_value.Goals as goal
 
 pub returns : goal.returns

@@ -3,6 +3,7 @@ use Rattle.propagators.proofs.Rounds.{dead_here}
 use Rattle.propagators.proofs.Conditions.{arcs_small, arcs_within, arcs_different}
 use Rattle.propagators.proofs.Visiting.{looked_same, looked_changed}
 use Rattle.propagators.proofs.Standing.{stood_revised, stood_dead}
+use Rattle.propagators.proofs.Words.{no_length, some_length}
 use Rattle.propagators.proofs.visits.look_at_both.Goals as goal
 
 none : Arc
@@ -14,22 +15,22 @@ returns-in-None-clause-dead c = λ e.
     (stood_dead c.args.cons.now.lang.now (slice_index_or (arcs_of c.args.cons.now.lang.now c.args.cons.now.list.now c.args.cons.now.against) c.args.i none) c.args.pair c.args.doms.now (c.requires.pair none) c.requires.doms.family
     (c.in-None.ensures.dead refl (c.requires.pair none).pairs (c.requires.pair none).are (c.requires.pair none).bounds c.requires.doms.family.values))
 
-pub returns-then-len-eq0-clause-looked : goal.returns-then-len-eq0-clause-looked
-returns-then-len-eq0-clause-looked c = λ e.
+pub returns-then-is_empty-clause-looked : goal.returns-then-is_empty-clause-looked
+returns-then-is_empty-clause-looked c = λ e.
     looked_same (arcs_of c.args.cons.now.lang.now c.args.cons.now.list.now c.args.cons.now.against) c.args.i c.args.waiting.now c.in-Some.lost c.args.doms.now c.revise_pair.new.doms
     (arcs_small c.args.cons.now.lang.now c.args.cons.now.list.now c.args.cons.now.against c.requires.lawful c.requires.constraints) c.requires.low c.requires.doms.full
     (λ a. stood_revised c.args.cons.now.lang.now (slice_index_or (arcs_of c.args.cons.now.lang.now c.args.cons.now.list.now c.args.cons.now.against) c.args.i a) c.args.pair c.args.doms.now (c.requires.pair a) c.requires.doms.family c.revise_pair.new.doms
     (c.in-Some.ensures.revised (c.requires.pair a).pairs (c.requires.pair a).are (c.requires.pair a).bounds c.requires.doms.family.values)) c.in-Some.ensures.cut
-    (let count = c.len.ensures.count in let none = c.if-len-eq0.true in omega arith)
+    (no_length c.in-Some.lost (sym c.if-is_empty.ensures))
 
-pub returns-else-len-eq0-clause-looked : goal.returns-else-len-eq0-clause-looked
-returns-else-len-eq0-clause-looked c = λ e.
+pub returns-else-is_empty-clause-looked : goal.returns-else-is_empty-clause-looked
+returns-else-is_empty-clause-looked c = λ e.
     subst (λ (next : List ℕ). IsLooked (arcs_of c.args.cons.now.lang.now c.args.cons.now.list.now c.args.cons.now.against) c.args.i c.args.waiting.now next c.args.doms.now c.revise_pair.new.doms) (sym c.union.ensures)
     (looked_changed (arcs_of c.args.cons.now.lang.now c.args.cons.now.list.now c.args.cons.now.against) c.args.i c.args.waiting.now c.in-Some.lost c.args.doms.now c.revise_pair.new.doms
     (arcs_small c.args.cons.now.lang.now c.args.cons.now.list.now c.args.cons.now.against c.requires.lawful c.requires.constraints) c.requires.low c.requires.doms.full
     (λ a. stood_revised c.args.cons.now.lang.now (slice_index_or (arcs_of c.args.cons.now.lang.now c.args.cons.now.list.now c.args.cons.now.against) c.args.i a) c.args.pair c.args.doms.now (c.requires.pair a) c.requires.doms.family c.revise_pair.new.doms
     (c.in-Some.ensures.revised (c.requires.pair a).pairs (c.requires.pair a).are (c.requires.pair a).bounds c.requires.doms.family.values)) c.in-Some.ensures.cut
-    (λ none. (let count = c.len.ensures.count in let some = c.if-len-eq0.false in omega arith)))
+    (some_length c.in-Some.lost (sym c.if-is_empty.ensures)))
 
 pub revise_pair-requires-clause-table : goal.revise_pair-requires-clause-table
 revise_pair-requires-clause-table c = (c.requires.pair none).table

@@ -3,6 +3,7 @@ use Rattle.propagators.proofs.Rounds.{dead_here}
 use Rattle.propagators.proofs.Conditions.{arcs_small, arcs_within}
 use Rattle.propagators.proofs.Fixed.{fixed_taken_in}
 use Rattle.propagators.proofs.Visiting.{looked_same, looked_changed, looked_now}
+use Rattle.propagators.proofs.Words.{no_length, some_length}
 use Rattle.propagators.proofs.visits.look_at_other.Goals as goal
 
 none : Arc
@@ -13,32 +14,32 @@ returns-in-None-clause-dead c = λ e.
     dead_here (arcs_of c.args.cons.now.lang.now c.args.cons.now.list.now c.args.cons.now.against) c.args.doms.now c.args.i none c.requires.low
     (subst (λ (a : Arc). IsDead a c.args.doms.now) (sym (c.condition-holding.ensures.is none)) (c.in-None.ensures.dead refl))
 
-pub returns-then-len-eq0-clause-looked : goal.returns-then-len-eq0-clause-looked
-returns-then-len-eq0-clause-looked c = λ e.
+pub returns-then-is_empty-clause-looked : goal.returns-then-is_empty-clause-looked
+returns-then-is_empty-clause-looked c = λ e.
     looked_now (arcs_of c.args.cons.now.lang.now c.args.cons.now.list.now c.args.cons.now.against) c.args.i c.args.waiting.now c.args.waiting.now c.args.doms.now c.revise.new.doms
     (looked_same (arcs_of c.args.cons.now.lang.now c.args.cons.now.list.now c.args.cons.now.against) c.args.i c.args.waiting.now c.in-Some-revise.lost c.args.doms.now c.revise.new.doms
     (arcs_small c.args.cons.now.lang.now c.args.cons.now.list.now c.args.cons.now.against c.requires.lawful c.requires.constraints) c.requires.low c.requires.doms.full
     (λ a. subst (λ (b : Arc). IsRevised b c.args.doms.now c.revise.new.doms) (sym (c.condition-holding.ensures.is a)) c.in-Some-revise.ensures.revised) c.in-Some-revise.ensures.cut
-    (let count = c.len.ensures.count in let none = c.if-len-eq0.true in omega arith))
+    (no_length c.in-Some-revise.lost (sym c.if-is_empty.ensures)))
 
-pub returns-else-len-eq0-clause-looked : goal.returns-else-len-eq0-clause-looked
-returns-else-len-eq0-clause-looked c = λ e.
+pub returns-else-is_empty-clause-looked : goal.returns-else-is_empty-clause-looked
+returns-else-is_empty-clause-looked c = λ e.
     looked_now (arcs_of c.args.cons.now.lang.now c.args.cons.now.list.now c.args.cons.now.against) c.args.i c.args.waiting.now c.union.result c.args.doms.now c.revise.new.doms
     (subst (λ (next : List ℕ). IsLooked (arcs_of c.args.cons.now.lang.now c.args.cons.now.list.now c.args.cons.now.against) c.args.i c.args.waiting.now next c.args.doms.now c.revise.new.doms) (sym c.union.ensures)
     (looked_changed (arcs_of c.args.cons.now.lang.now c.args.cons.now.list.now c.args.cons.now.against) c.args.i c.args.waiting.now c.in-Some-revise.lost c.args.doms.now c.revise.new.doms
     (arcs_small c.args.cons.now.lang.now c.args.cons.now.list.now c.args.cons.now.against c.requires.lawful c.requires.constraints) c.requires.low c.requires.doms.full
     (λ a. subst (λ (b : Arc). IsRevised b c.args.doms.now c.revise.new.doms) (sym (c.condition-holding.ensures.is a)) c.in-Some-revise.ensures.revised) c.in-Some-revise.ensures.cut
-    (λ none. (let count = c.len.ensures.count in let some = c.if-len-eq0.false in omega arith))))
+    (some_length c.in-Some-revise.lost (sym c.if-is_empty.ensures))))
 
-pub returns-then-len-eq0-clause-entailed : goal.returns-then-len-eq0-clause-entailed
-returns-then-len-eq0-clause-entailed c = λ e p are.
+pub returns-then-is_empty-clause-entailed : goal.returns-then-is_empty-clause-entailed
+returns-then-is_empty-clause-entailed c = λ e p are.
     fixed_taken_in (arcs_of c.args.cons.now.lang.now c.args.cons.now.list.now c.args.cons.now.against) p c.args.entailed.now c.add_fixed.new.self c.args.i (arc_of c.args.cons.now.lang.now c.condition-holding.result.0 c.condition-holding.result.1) c.args.doms.now c.revise.new.doms c.condition-holding.ensures.is
     (subst (λ (a : Arc). All (λ v. v < length c.args.doms.now) a.scope) (c.condition-holding.ensures.is none) (arcs_within c.args.cons.now.lang.now c.args.cons.now.list.now c.args.cons.now.against c.requires.lawful c.requires.constraints c.args.doms.now c.requires.doms.family c.args.i none c.requires.low))
     c.in-Some-revise.ensures.revised
     (λ k at. subst (λ (scope : List ℕ). (is_noted_in c.args.entailed.now k ≡ true) ⊎ ((k ≡ c.args.i) × IsAlmostFixed c.revise.new.doms scope)) c.scope-scope.ensures.is (c.add_fixed.ensures.noted k at)) c.add_fixed.ensures.struck are
 
-pub returns-else-len-eq0-clause-entailed : goal.returns-else-len-eq0-clause-entailed
-returns-else-len-eq0-clause-entailed c = λ e p are.
+pub returns-else-is_empty-clause-entailed : goal.returns-else-is_empty-clause-entailed
+returns-else-is_empty-clause-entailed c = λ e p are.
     fixed_taken_in (arcs_of c.args.cons.now.lang.now c.args.cons.now.list.now c.args.cons.now.against) p c.args.entailed.now c.add_fixed.new.self c.args.i (arc_of c.args.cons.now.lang.now c.condition-holding.result.0 c.condition-holding.result.1) c.args.doms.now c.revise.new.doms c.condition-holding.ensures.is
     (subst (λ (a : Arc). All (λ v. v < length c.args.doms.now) a.scope) (c.condition-holding.ensures.is none) (arcs_within c.args.cons.now.lang.now c.args.cons.now.list.now c.args.cons.now.against c.requires.lawful c.requires.constraints c.args.doms.now c.requires.doms.family c.args.i none c.requires.low))
     c.in-Some-revise.ensures.revised

@@ -1,5 +1,4 @@
-use Rattle.propagators.proofs.Prelude.{◌∙◌, sym, not-true, arcs_of}
-use Rattle.propagators.proofs.Ones.{not_false}
+use Rattle.propagators.proofs.Prelude.{◌∙◌, sym, not-true, arcs_of, not-false}
 use Rattle.propagators.proofs.Rounds.{empty_stays}
 use Rattle.propagators.proofs.visits.propagate_all.Goals as goal
 
@@ -9,5 +8,5 @@ returns-then-has_empty-clause-dead c = λ e. empty_stays (arcs_of c.args.cons.no
 pub first_changed-changed-requires-clause-doms : goal.first_changed-changed-requires-clause-doms
 first_changed-changed-requires-clause-doms c = record {
   family = c.requires.family;
-  full = not_false _ (sym c.has_empty.ensures ∙ c.if-has_empty.false);
+  full = not-false _ (sym c.has_empty.ensures ∙ c.if-has_empty.false);
 }

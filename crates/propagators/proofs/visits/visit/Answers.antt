@@ -8,8 +8,8 @@ use Rattle.propagators.proofs.visits.visit.Goals as goal
 
 pub loop-w-init : goal.loop-w-init
 loop-w-init c = record {
-  visiting = visit_apart (arcs_of c.args.cons.now.lang.now c.args.cons.now.list.now c.args.cons.now.against) c.args.plan.now c.args.v (without c.args.changed c.args.v) c.without_least-waiting.result c.look_apart.new.waiting c.args.doms.now c.args.doms.now c.look_apart.new.doms
-      (subst (λ (xs : List ℕ). IsVisiting (arcs_of c.args.cons.now.lang.now c.args.cons.now.list.now c.args.cons.now.against) (without c.args.changed c.args.v) c.args.doms.now (Lacks (arcs_of c.args.cons.now.lang.now c.args.cons.now.list.now c.args.cons.now.against) c.args.v) xs c.args.doms.now) (sym c.without_least-waiting.ensures)
+  visiting = visit_apart (arcs_of c.args.cons.now.lang.now c.args.cons.now.list.now c.args.cons.now.against) c.args.plan.now c.args.v (without c.args.changed c.args.v) c.without-waiting.result c.look_apart.new.waiting c.args.doms.now c.args.doms.now c.look_apart.new.doms
+      (subst (λ (xs : List ℕ). IsVisiting (arcs_of c.args.cons.now.lang.now c.args.cons.now.list.now c.args.cons.now.against) (without c.args.changed c.args.v) c.args.doms.now (Lacks (arcs_of c.args.cons.now.lang.now c.args.cons.now.list.now c.args.cons.now.against) c.args.v) xs c.args.doms.now) (sym c.without-waiting.ensures)
       (visit_begin (arcs_of c.args.cons.now.lang.now c.args.cons.now.list.now c.args.cons.now.against) c.args.changed c.args.v c.args.doms.now
       (arcs_small c.args.cons.now.lang.now c.args.cons.now.list.now c.args.cons.now.against c.requires.lawful c.requires.constraints) c.requires.doms.full c.requires.doms.settled))
       (c.in-Yes.ensures.looked refl);

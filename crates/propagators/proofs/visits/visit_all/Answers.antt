@@ -8,15 +8,11 @@ pub returns-in-None-clause-dead : goal.returns-in-None-clause-dead
 returns-in-None-clause-dead c = λ e. dead_before (arcs_of c.args.cons.now.lang.now c.args.cons.now.list.now c.args.cons.now.against) c.args.doms.now c.loop-v.doms c.loop-v.invariant.0 (c.in-None.ensures.dead refl)
 
 pub loop-v-smaller : goal.loop-v-smaller
-loop-v-smaller c = visits_fall c.loop-v.doms c.visit.new.doms c.loop-v.changed c.in-Some-visit.next c.in-Some.v c.len-few.ensures.few c.len-few.ensures.set (sym c.in-Some.ensures.least) c.in-Some-visit.ensures.visited.left
-
-none_left : (xs : List ℕ) → least_of xs ≡ None → xs ≡ []
-none_left [] h = refl
-none_left (x ∷ xs) h = absurd (let no : ⊥ = cc in no)
+loop-v-smaller c = visits_fall c.loop-v.doms c.visit.new.doms c.loop-v.changed c.in-Some-visit.next c.in-Some.v c.in-Some.ensures.set c.in-Some.ensures.within c.in-Some.ensures.there c.in-Some-visit.ensures.visited.left
 
 pub returns-clause-alive : goal.returns-clause-alive
 returns-clause-alive c = λ e. record {
-  largest = settled_largest (arcs_of c.args.cons.now.lang.now c.args.cons.now.list.now c.args.cons.now.against) c.args.doms.now c.loop-v.doms c.loop-v.changed (none_left c.loop-v.changed (sym c.least.ensures.least ∙ c.in_default.is))
+  largest = settled_largest (arcs_of c.args.cons.now.lang.now c.args.cons.now.list.now c.args.cons.now.against) c.args.doms.now c.loop-v.doms c.loop-v.changed (c.in_default.ensures.none refl)
       c.loop-v.invariant.0 c.loop-v.invariant.1;
   full = c.loop-v.invariant.0.full;
   family = family_under c.args.cons.now.lang.now (arcs_of c.args.cons.now.lang.now c.args.cons.now.list.now c.args.cons.now.against) c.args.doms.now c.loop-v.doms c.requires.doms.family c.loop-v.invariant.0;

@@ -1,6 +1,5 @@
-use Rattle.query_gen.proofs.Prelude.{◌∙◌, arith}
+use Rattle.query_gen.proofs.Prelude.{◌∙◌, arith, number_below}
 use Rattle.query_gen.proofs.Among.{among_is}
-use Rattle.query_gen.proofs.Numbers.{number_below}
 use Rattle.query_gen.proofs.Parts.{next_other, next_kept, under_implied, under_spent}
 use Rattle.query_gen.proofs.part.look_at.Goals as goal
 

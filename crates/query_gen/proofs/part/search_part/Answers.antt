@@ -1,4 +1,4 @@
-use Rattle.query_gen.proofs.Prelude.{◌+◌, refl, ap, arith, reach, start_of}
+use Rattle.query_gen.proofs.Prelude.{◌+◌, refl, ap, arith, reach, scope_start}
 use Rattle.query_gen.proofs.Parts.{searched_none}
 use Rattle.query_gen.proofs.Scopes.{from_start, start_next, start_rises, no_ask, rising_scopes, scope_inside, scopes_passed, moved, blank}
 use Rattle.query_gen.proofs.part.search_part.Goals as goal
@@ -13,10 +13,10 @@ pub loop-scope-init : goal.loop-scope-init
 loop-scope-init c =
     let number = c.candidate.ensures.number in
     let here = from_start c.args.lang.now c.candidate.result in
-    let same = ap (start_of c.args.lang.now) c.from-start.ensures in
+    let same = ap (scope_start c.args.lang.now) c.from-start.ensures in
     let rising = c.requires.part.0 in
     let some = c.if-first-end.false in
-    let before = moved c.args.lang.now c.args.net.now.list c.args.kept.now.members c.args.budget c.args.first c.args.first (reach c.args.first c.args.end (start_of c.args.lang.now c.from-start.result)) c.fill.new.self _
+    let before = moved c.args.lang.now c.args.net.now.list c.args.kept.now.members c.args.budget c.args.first c.args.first (reach c.args.first c.args.end (scope_start c.args.lang.now c.from-start.result)) c.fill.new.self _
     (omega arith) (searched_none c.args.lang.now c.args.net.now.list c.args.kept.now.members c.args.budget c.args.first c.fill.new.self _ refl (blank c.fill.new.self _ (c.fill.ensures.after (λ y same. same)))) in
     record {
       searched = scopes_passed c.args.lang.now c.args.net.now.list c.args.kept.now.members c.args.budget c.args.first c.args.end c.from-start.result c.kept_from-scope.result c.fill.new.self _
@@ -63,5 +63,5 @@ returns-clause-is c =
     let next = start_next c.args.lang.now c.candidate-2.result.scope in
     let rises = start_rises c.args.lang.now (c.candidate-2.result.scope + 1) c.loop-scope.scope (omega arith) in
     let rising = c.requires.part.0 in
-    (moved c.args.lang.now c.args.net.now.list c.args.kept.now.members c.args.budget c.args.first (reach c.args.first c.args.end (start_of c.args.lang.now c.loop-scope.scope)) c.args.end c.loop-scope.marks c.loop-scope.answer
+    (moved c.args.lang.now c.args.net.now.list c.args.kept.now.members c.args.budget c.args.first (reach c.args.first c.args.end (scope_start c.args.lang.now c.loop-scope.scope)) c.args.end c.loop-scope.marks c.loop-scope.answer
     (let some = c.if-first-end.false in omega arith) c.loop-scope.invariant.searched).searched

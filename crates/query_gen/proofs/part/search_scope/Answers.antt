@@ -1,4 +1,4 @@
-use Rattle.query_gen.proofs.Prelude.{◌+◌, length, refl, ◌∙◌, ap, arith, ones_of, ones_of-zero, IsCandidate, candidate_at, reach, start_of}
+use Rattle.query_gen.proofs.Prelude.{◌+◌, length, refl, ◌∙◌, ap, arith, ones_of, IsCandidate, candidate_at, reach, scope_start, ones_of-zero}
 use Rattle.query_gen.proofs.Parts.{searched_found}
 use Rattle.query_gen.proofs.Scopes.{from_start, start_next, moved, passed_to, all_left, left_after, none_between, none_left, first_known, no_ask}
 use Rattle.query_gen.proofs.part.search_scope.Goals as goal
@@ -12,7 +12,7 @@ loop-relations-init c =
     let rising = c.requires.scope.rising in
     let next = start_next c.args.lang.now c.args.scope in
     record {
-      searched = moved c.args.lang.now c.args.net.now.list c.args.kept.now.members c.args.budget c.args.first (reach c.args.first c.args.end (start_of c.args.lang.now c.args.scope)) c.max-next.result c.args.marks.now c.args.answer.now
+      searched = moved c.args.lang.now c.args.net.now.list c.args.kept.now.members c.args.budget c.args.first (reach c.args.first c.args.end (scope_start c.args.lang.now c.args.scope)) c.max-next.result c.args.marks.now c.args.answer.now
           (omega arith) c.requires.before;
       none = c.requires.none;
       size = refl;
@@ -147,7 +147,7 @@ returns-clause-further c = λ still.
     let ends = c.requires.scope.ends in
     let begins = c.requires.scope.begins in
     let rising = c.requires.scope.rising in
-    passed_to c.args.lang.now c.args.net.now.list c.args.kept.now.members c.args.budget c.args.first c.args.scope c.loop-relations.next (reach c.args.first c.args.end (start_of c.args.lang.now (c.args.scope + 1))) c.loop-relations.marks c.loop-relations.answer
+    passed_to c.args.lang.now c.args.net.now.list c.args.kept.now.members c.args.budget c.args.first c.args.scope c.loop-relations.next (reach c.args.first c.args.end (scope_start c.args.lang.now (c.args.scope + 1))) c.loop-relations.marks c.loop-relations.answer
     c.requires.scope.known (omega arith) (omega arith) within (omega arith)
     (λ r after below. none_left c.args.kept.now.members c.args.scope c.number_of-base.result c.args.end c.loop-relations.relations c.loop-relations.next (ap ones_of c.loop-relations-test.false ∙ ones_of-zero) before.left r (omega arith) (omega arith))
     before.searched

@@ -1,4 +1,4 @@
-use Rattle.query_gen.proofs.Prelude.{◌≡◌, ◌+◌, ◌≤◌, false, length, ones_of, is_ask, reach, start_of, IsSearchedTo}
+use Rattle.query_gen.proofs.Prelude.{◌≡◌, ◌+◌, ◌≤◌, false, length, ones_of, is_ask, reach, scope_start, IsSearchedTo}
 use Rattle.query_gen.proofs.Scopes.{AreLeft}
 use Rattle.query_gen.proofs.part.search_scope.Given as goal
 
@@ -9,7 +9,7 @@ invariant-loop-relations l = record {
   size : length l.marks ≡ length l.initial.marks;
   from : l.fn.first ≤ l.next;
   behind : l.base ≤ l.next;
-  within : l.next ≤ reach l.fn.first l.fn.end (start_of l.fn.lang (l.fn.scope + 1));
+  within : l.next ≤ reach l.fn.first l.fn.end (scope_start l.fn.lang (l.fn.scope + 1));
   left : AreLeft l.fn.kept.members l.fn.scope l.base l.fn.end l.relations l.next;
 }
 

@@ -1,5 +1,4 @@
-use Rattle.query_gen.proofs.Prelude.{◌+◌, ◌<◌, ◌≤◌, length, sym, ◌∙◌, ap, ap₂, arith, candidates, number_of, query_then, is_ask}
-use Rattle.query_gen.proofs.Numbers.{number_below}
+use Rattle.query_gen.proofs.Prelude.{◌+◌, ◌<◌, ◌≤◌, length, sym, ◌∙◌, ap, ap₂, arith, candidates, number_of, query_then, is_ask, number_below}
 use Rattle.query_gen.proofs.Parts.{parts_are_joined, says_early, searched_true, taken_further}
 use Rattle.query_gen.proofs.Scopes.{no_ask}
 use Rattle.query_gen.proofs.query.next_query.Goals as goal

@@ -1,4 +1,4 @@
-use Rattle.rel_formula.proofs.Prelude.{◌≡◌, ◌+◌, ◌-◌, ◌*◌, ◌^◌, ℤ, None, w64, to_z, of_z, arith, subst, suc, to_z-of_z, relation_of, first_too_big}
+use Rattle.rel_formula.proofs.Prelude.{◌≡◌, ◌+◌, ◌-◌, ◌*◌, ◌^◌, ℤ, None, w64, to_z, of_z, arith, subst, suc, to_z-of_z, relation_from_formula, first_too_big}
 use Rattle.std.proofs.Common.{negsuc, pos, ◌≤ℤ◌, ap, sym}
 use Rattle.rel_formula.specs.Places.{AreTruthsTo}
 use Rattle.rel_formula.proofs.Places.{relation_of-all, first_too_big-none, all_rows}
@@ -14,7 +14,7 @@ returns-clause-truth c =
     let size : c.args.arity ≡ suc (c.args.arity - 1) = omega (arith, c.requires.some) in
     let rows : c.loop-row.row ≡ c.args.d ^ (c.args.arity - 1) = omega (arith, c.loop-row-test.false, c.loop-row.auto.row-end, c.tuple_count-rows.ensures) in
     let all : c.loop-row.row * c.args.d ≡ c.args.d ^ c.args.arity = all_rows c.args.d (c.args.arity - 1) c.args.arity c.loop-row.row size rows in
-    subst (λ (y : ℤ). c.loop-row.truths.items ≡ relation_of c.args.f.now c.args.arity y c.args.d) (to_z-of_z w64 c.args.lo c.ranges.lo)
+    subst (λ (y : ℤ). c.loop-row.truths.items ≡ relation_from_formula c.args.f.now c.args.arity y c.args.d) (to_z-of_z w64 c.args.lo c.ranges.lo)
     (relation_of-all c.args.f.now c.args.arity _ c.args.d (c.loop-row.row * c.args.d) _ (omega (arith, all)) c.loop-row.invariant.truth)
 
 pub returns-clause-fits : goal.returns-clause-fits

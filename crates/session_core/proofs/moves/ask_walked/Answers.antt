@@ -1,4 +1,4 @@
-use Rattle.session_core.proofs.Prelude.{◌≡◌, ◌∙◌, true, sym, ap, subst, IsTrue, Plan, Scopes, Multi, Idle, is_lawful, Stage, IsWalkOn, turn_at, stage_after, Knowledge}
+use Rattle.session_core.proofs.Prelude.{◌≡◌, ◌∙◌, true, refl, sym, ap, subst, IsTrue, Plan, Scopes, Multi, Idle, is_lawful, Stage, IsWalkOn, turn_at, stage_after, Knowledge}
 use Rattle.session_core.proofs.Questions.{by_plan}
 use Rattle.session_core.proofs.Moving.{led_from}
 use Rattle.session_core.proofs.Walks.{first_turns}
@@ -19,6 +19,7 @@ invariant_of-result c =
         walk = λ multi. c.next_beside.ensures.stage ∙ ap (λ (stage : Stage). stage_after (turn_at k.lang k.network.list k.kept.members stage)) c.start.ensures.stage
             ∙ ap stage_after (first_turns k.lang c.n-variables.ensures.lawful k.kept.members k.network.list c.args.q may);
       };
+      asked = refl;
     }
 
 pub returns-clause-stands : goal.returns-clause-stands

@@ -1,8 +1,8 @@
 use Rattle.session_core.proofs.Prelude.{sym, ◌∙◌, ap}
-use Rattle.bias_store.specs.Masks.{ones_of}
-use Rattle.bias_store.proofs.Ones.{ones_of-zero, no_ones}
 use Rattle.session_core.proofs.Scoped.{none_undecided, new_run}
 use Rattle.session_core.proofs.scopes.run_on.Goals as goal
+use Rattle.assign.specs.Sets.{ones_of}
+use Rattle.assign.proofs.Ones.{no_ones, ones_of-zero}
 
 pub returns-then-on_scope-eq0 : goal.returns-then-on_scope-eq0
 returns-then-on_scope-eq0 c = λ network unlearned. none_undecided c.args.lang.now c.args.kept.now.members network c.args.s (sym c.on_scope.ensures ∙ ap ones_of c.if-on_scope-eq0.true ∙ ones_of-zero)

@@ -1,9 +1,7 @@
 use Rattle.session_store.proofs.Prelude.{◌≡◌, ◌∙◌, sym, ap, subst, Some, both_ways, Assignment, State, At, IsAskedIn, answer_to, questions_have_places}
 use Rattle.session_store.proofs.Replaying.{opened, other_stays, busy_from, moved_to}
 use Rattle.session_store.proofs.replay.asking_answered.Goals as goal
-
-same_state : (s t : State) → At s ≡ At t → s ≡ t
-same_state s t e = cc
+use Rattle.session_laws.proofs.States.{same_state}
 
 pub returns-then-equals-clause-some : goal.returns-then-equals-clause-some
 returns-then-equals-clause-some c =

@@ -1,5 +1,5 @@
-use Rattle.session_store.proofs.Exits.{none_given}
 use Rattle.session_store.proofs.replay.replay.Goals as goal
+use Rattle.shared_lemmas.proofs.Read.{none_given}
 
 pub returns-in_err-records-clause-lang : goal.returns-in_err-records-clause-lang
 returns-in_err-records-clause-lang c = none_given _ _ c.from_residual.result c.from_residual.ensures.1

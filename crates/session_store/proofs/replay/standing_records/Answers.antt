@@ -1,4 +1,4 @@
-use Rattle.session_store.proofs.Prelude.{◌+◌, ℕ, List, ◌∙◌, sym, subst, IsCounted}
+use Rattle.session_store.proofs.Prelude.{◌+◌, ℕ, List, ◌∙◌, sym, subst, AreStandingNumbers}
 use Rattle.session_store.proofs.Recording.{popped_one, answer_counted, back_counted, all_counted}
 use Rattle.session_store.proofs.replay.standing_records.Goals.{in-Answer+in_ok-push-in-Answer, in-Back+else-is_none}
 use Rattle.session_store.proofs.replay.standing_records.Goals as goal
@@ -7,7 +7,7 @@ pub loop-i-preserved : goal.loop-i-preserved
 loop-i-preserved c =
     let events = c.args.events.now in
     let i : ℕ = c.loop-i.i in
-    let Counted : List ℕ → Type 0 = λ xs. IsCounted events (i + 1) xs in
+    let Counted : List ℕ → Type 0 = λ xs. AreStandingNumbers events (i + 1) xs in
     elim c.match-event.branch [
       | in-Answer+in_ok-push-in-Answer w ↦
           rw w.records-is (subst Counted (sym w.in_ok-push-in-Answer.ensures.items)

@@ -1,7 +1,6 @@
-use Rattle.session_store.proofs.Prelude.{◌+◌, ℕ, inl, arith, on_ok_weaker, Back, none_done, behind_as, then_behind, HasNew, IsOldOrNew, IsSame, calls_to_raise}
+use Rattle.session_store.proofs.Prelude.{◌+◌, ℕ, inl, arith, on_ok_weaker, Back, none_done, behind_as, then_behind, HasNew, IsOldOrNew, IsSame, calls_to_raise, none_given}
 use Rattle.session_store.proofs.Keepers.{rose_later}
 use Rattle.session_store.proofs.Stores.{append_failed}
-use Rattle.session_store.proofs.Exits.{none_given}
 use Rattle.session_store.proofs.store.append_back.Goals as goal
 
 pub returns-in_err-raised-clause-leaves : goal.returns-in_err-raised-clause-leaves

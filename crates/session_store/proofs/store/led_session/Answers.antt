@@ -1,6 +1,5 @@
-use Rattle.session_store.proofs.Prelude.{err_from_is_err_and, IfErr-weaker, knowledge_of, NotLed, NamesStray}
+use Rattle.session_store.proofs.Prelude.{err_from_is_err_and, IfErr-weaker, knowledge_of, NotLed, NamesStray, none_given}
 use Rattle.session_store.proofs.Stores.{no_language, strays}
-use Rattle.session_store.proofs.Exits.{none_given}
 use Rattle.session_store.proofs.store.led_session.Goals as goal
 
 pub returns-in_err-lang-clause-refused : goal.returns-in_err-lang-clause-refused

@@ -1,6 +1,5 @@
-use Rattle.session_store.proofs.Prelude.{sym, subst, knowledge_of, HavePlaces}
+use Rattle.session_store.proofs.Prelude.{sym, subst, knowledge_of, HavePlaces, none_given}
 use Rattle.session_store.proofs.Placing.{none_placed}
-use Rattle.session_store.proofs.Exits.{none_given}
 use Rattle.session_store.proofs.store.new_session.Goals as goal
 
 pub new-requires-2-clause-places : goal.new-requires-2-clause-places

@@ -1,4 +1,4 @@
-use Rattle.voc_read.proofs.Prelude.{◌≡◌, ◌≢◌, None, Ok, Err, map, subst, sym, ap, ◌∙◌, Some, err_from_is_err_and, items_view, listed_in, names_refusal, listed_items, outline_data, named_range, ranges_of, with_ranges, AreApart, scopes_of, texts_of, Bor, List, ℕ, ◌≤◌, All, length, length-map, Frame, IsFrame, IsOver, AreKnown, first_repeat}
+use Rattle.voc_read.proofs.Prelude.{◌≡◌, ◌≢◌, None, Ok, Err, map, subst, sym, ap, ◌∙◌, Some, err_from_is_err_and, items_view, listed_in, names_refusal, listed_items, outline_data, named_range, ranges_of, with_ranges, HaveDistinctVariables, scopes_stated, texts_of, Bor, List, ℕ, ◌≤◌, All, length, length-map, Frame, IsFrame, IsOver, AreKnown, first_repeat}
 use Rattle.language.specs.declared.parts.LangFault.TheVariants as lang
 use Rattle.voc_read.proofs.KnownRanges.{are_known, known_as}
 use Rattle.voc_read.proofs.LanguageMade.{is_language, is_refused, names_refused, outline_refused, ranges_refused, relations_refused, scopes_refused}
@@ -11,7 +11,7 @@ set_ranges-requires-clause-known c =
 
 pub set_ranges-requires-clause-apart : goal.set_ranges-requires-clause-apart
 set_ranges-requires-clause-apart c =
-    subst (λ rs. AreApart (map named_range rs)) (sym c.deref-3.ensures.value) (are_known _ _ _ (items_view c.args.outline.now.ranges.now) _ c.in_ok-ranges.ensures).1
+    subst (λ rs. HaveDistinctVariables (map named_range rs)) (sym c.deref-3.ensures.value) (are_known _ _ _ (items_view c.args.outline.now.ranges.now) _ c.in_ok-ranges.ensures).1
 
 pub returns-in-Ok-clause-ok : goal.returns-in-Ok-clause-ok
 returns-in-Ok-clause-ok c =
@@ -23,7 +23,7 @@ returns-in-Ok-clause-ok c =
       count = c.domain_of-domain.ensures.count;
       ranges = subst (λ names. ranges_of c.domain_of-domain.result.least_value c.domain_of-domain.result.value_count (texts_of names) (items_view c.args.outline.now.ranges.now) ≡ Ok (map named_range c.in_ok-ranges.ranges.items)) c.deref-2.ensures.value c.in_ok-ranges.ensures;
       relations = c.in_ok-given.ensures.is;
-      scopes = subst (λ names. scopes_of (texts_of names) (listed_items c.args.outline.now.listed) ≡ Ok (listed_in c.in_ok-scopes.scopes)) c.deref-4.ensures.value c.in_ok-scopes.ensures.is;
+      scopes = subst (λ names. scopes_stated (texts_of names) (listed_items c.args.outline.now.listed) ≡ Ok (listed_in c.in_ok-scopes.scopes)) c.deref-4.ensures.value c.in_ok-scopes.ensures.is;
       sets = c.set_ranges.ensures ∙ ap (λ rs. with_ranges c.in_ok-frame.frame (map named_range rs)) c.deref-3.ensures.value;
     } _ c.in-Ok.ensures.made c.in-Ok.ensures.built
 
@@ -38,7 +38,7 @@ returns-clause-refused c =
       count = c.domain_of-domain.ensures.count;
       ranges = subst (λ names. ranges_of c.domain_of-domain.result.least_value c.domain_of-domain.result.value_count (texts_of names) (items_view c.args.outline.now.ranges.now) ≡ Ok (map named_range c.in_ok-ranges.ranges.items)) c.deref-2.ensures.value c.in_ok-ranges.ensures;
       relations = c.in_ok-given.ensures.is;
-      scopes = subst (λ names. scopes_of (texts_of names) (listed_items c.args.outline.now.listed) ≡ Ok (listed_in c.in_ok-scopes.scopes)) c.deref-4.ensures.value c.in_ok-scopes.ensures.is;
+      scopes = subst (λ names. scopes_stated (texts_of names) (listed_items c.args.outline.now.listed) ≡ Ok (listed_in c.in_ok-scopes.scopes)) c.deref-4.ensures.value c.in_ok-scopes.ensures.is;
       sets = c.set_ranges.ensures ∙ ap (λ rs. with_ranges c.in_ok-frame.frame (map named_range rs)) c.deref-3.ensures.value;
     } c.in-Err.fault (c.in-Err.ensures.refused other) ∙ ap Some (sym (c.lang_fault.ensures.other other))
 
@@ -73,7 +73,7 @@ returns-in_err-scopes-clause-refused c =
     rw (p.1, p.2) (λ real. scopes_refused (outline_data c.args.outline.now) c.in_ok-frame.frame c.domain_of-domain.result.least_value c.domain_of-domain.result.value_count _
     (subst (λ names. names_refusal (texts_of names) ≡ None) c.deref.ensures.value c.in_ok-check_names.ensures.refused) c.in_ok-frame.ensures.refused c.in_ok-frame.ensures.frame c.domain_of-domain.ensures.least c.domain_of-domain.ensures.count
     _ _ (subst (λ names. ranges_of c.domain_of-domain.result.least_value c.domain_of-domain.result.value_count (texts_of names) (items_view c.args.outline.now.ranges.now) ≡ Ok (map named_range c.in_ok-ranges.ranges.items)) c.deref-2.ensures.value c.in_ok-ranges.ensures) c.in_ok-given.ensures.is
-    (subst (λ names. scopes_of (texts_of names) (listed_items c.args.outline.now.listed) ≡ Err c.in_err-scopes.field-0.0) c.deref-4.ensures.value (c.in_err-scopes.ensures.is real)))
+    (subst (λ names. scopes_stated (texts_of names) (listed_items c.args.outline.now.listed) ≡ Err c.in_err-scopes.field-0.0) c.deref-4.ensures.value (c.in_err-scopes.ensures.is real)))
 
 pub set_ranges-requires-clause-whole : goal.set_ranges-requires-clause-whole
 set_ranges-requires-clause-whole c = c.in_ok-frame.ensures.frame.whole

@@ -1,5 +1,4 @@
-use Rattle.bias_store.proofs.Prelude.{length, subst, sym, ap, ◌∙◌, All, length-replicate, All-nil, IsCandidate, members_from}
-use Rattle.bias_store.proofs.Ones.{ones_of-zero}
+use Rattle.bias_store.proofs.Prelude.{length, subst, sym, ap, ◌∙◌, All, length-replicate, All-nil, IsCandidate, members_from, ones_of-zero}
 use Rattle.bias_store.proofs.Members.{members_from-none}
 use Rattle.bias_store.proofs.kept.Kept.of.Goals as goal
 

@@ -1,5 +1,5 @@
 use Rattle.bias_store.proofs.Prelude.{ℕ, List, length, slice_set, subst, sym, ◌∙◌}
-use Rattle.bias_store.specs.Made.{IsMade, AreBegun}
+use Rattle.bias_store.specs.Made.{IsMadeOfScopes, AreBegun}
 use Rattle.bias_store.proofs.Tabled.{begun_new}
 use Rattle.bias_store.proofs.tables.Made.begin.Goals.{then-self-size+in_ok-self, else-self-size}
 use Rattle.bias_store.proofs.tables.Made.begin.Goals as goal
@@ -11,10 +11,10 @@ returns-clause-made c =
       | then-self-size+in_ok-self w ↦ (
           let new = w.new_begin-then-self-size.new.self in
           let made = w.in_ok-self.ensures.made in
-          subst (IsMade l) (sym w.self-is) (record {
+          subst (IsMadeOfScopes l) (sym w.self-is) (record {
             classes = made.classes;
             begins = subst (λ (xs : List ℕ). AreBegun l (slice_set new.begins (length xs) w.in_ok-self.field-0) new.masks.items) (sym c.scope-size.ensures.is)
                 (begun_new l c.requires.lawful new.begins new.masks.items c.args.s w.in_ok-self.field-0 c.requires.scope (sym c.is_whole.ensures ∙ c.if-not-is_whole.false) made.begins w.in_ok-self.ensures.table);
           }))
-      | else-self-size w ↦ subst (IsMade l) (sym w.self-is) c.requires.made
+      | else-self-size w ↦ subst (IsMadeOfScopes l) (sym w.self-is) c.requires.made
     ]

@@ -1,6 +1,5 @@
-use Rattle.bias_store.proofs.Prelude.{◌≡◌, ℕ, ◌+◌, ◌<◌, ◌≤◌, ◌⊎◌, inl, inr, [], length, get_or, None, sym, ◌∙◌, ap, subst, arith, cases_lt, cases_eq, value_of, scope_at, ones_of, Accepting, AreRunsFrom, violated_on}
+use Rattle.bias_store.proofs.Prelude.{◌≡◌, ℕ, ◌+◌, ◌<◌, ◌≤◌, ◌⊎◌, inl, inr, [], length, get_or, None, sym, ◌∙◌, ap, subst, arith, cases_lt, cases_eq, value_of, scope_at, ones_of, Accepting, AreRunsFrom, violated_on, ones_of-zero}
 use Rattle.bias_store.proofs.Members.{read_at}
-use Rattle.bias_store.proofs.Ones.{ones_of-zero}
 use Rattle.bias_store.proofs.Runs.{run_open}
 use Rattle.bias_store.proofs.Violating.{open_violated}
 use Rattle.bias_store.proofs.tables.Tables.next_violated.Goals as goal

@@ -1,4 +1,4 @@
-use Rattle.disk_model.proofs.Prelude.{◌≡◌, ◌+◌, ◌∷◌, ◌++◌, ◌∙◌, [], ℕ, List, get_or, take, drop, ap, sym, subst, Write, Step, tape_steps, IsReplay, step_of, size_of}
+use Rattle.disk_model.proofs.Prelude.{◌≡◌, ◌+◌, ◌∷◌, ◌++◌, ◌∙◌, [], ℕ, List, get_or, take, drop, ap, sym, subst, Write, Step, tape_steps, IsReplay, step_of, mark_bytes}
 use Rattle.disk_model.proofs.Replays.{next_fits, next_step, next_rest}
 use Rattle.disk_model.proofs.tape.Tape.images_at.Goals as goal
 
@@ -14,7 +14,7 @@ loop-mark-preserved c =
     let mark = get_or (take c.args.moment c.as_slice.result.now) i (Write 0 0) in
     let next = c.in_ok-replay.replay in
     let rest = c.loop-mark.rest.now in
-    let front : c.split_at.result.0.now ≡ take (size_of mark) rest = c.split_at.ensures.front ∙ ap (λ n. take n rest) c.size.ensures in
+    let front : c.split_at.result.0.now ≡ take (mark_bytes mark) rest = c.split_at.ensures.front ∙ ap (λ n. take n rest) c.size.ensures in
     let step : take i (tape_steps t) ++ step_of mark c.split_at.result.0.now ∷ [] ≡ take (i + 1) (tape_steps t) =
     ap (λ (l : List ℕ). take i (tape_steps t) ++ step_of mark l ∷ []) front ∙ sym (next_step t.marks.items t.written.items t.counted c.args.moment i (Write 0 0) c.as_slice.result.now rest c.as_slice.ensures.value c.loop-mark.invariant.left c.loop-mark-test.true) in
     record {

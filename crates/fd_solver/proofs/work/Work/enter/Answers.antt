@@ -1,4 +1,4 @@
-use Rattle.fd_solver.proofs.Prelude.{◌≡◌, ◌<◌, ◌+◌, ◌++◌, ◌∙◌, List, [], ◌∷◌, ap, sym, subst, length, arith, slice_index_or, slice_set, get_or_read, get_or-set_same, length-set, has, Family, arcs_of, AreEntailed, Entailed, AreReady, AreKnown, Room}
+use Rattle.fd_solver.proofs.Prelude.{◌≡◌, ◌<◌, ◌+◌, ◌++◌, ◌∙◌, List, [], ◌∷◌, ap, sym, subst, length, arith, slice_index_or, slice_set, get_or_read, get_or-set_same, length-set, has, Family, arcs_of, AreEntailed, Entailed, AreReady, EntailedAreKnown, Room}
 use Rattle.propagators.specs.Plans.{IsPlanOf}
 use Rattle.fd_solver.proofs.Narrowing.{deepest, below_lacking, entered, entered_ready, ready_written, deeper_written}
 use Rattle.fd_solver.proofs.Knowing.{known_written, known_deeper}
@@ -59,8 +59,8 @@ returns-clause-deeper c = λ alive. record {
       let at = c.len-at.ensures in
       let room : c.len-at.result + 1 < length depths = omega arith in
       let lists_room : c.len-at.result + 1 < length lists = omega arith in
-      subst (λ (ds : List Family). AreKnown (arcs_of c.args.cons.now.lang.now c.args.cons.now.list.now c.args.cons.now.against) c.self.inside.plan (c.args.prefix.now ++ c.args.x ∷ []) (slice_set ds (c.len-at.result + 1) c.narrow.new.doms) (slice_set (slice_set lists (c.len-at.result + 1) c.take.new.self) (c.len-at.result + 1) c.narrow.new.entailed)) (sym c.copy_down.ensures.is)
-      (known_deeper (arcs_of c.args.cons.now.lang.now c.args.cons.now.list.now c.args.cons.now.against) c.self.inside.plan c.args.prefix.now c.len-at.result depths (slice_index_or c.self.inside.depths.items c.len-at.result []) c.narrow.new.doms lists c.take.new.self c.narrow.new.entailed at (subst (λ (w : Room). AreKnown (arcs_of c.args.cons.now.lang.now c.args.cons.now.list.now c.args.cons.now.against) w.plan c.args.prefix.now w.depths w.entailed) (sym c.self.view_is) c.requires.ready.entailed) c.args.x room lists_room (c.narrow.ensures.entailed alive)));
+      subst (λ (ds : List Family). EntailedAreKnown (arcs_of c.args.cons.now.lang.now c.args.cons.now.list.now c.args.cons.now.against) c.self.inside.plan (c.args.prefix.now ++ c.args.x ∷ []) (slice_set ds (c.len-at.result + 1) c.narrow.new.doms) (slice_set (slice_set lists (c.len-at.result + 1) c.take.new.self) (c.len-at.result + 1) c.narrow.new.entailed)) (sym c.copy_down.ensures.is)
+      (known_deeper (arcs_of c.args.cons.now.lang.now c.args.cons.now.list.now c.args.cons.now.against) c.self.inside.plan c.args.prefix.now c.len-at.result depths (slice_index_or c.self.inside.depths.items c.len-at.result []) c.narrow.new.doms lists c.take.new.self c.narrow.new.entailed at (subst (λ (w : Room). EntailedAreKnown (arcs_of c.args.cons.now.lang.now c.args.cons.now.list.now c.args.cons.now.against) w.plan c.args.prefix.now w.depths w.entailed) (sym c.self.view_is) c.requires.ready.entailed) c.args.x room lists_room (c.narrow.ensures.entailed alive)));
   plan = subst (IsPlanOf c.args.cons.now.lang.now (arcs_of c.args.cons.now.lang.now c.args.cons.now.list.now c.args.cons.now.against)) (sym (ap (λ (w : Room). w.plan) c.self.view_is)) c.requires.ready.plan;
   deep = (let seen = ap (λ (w : Room). length w.depths) c.self.view_is in
       let copied = length-set c.self.inside.depths.items (c.len-at.result + 1) (slice_index_or c.self.inside.depths.items c.len-at.result []) in
@@ -84,8 +84,8 @@ returns-clause-ready c = record {
   depths = subst (λ (ds : List Family). AreReady c.args.cons.now.lang.now c.args.cons.now.list.now c.args.cons.now.against c.args.order.now c.args.prefix.now (slice_set ds (c.len-at.result + 1) c.narrow.new.doms)) (sym c.copy_down.ensures.is)
       (ready_written c.args.cons.now.lang.now c.args.cons.now.list.now c.args.cons.now.against c.args.order.now c.args.prefix.now c.len-at.result c.self.inside.depths.items (slice_index_or c.self.inside.depths.items c.len-at.result []) c.narrow.new.doms c.len-at.ensures
       (subst (AreReady c.args.cons.now.lang.now c.args.cons.now.list.now c.args.cons.now.against c.args.order.now c.args.prefix.now) (sym (ap (λ (w : Room). w.depths) c.self.view_is)) c.requires.ready.depths));
-  entailed = subst (λ (ds : List Family). AreKnown (arcs_of c.args.cons.now.lang.now c.args.cons.now.list.now c.args.cons.now.against) c.self.inside.plan c.args.prefix.now (slice_set ds (c.len-at.result + 1) c.narrow.new.doms) (slice_set (slice_set c.self.inside.entailed.items (c.len-at.result + 1) c.take.new.self) (c.len-at.result + 1) c.narrow.new.entailed)) (sym c.copy_down.ensures.is)
-      (known_written (arcs_of c.args.cons.now.lang.now c.args.cons.now.list.now c.args.cons.now.against) c.self.inside.plan c.args.prefix.now c.len-at.result c.self.inside.depths.items (slice_index_or c.self.inside.depths.items c.len-at.result []) c.narrow.new.doms c.self.inside.entailed.items c.take.new.self c.narrow.new.entailed c.len-at.ensures (subst (λ (w : Room). AreKnown (arcs_of c.args.cons.now.lang.now c.args.cons.now.list.now c.args.cons.now.against) w.plan c.args.prefix.now w.depths w.entailed) (sym c.self.view_is) c.requires.ready.entailed));
+  entailed = subst (λ (ds : List Family). EntailedAreKnown (arcs_of c.args.cons.now.lang.now c.args.cons.now.list.now c.args.cons.now.against) c.self.inside.plan c.args.prefix.now (slice_set ds (c.len-at.result + 1) c.narrow.new.doms) (slice_set (slice_set c.self.inside.entailed.items (c.len-at.result + 1) c.take.new.self) (c.len-at.result + 1) c.narrow.new.entailed)) (sym c.copy_down.ensures.is)
+      (known_written (arcs_of c.args.cons.now.lang.now c.args.cons.now.list.now c.args.cons.now.against) c.self.inside.plan c.args.prefix.now c.len-at.result c.self.inside.depths.items (slice_index_or c.self.inside.depths.items c.len-at.result []) c.narrow.new.doms c.self.inside.entailed.items c.take.new.self c.narrow.new.entailed c.len-at.ensures (subst (λ (w : Room). EntailedAreKnown (arcs_of c.args.cons.now.lang.now c.args.cons.now.list.now c.args.cons.now.against) w.plan c.args.prefix.now w.depths w.entailed) (sym c.self.view_is) c.requires.ready.entailed));
   plan = subst (IsPlanOf c.args.cons.now.lang.now (arcs_of c.args.cons.now.lang.now c.args.cons.now.list.now c.args.cons.now.against)) (sym (ap (λ (w : Room). w.plan) c.self.view_is)) c.requires.ready.plan;
   deep = (let seen = ap (λ (w : Room). length w.depths) c.self.view_is in
       let copied = length-set c.self.inside.depths.items (c.len-at.result + 1) (slice_index_or c.self.inside.depths.items c.len-at.result []) in

@@ -1,4 +1,4 @@
-use Rattle.find_c.proofs.Prelude.{◌+◌, ◌<◌, ◌^◌, ◌∙◌, ap, sym, subst, not, length, arith, All, ◌==◌, bit_at, bit_not, w64, All-head, All-tail, relations_on, scope_at, scene_of, ones_of, is_one-not, choices_of, allows_at, differ_at, IsChoiceOn, bit_at-zero}
+use Rattle.find_c.proofs.Prelude.{◌+◌, ◌<◌, ◌^◌, ◌∙◌, ap, sym, subst, not, length, arith, All, ◌==◌, bit_at, bit_not, w64, All-head, All-tail, relations_on, scope_at, scene_of, ones_of, choices_of, allows_at, differ_at, IsChoiceOn, bit_at-zero, is_one-not}
 use Rattle.find_c.proofs.Differences.{known_of, seen_none, seen_more, rejects_at, differ_bound, differ_free}
 use Rattle.find_c.proofs.Outside.{none_differ}
 use Rattle.find_c.proofs.Splitting.{row_fits}

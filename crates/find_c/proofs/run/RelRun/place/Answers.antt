@@ -1,12 +1,12 @@
-use Rattle.find_c.proofs.Prelude.{◌≡◌, ◌^◌, ◌<◌, ◌≤◌, length, sym, ◌∙◌, ap, subst, arith, All, Language, scope_at, place, Run, IsRun, Inside}
+use Rattle.find_c.proofs.Prelude.{◌≡◌, ◌^◌, ◌<◌, ◌≤◌, length, sym, ◌∙◌, ap, subst, arith, All, Language, scope_at, place, TellingRun, IsRun, Inside}
 use Rattle.find_c.proofs.Replies.{run_tuple, run_places}
 use Rattle.find_c.proofs.run.RelRun.place.Goals as goal
 
 -- the run of the fields
-abbrev run_of : Inside → Run
+abbrev run_of : Inside → TellingRun
 run_of inside = record { scope = inside.scope; choices = inside.choices; tuple = inside.tuple }
 
-sound : (l : Language) (inside : Inside) (run : Run) → run_of inside ≡ run → IsRun l run → IsRun l (run_of inside)
+sound : (l : Language) (inside : Inside) (run : TellingRun) → run_of inside ≡ run → IsRun l run → IsRun l (run_of inside)
 sound l inside run e is = subst (IsRun l) (sym e) is
 
 pub place_of-requires-clause-values : goal.place_of-requires-clause-values
@@ -25,10 +25,10 @@ overflow_cast-result c =
     omega (arith, few, same)
 
 pub returns-clause-is : goal.returns-clause-is
-returns-clause-is c = c.place_of.ensures.is ∙ (λ i. place (c.d.ensures.is i) ((c.values.ensures ∙ ap (λ (run : Run). run.tuple) c.self.view_is) i))
+returns-clause-is c = c.place_of.ensures.is ∙ (λ i. place (c.d.ensures.is i) ((c.values.ensures ∙ ap (λ (run : TellingRun). run.tuple) c.self.view_is) i))
 
 pub returns-clause-below : goal.returns-clause-below
 returns-clause-below c =
     let tuple = run_tuple c.args.lang.now c.d.ensures.lawful _ (sound _ c.self.inside _ c.self.view_is c.requires) in
-    subst (λ (run : Run). c.place_of.result < c.args.lang.now.value_count ^ length (scope_at c.args.lang.now run.scope)) c.self.view_is
+    subst (λ (run : TellingRun). c.place_of.result < c.args.lang.now.value_count ^ length (scope_at c.args.lang.now run.scope)) c.self.view_is
     (subst (λ n. c.place_of.result < n) (λ i. c.d.ensures.is i ^ (ap length c.values.ensures ∙ tuple.long) i) c.place_of.ensures.below)

@@ -1,4 +1,4 @@
-use Rattle.find_c.proofs.Prelude.{[], sym, ◌∙◌, subst, All, IsChoiceOn, LeavesChoices, StandsFor}
+use Rattle.find_c.proofs.Prelude.{[], sym, ◌∙◌, subst, All, IsChoiceOn, LeavesChoices, RelStandsFor}
 use Rattle.find_c.proofs.Marks.{free_is_some}
 use Rattle.find_c.proofs.Starting.{free_marked, free_known}
 use Rattle.find_c.proofs.run.RelRun.start_free.Goals as goal
@@ -14,7 +14,7 @@ returns-clause-settled c =
 
 pub returns-clause-stands : goal.returns-clause-stands
 returns-clause-stands c =
-    subst (λ cs. StandsFor c.settle.result c.args.lang.now c.args.s cs []) (c.new.ensures ∙ free_marked c.args.kept.now.members c.args.s c.on_scope.result c.on_scope.ensures) c.settle.ensures.stands
+    subst (λ cs. RelStandsFor c.settle.result c.args.lang.now c.args.s cs []) (c.new.ensures ∙ free_marked c.args.kept.now.members c.args.s c.on_scope.result c.on_scope.ensures) c.settle.ensures.stands
 
 pub returns-clause-some : goal.returns-clause-some
 returns-clause-some c = λ nothing. free_is_some c.on_scope.result (sym c.new.ensures ∙ c.settle.ensures.nothing.0 nothing)

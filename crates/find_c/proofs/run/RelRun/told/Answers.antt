@@ -1,21 +1,21 @@
-use Rattle.find_c.proofs.Prelude.{◌≡◌, ℕ, Bool, List, [], sym, ◌∙◌, ap, subst, refl, All, beq, filter, Language, place, Choice, after_reply, scene_of, is_accepting, allows_at, Run, IsRun, IsChoiceOn, LeavesChoices, StandsFor, Inside}
+use Rattle.find_c.proofs.Prelude.{◌≡◌, ℕ, Bool, List, [], sym, ◌∙◌, ap, subst, refl, All, beq, filter, Language, place, Choice, after_reply, scene_of, is_accepting, allows_at, TellingRun, IsRun, IsChoiceOn, LeavesChoices, RelStandsFor, Inside}
 use Rattle.find_c.proofs.Splitting.{agreeing_is}
 use Rattle.find_c.proofs.Replies.{run_leaves_some, known_after, stands_after}
 use Rattle.find_c.proofs.run.RelRun.told.Goals as goal
 
 -- the run of the fields
-abbrev run_of : Inside → Run
+abbrev run_of : Inside → TellingRun
 run_of inside = record { scope = inside.scope; choices = inside.choices; tuple = inside.tuple }
 
-sound : (l : Language) (inside : Inside) (run : Run) → run_of inside ≡ run → IsRun l run → IsRun l (run_of inside)
+sound : (l : Language) (inside : Inside) (run : TellingRun) → run_of inside ≡ run → IsRun l run → IsRun l (run_of inside)
 sound l inside run e is = subst (IsRun l) (sym e) is
 
 -- the choices that are left agree with the reply
-left : (l : Language) (inside : Inside) (run : Run) (next : List Choice) (mask : ℕ) (reply : Bool) → run_of inside ≡ run →
+left : (l : Language) (inside : Inside) (run : TellingRun) (next : List Choice) (mask : ℕ) (reply : Bool) → run_of inside ≡ run →
     ((c : Choice) → is_accepting mask c ≡ allows_at (scene_of l run.scope) (place l.value_count run.tuple) c) → next ≡ filter (λ c. beq (is_accepting mask c) reply) inside.choices →
     next ≡ after_reply (scene_of l inside.scope) inside.tuple reply inside.choices
 left l inside run next mask reply e each agree =
-    subst (λ (r : Run). next ≡ after_reply (scene_of l r.scope) r.tuple reply inside.choices) (sym e)
+    subst (λ (r : TellingRun). next ≡ after_reply (scene_of l r.scope) r.tuple reply inside.choices) (sym e)
     (agreeing_is (scene_of l run.scope) inside.choices next run.tuple (place l.value_count run.tuple) mask reply refl each agree)
 
 pub settle-requires-clause-known : goal.settle-requires-clause-known
@@ -26,15 +26,15 @@ settle-requires-clause-known c =
 pub returns-clause-settled : goal.returns-clause-settled
 returns-clause-settled c =
     let is = left c.args.lang.now c.self.inside c.args.self c.agreeing.result c.args.accepting c.args.yes c.self.view_is c.requires.accepting c.agreeing.ensures in
-    subst (λ (run : Run). LeavesChoices c.args.lang.now run.scope (after_reply (scene_of c.args.lang.now run.scope) run.tuple c.args.yes run.choices) c.settle.result) c.self.view_is
+    subst (λ (run : TellingRun). LeavesChoices c.args.lang.now run.scope (after_reply (scene_of c.args.lang.now run.scope) run.tuple c.args.yes run.choices) c.settle.result) c.self.view_is
     (subst (λ cs. LeavesChoices c.args.lang.now c.self.inside.scope cs c.settle.result) is c.settle.ensures.settled)
 
 pub returns-clause-stands : goal.returns-clause-stands
 returns-clause-stands c =
     let is = left c.args.lang.now c.self.inside c.args.self c.agreeing.result c.args.accepting c.args.yes c.self.view_is c.requires.accepting c.agreeing.ensures in
-    stands_after c.args.lang.now c.args.self c.requires.run c.self.inside.scope c.settle.result c.args.yes (ap (λ (run : Run). run.scope) c.self.view_is)
-    (subst (λ (run : Run). StandsFor c.settle.result c.args.lang.now c.self.inside.scope (after_reply (scene_of c.args.lang.now run.scope) run.tuple c.args.yes run.choices) []) c.self.view_is
-    (subst (λ cs. StandsFor c.settle.result c.args.lang.now c.self.inside.scope cs []) is c.settle.ensures.stands))
+    stands_after c.args.lang.now c.args.self c.requires.run c.self.inside.scope c.settle.result c.args.yes (ap (λ (run : TellingRun). run.scope) c.self.view_is)
+    (subst (λ (run : TellingRun). RelStandsFor c.settle.result c.args.lang.now c.self.inside.scope (after_reply (scene_of c.args.lang.now run.scope) run.tuple c.args.yes run.choices) []) c.self.view_is
+    (subst (λ cs. RelStandsFor c.settle.result c.args.lang.now c.self.inside.scope cs []) is c.settle.ensures.stands))
 
 pub returns-clause-some : goal.returns-clause-some
 returns-clause-some c = λ nothing.

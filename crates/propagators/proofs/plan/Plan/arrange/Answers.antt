@@ -1,4 +1,4 @@
-use Rattle.propagators.proofs.Prelude.{◌≡◌, ◌<◌, ◌∙◌, ap, sym, subst, ℕ, List, length, min, slice_index_or, with_items, with_items_is, Brief, arcs_of, AreApart, AreBriefs, AreNoted, AreLimits, IsParted}
+use Rattle.propagators.proofs.Prelude.{◌≡◌, ◌<◌, ◌∙◌, ap, sym, subst, ℕ, List, length, min, slice_index_or, with_items, with_items_is, Brief, arcs_of, AreApartSoFar, AreBriefs, AreNoted, AreLimits, IsParted}
 use Rattle.propagators.proofs.plan.Plan.arrange.Goals as goal
 
 pub returns : goal.returns
@@ -19,6 +19,6 @@ returns c =
           subst (λ (xs : List ℕ). (k : ℕ) (b : Brief) → k < length (with_items c.args.self.now.briefs c.arrange_all.new.briefs).items → k < length (arcs_of c.args.cons.now.lang.now c.args.cons.now.list.now c.args.cons.now.against) → IsParted xs (slice_index_or (with_items c.args.self.now.briefs c.arrange_all.new.briefs).items k b)) (sym aparts)
           (subst (λ (xs : List Brief). (k : ℕ) (b : Brief) → k < length xs → k < length (arcs_of c.args.cons.now.lang.now c.args.cons.now.list.now c.args.cons.now.against) → IsParted c.arrange_all.new.aparts (slice_index_or xs k b)) (sym briefs) c.arrange_all.ensures.parted);
       apart =
-          subst (λ (xs : List ℕ). AreApart (with_items c.args.self.now.briefs c.arrange_all.new.briefs).items xs (min (length (with_items c.args.self.now.briefs c.arrange_all.new.briefs).items) (length (arcs_of c.args.cons.now.lang.now c.args.cons.now.list.now c.args.cons.now.against)))) (sym aparts)
-          (subst (λ (xs : List Brief). AreApart xs c.arrange_all.new.aparts (min (length xs) (length (arcs_of c.args.cons.now.lang.now c.args.cons.now.list.now c.args.cons.now.against)))) (sym briefs) c.arrange_all.ensures.apart);
+          subst (λ (xs : List ℕ). AreApartSoFar (with_items c.args.self.now.briefs c.arrange_all.new.briefs).items xs (min (length (with_items c.args.self.now.briefs c.arrange_all.new.briefs).items) (length (arcs_of c.args.cons.now.lang.now c.args.cons.now.list.now c.args.cons.now.against)))) (sym aparts)
+          (subst (λ (xs : List Brief). AreApartSoFar xs c.arrange_all.new.aparts (min (length xs) (length (arcs_of c.args.cons.now.lang.now c.args.cons.now.list.now c.args.cons.now.against)))) (sym briefs) c.arrange_all.ensures.apart);
     }

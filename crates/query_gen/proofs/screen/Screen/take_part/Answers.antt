@@ -1,4 +1,4 @@
-use Rattle.query_gen.proofs.Prelude.{◌≡◌, ℕ, ◌+◌, ◌-◌, List, length, refl, subst, sym, ◌∙◌, ap, arith, with_items_is, Mark, Remembered, begun, seen, AreTaken, HasTaken}
+use Rattle.query_gen.proofs.Prelude.{◌≡◌, ℕ, ◌+◌, ◌-◌, List, length, refl, subst, sym, ◌∙◌, ap, arith, with_items_is, Mark, Remembered, remembered_begun, seen, AreTaken, HasTaken}
 use Rattle.std.specs.Vec.{with_items}
 use Rattle.query_gen.proofs.Parts.{has_taken, holds_over}
 use Rattle.query_gen.proofs.screen.Screen.take_part.Goals as goal
@@ -12,7 +12,7 @@ marks_taken c =
 
 pub returns-clause-taken : goal.returns-clause-taken
 returns-clause-taken c =
-    let state : seen c.self.inside ≡ begun c.args.self.now (length c.args.net.now.list) c.args.budget = c.self.view_is ∙ c.begin.ensures ∙ ap (λ n. begun c.args.self.now n c.args.budget) c.len.ensures.is in
+    let state : seen c.self.inside ≡ remembered_begun c.args.self.now (length c.args.net.now.list) c.args.budget = c.self.view_is ∙ c.begin.ensures ∙ ap (λ n. remembered_begun c.args.self.now n c.args.budget) c.len.ensures.is in
     let marks : (with_items c.self.inside.marks c.take_bytes.new.marks).items ≡ c.take_bytes.new.marks =
     with_items_is c.self.inside.marks c.take_bytes.new.marks (c.take_bytes.ensures.size ∙ ap length c.deref_mut.ensures.value ∙ sym c.self.inside.marks.ok.0) in
     let new : Remembered = record { first = c.self.inside.first.items; marks = (with_items c.self.inside.marks c.take_bytes.new.marks).items; learned = c.self.inside.learned; budget = c.self.inside.budget; index = c.self.inside.index } in

@@ -1,4 +1,4 @@
-use Rattle.session_store.proofs.Prelude.{◌≡◌, ◌++◌, ◌∷◌, [], ◌∙◌, refl, sym, ap, subst, arith, length, length-append, List, Option, Some, Assignment, Answer, Event, Language, IsLanguage, IsQuestion, variable_count, standing_on, Plan, IsAskedAfter, Stands, knowledge_of, question_put, Session, answer_event, All, All-nil, All-cons, All-append, IsWide, StandsIn, lang_in, plan_in, question_in, HavePlaces, cut_to-standing-push}
+use Rattle.session_store.proofs.Prelude.{◌≡◌, ◌++◌, ◌∷◌, [], ◌∙◌, refl, sym, ap, subst, arith, length, length-append, List, Option, Some, Assignment, Answer, Event, Language, IsLanguage, IsQuestion, variable_count, standing_on, Plan, IsAskedAfter, Stands, knowledge_of, question_put, Session, answer_event, All, All-nil, All-cons, All-append, IsWide, StandsIn, lang_in, plan_in, asked_of_session, HavePlaces, cut_to-standing-push}
 use Rattle.session_core.specs.declared.session.Session.TheVariants as sessions
 use Rattle.session_core.proofs.Opened.{open_asked}
 use Rattle.session_store.proofs.Asked.{asked_fits}
@@ -21,7 +21,7 @@ returns-clause-sound c =
     let asked : IsAskedAfter l p (standing_on l events) q = open_asked c.in-Some-Asking.asking (standing_on l events) before in
     let size : length q ≡ variable_count l = (asked_fits l lawful p (standing_on l events) q asked).size in
     let after = c.answer_to.ensures.stands (standing_on l events) q refl before in
-    let is : c.args.event ≡ answer_event q c.args.yes = c.requires.is q (ap question_in here) in
+    let is : c.args.event ≡ answer_event q c.args.yes = c.requires.is q (ap asked_of_session here) in
     let pushed : c.push_event.new.events.items ≡ events ++ c.args.event ∷ [] = c.push_event.ensures in
     let as_answer : c.push_event.new.events.items ≡ events ++ answer_event q c.args.yes ∷ [] = pushed ∙ ap (λ (e : Event). events ++ e ∷ []) is in
     let Placed : Option Session → Type 0 = λ o. HavePlaces (lang_in o) (plan_in o) events in
@@ -44,7 +44,7 @@ pub answer_to-requires-clause-asked : goal.answer_to-requires-clause-asked
 answer_to-requires-clause-asked c =
     let here : c.args.self.now.session ≡ Some (sessions.Asking c.in-Some-Asking.asking) =
     sym c.take.ensures.value ∙ c.in-Some-Asking.is ∙ ap (λ (s : Session). let o : Option Session = Some s in o) c.in-Some-Asking.field-0-is in
-    ap question_in (sym here) ∙ c.requires.put
+    ap asked_of_session (sym here) ∙ c.requires.put
 
 pub answer_to-requires-clause-fits : goal.answer_to-requires-clause-fits
 answer_to-requires-clause-fits c =

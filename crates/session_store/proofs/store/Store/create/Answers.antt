@@ -1,7 +1,6 @@
-use Rattle.session_store.proofs.Prelude.{◌∙◌, List, ℕ, sym, inl, inr, arith, err_from_is_err_and, none_done, behind_as, nothing_behind, IsCreating, StartsWith, plan_held, events_held}
+use Rattle.session_store.proofs.Prelude.{◌∙◌, List, ℕ, sym, inl, inr, arith, err_from_is_err_and, none_done, behind_as, nothing_behind, IsCreating, StartsWith, plan_held, events_held, none_given}
 use Rattle.answer_journal.proofs.OnlyRead.{unread}
 use Rattle.session_store.proofs.Stores.{not_made, no_voc, one_fault, unless_failed, of_each_error, there_made, told_before}
-use Rattle.session_store.proofs.Exits.{none_given}
 use Rattle.session_store.proofs.store.Store.create.Goals as goal
 
 pub returns-in_err-held-clause-untouched : goal.returns-in_err-held-clause-untouched

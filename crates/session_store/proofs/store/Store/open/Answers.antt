@@ -1,7 +1,6 @@
-use Rattle.session_store.proofs.Prelude.{◌∙◌, sym, ap, List, ℕ, inl, inr, ⊎_elim, err_from_is_err_and, Event, Plan, of_journal, plan_in, plan_held, events_held, SaysSession, NotLed}
+use Rattle.session_store.proofs.Prelude.{◌∙◌, sym, ap, List, ℕ, inl, inr, ⊎_elim, err_from_is_err_and, Event, Plan, of_journal, plan_in, plan_held, events_held, SaysSession, NotLed, none_given}
 use Rattle.session_store.proofs.Replaying.{both_same}
 use Rattle.session_store.proofs.Stores.{not_led, not_opened, some_not_opened, there_as}
-use Rattle.session_store.proofs.Exits.{none_given}
 use Rattle.session_store.proofs.store.Store.open.Goals as goal
 
 pub returns-in_err-session-clause-refused : goal.returns-in_err-session-clause-refused

@@ -1,5 +1,5 @@
-use Rattle.session_store.proofs.Prelude.{◌≡◌, ◌+◌, ◌++◌, ◌∷◌, [], ◌∙◌, List, refl, sym, ap, subst, arith, Event, Back, plan_in, OpensWith, calls_to_raise, plan_of, voc_of, events_of}
-use Rattle.session_store.proofs.Stores.{in_place, sits_as, event_left_out, event_written, want_of_memory, told_before, some_once, there_as}
+use Rattle.session_store.proofs.Prelude.{◌≡◌, ◌+◌, ◌++◌, ◌∷◌, [], ◌∙◌, List, refl, sym, ap, subst, arith, Event, Back, plan_in, OpensWith, calls_to_raise, plan_of, voc_of, events_of, same_Some}
+use Rattle.session_store.proofs.Stores.{in_place, sits_as, event_left_out, event_written, want_of_memory, told_before, there_as}
 use Rattle.session_store.proofs.store.StoreKeep.take_back.Goals as goal
 
 pub returns-in_err-records-clause-sits : goal.returns-in_err-records-clause-sits
@@ -24,7 +24,7 @@ returns-in-Ok-clause-sits g c live bytes told =
     let was = told_before _ _ c.append_back.ensures.leaves.goes_on.silent bytes told in
     let there = c.requires.sits c.requires.live was.0 was.1 in
     let settled = c.in-Ok.ensures.leaves.now was.0 was.1 in
-    let here : settled.now ≡ bytes = some_once (g.D.Disk.content c.append_back.new.disk) settled.now bytes settled.tells told in
+    let here : settled.now ≡ bytes = same_Some settled.now bytes (sym settled.tells ∙ told) in
     let more : List Event = events_of s ++ Back ∷ [] in
     let opens : OpensWith (plan_of s) (voc_of s) more bytes = subst (OpensWith (plan_of s) (voc_of s) more) here (settled.holds (plan_of s) (voc_of s) (events_of s) there.opens) in
     there_as c.append_back.new.journal (plan_of s) _ (voc_of s) more _ (g.D.Disk.may_leave c.append_back.new.disk) bytes

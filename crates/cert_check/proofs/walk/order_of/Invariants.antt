@@ -1,8 +1,0 @@
-use Rattle.cert_check.proofs.Prelude.{◌≡◌, ◌+◌, ◌≤◌, ◌++◌, length, take, not, filter, numbers, has, array_vec_len}
-use Rattle.cert_check.proofs.walk.order_of.Given as goal
-
-abbrev pub invariant-loop-v : goal.invariant-loop-v
-invariant-loop-v l = record { put : l.order.items ≡ take l.v-index l.scope; few : array_vec_len l.order ≡ l.v-index }
-
-abbrev pub invariant-loop-v-2 : goal.invariant-loop-v-2
-invariant-loop-v-2 l = record { put : l.order.items ≡ l.scope ++ filter (λ v. not (has l.scope v)) (take l.v-counter (numbers l.v-end)); few : array_vec_len l.order ≤ length l.scope + l.v-counter }
