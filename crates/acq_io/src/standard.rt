@@ -72,11 +72,25 @@ impl<R: Read> Source for StdSource<R> {
 fn read_uninterrupted<R: Read>(reader: &mut R, buf: &mut [u8]) -> Result<usize, Failed>
     ensures { IfOk result (λ n. n ≤ length buf.new) }
 {
+    match reader.read(buf) {
+        Ok(count) => Ok(count),
+        Err(error) => read_again(error.kind(), reader, buf),
+    }
+}
+
+/// What comes of a read after an error of this kind. That is rare, and kept apart from what is done at each byte.
+#[inline(never)]
+fn read_again<R: Read>(first: ErrorKind, reader: &mut R, buf: &mut [u8]) -> Result<usize, Failed>
+    ensures { IfOk result (λ n. n ≤ length buf.new) }
+{
+    let mut kind = first;
     for _ in 0..u64::MAX {
+        if kind != ErrorKind::Interrupted {
+            return Err(Failed);
+        }
         match reader.read(buf) {
             Ok(count) => return Ok(count),
-            Err(error) if error.kind() == ErrorKind::Interrupted => {}
-            Err(_) => return Err(Failed),
+            Err(error) => kind = error.kind(),
         }
     }
     Err(Failed)

@@ -1,8 +1,8 @@
 //! Standard input for a caller who asks byte by byte.
 
-ghost use Rattle.std.specs.Prelude.{◌≤◌};
+ghost use Rattle.std.specs.Prelude.{◌≡◌, ◌≤◌, Ok, IfOk, length};
 
-use std::io::{self, BufRead, Read};
+use std::io::{self, BufRead, ErrorKind, Read};
 
 /// How many bytes are looked at together.
 const AHEAD: usize = 64;
@@ -41,33 +41,70 @@ impl<R: BufRead> Buffered<R> {
     }
 
     /// Looks at the next bytes. There are none at the end.
-    #[inline(never)]
     fn look_ahead(&mut self) -> io::Result<()> {
         let next = self.inner.fill_buf()?;
         self.end = copy_front(next, &mut self.ahead);
         self.at = 0;
         Ok(())
     }
-}
 
-impl<R: BufRead> Read for Buffered<R> {
-    /// A piece of more than one byte is read as it is, since from a pipe it comes sooner whole.
+    /// The next of the bytes that were looked at. It is taken.
     #[inline(always)]
-    fn read(&mut self, buf: &mut [u8]) -> io::Result<usize> {
+    fn take_seen(&mut self) -> Option<u8> {
+        if self.at >= self.end {
+            return None;
+        }
+        let byte = self.ahead[self.at];
+        self.at += 1;
+        self.inner.consume(1);
+        Some(byte)
+    }
+
+    /// Reads where no byte was looked at, or a piece is wanted. That is rare, and kept apart from what is done at each byte. Of an
+    /// error it tells the kind alone, since a whole one takes room that would be cleared at each byte.
+    #[inline(never)]
+    fn read_anew(&mut self, buf: &mut [u8]) -> Result<usize, ErrorKind>
+        ensures { IfOk result (λ n. n ≤ length buf.new) }
+    {
         let [place] = buf else {
             // What was looked at is a part of it.
             self.end = 0;
-            return self.inner.read(buf);
+            return kind_alone(self.inner.read(buf));
         };
-        if self.at >= self.end {
-            self.look_ahead()?;
+        kind_alone(self.look_ahead())?;
+        match self.take_seen() {
+            Some(byte) => {
+                *place = byte;
+                Ok(1)
+            }
+            None => Ok(0),
         }
-        if self.at >= self.end {
-            return Ok(0);
+    }
+}
+
+/// What came, or the kind of the error.
+fn kind_alone<T: Drop>(came: io::Result<T>) -> Result<T, ErrorKind>
+    ensures { (count : T) → result ≡ Ok count → came ≡ Ok count }
+{
+    match came {
+        Ok(it) => Ok(it),
+        Err(error) => Err(error.kind()),
+    }
+}
+
+impl<R: BufRead> Read for Buffered<R> {
+    /// A piece of more than one byte is read as it is, since from a pipe it comes sooner whole. An error has its kind alone.
+    #[inline(always)]
+    fn read(&mut self, buf: &mut [u8]) -> io::Result<usize> {
+        if let [place] = buf {
+            if let Some(byte) = self.take_seen() {
+                *place = byte;
+                return Ok(1);
+            }
         }
-        *place = self.ahead[self.at];
-        self.at += 1;
-        self.inner.consume(1);
-        Ok(1)
+        match self.read_anew(buf) {
+            Ok(count) => Ok(count),
+            Err(kind) => Err(kind.into()),
+        }
     }
 }

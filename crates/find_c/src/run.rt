@@ -16,7 +16,7 @@ use crate::tuples::Tuple;
 use assign::Partial;
 use bias_store::Kept;
 use language::{Candidate, Language, ScopeId};
-use rel_table::place_of;
+use rel_table::{place_count, place_of};
 use std::marker::Model;
 
 /// A telling apart that waits for a reply.
@@ -241,7 +241,7 @@ fn tuple_searched(lang: &Language, s: ScopeId, choices: &Choices) -> Option<Tupl
     let value_count = lang.d();
     let row = u32::from(value_count);
     let size = lang.scope(s).len() as u8;
-    let places = row.pow(u32::from(size));
+    let places = place_count(value_count, size);
     let mut place = first_row(lang, s, choices, places);
     while place < places {
         // 64, which is no value of a row, where they don't differ.

@@ -1,4 +1,4 @@
-ghost use Rattle.std.specs.Prelude.{◌≡◌, ◌<◌, ◌≤◌, ◌+◌, ◌^◌, ◌==◌, ℕ, IsTrue, length, slice_index_or, [], IfSome, IfOk, string_bytes, false, not};
+ghost use Rattle.std.specs.Prelude.{◌≡◌, ◌<◌, ◌≤◌, ◌+◌, ◌^◌, ◌==◌, ℕ, IsTrue, length, slice_index_or, [], IfSome, IfOk, OnOk, string_bytes, false, not};
 ghost use Rattle.std.specs.Int.{bit_at};
 ghost use Rattle.assign.specs.Sets.{is_same, least_of};
 ghost use Rattle.language.specs.Texts.{question_text, candidate_text};
@@ -13,7 +13,7 @@ use crate::parts::RelPart;
 use crate::places::place_of_values;
 use crate::ranges::ValueRange;
 use crate::scopes::{Scope, set_of};
-use crate::texts::{text_of_candidate, text_of_question};
+use crate::texts::{room_for, text_of_candidate, write_question};
 use assign::{MOST_VARIABLES, Partial, VarSet};
 use rel_table::{Closed, Memory, Table};
 use std::alloc::Global;
@@ -315,8 +315,18 @@ impl Language {
     pub fn question_text(&self, alloc: Global, k: u32, q: &Partial) -> Result<String, Memory>
         ensures { IfOk result (λ t. string_bytes t ≡ question_text self.now k q.now) }
     {
-        let text = text_of_question(alloc, k, self.least_value, &self.names, q)?;
+        let mut text = String::with_capacity(alloc, room_for(q.vars()))?;
+        self.write_question(&mut text, k, q)?;
         Ok(text)
+    }
+
+    /// Writes the text of question k in place of what `text` held, in the memory that it has, as far as that goes. Who writes
+    /// question after question is spared a new text for each. Where memory lacks, `text` is of no further use but for another call.
+    pub fn write_question(&self, text: &mut String, k: u32, q: &Partial) -> Result<(), Memory>
+        ensures { OnOk result (string_bytes text.new ≡ question_text self.now k q.now) }
+    {
+        write_question(text, k, self.least_value, &self.names, q)?;
+        Ok(())
     }
 
     /// The names of the relations that contain the candidate's, and those of its variables: `eq&ne a b`.

@@ -55,35 +55,35 @@ fn add_value(
 
 /// How many bytes a question's text takes that gives values to these variables, unless names or numbers are long. With so many
 /// at hand it needn't grow.
-fn room_for(valued: VarSet) -> usize {
+pub(crate) fn room_for(valued: VarSet) -> usize {
     16 + 8 * usize::from(valued.len())
 }
 
-/// `q1 a=1 b=2`
-pub(crate) fn text_of_question(
-    alloc: Global,
+/// Writes `q1 a=1 b=2` in place of what the text held.
+pub(crate) fn write_question(
+    text: &mut String,
     k: u32,
     least_value: i64,
     names: &[String],
     q: &Partial,
-) -> Result<String, AllocError>
+) -> Result<(), AllocError>
     requires low { negsuc 999999 ≤ℤ least_value }
     requires high { least_value ≤ℤ pos 1000000 }
     requires few { length names.now ≤ 128 }
-    ensures { IfOk result (λ t. string_bytes t ≡ 113 ∷ (decimal k ++ values_text least_value (map string_bytes names.now) q.now)) }
+    ensures { OnOk result (string_bytes text.new ≡ 113 ∷ (decimal k ++ values_text least_value (map string_bytes names.now) q.now)) }
 {
+    text.clear();
+    add_mark(text, k)?;
     let mut left = q.vars();
-    let mut text = String::with_capacity(alloc, room_for(left))?;
-    add_mark(&mut text, k)?;
     while let Some(v) = left.least() {
         let at = usize::from(v);
         if at >= names.len() {
-            return Ok(text);
+            return Ok(());
         }
-        add_value(&mut text, least_value, names[at].as_str(), q.get(v))?;
+        add_value(text, least_value, names[at].as_str(), q.get(v))?;
         left = left.without(v);
     }
-    Ok(text)
+    Ok(())
 }
 
 /// Whether the relation has the scope's length, and contains the table's there.

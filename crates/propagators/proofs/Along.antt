@@ -1,18 +1,14 @@
 -- A condition each of whose variables has one value, but for that at a place.
-use Rattle.propagators.proofs.Prelude.{◌≡◌, ◌≢◌, ℕ, zero, suc, ◌+◌, ◌*◌, ◌<◌, ◌≤◌, Bool, true, false, not, ◌&&◌, ◌||◌, List, [], ◌∷◌, length, map, take, refl, sym, ◌∙◌, ap, subst, arith, inl, inr, ◌⊎◌, ◌==◌, cases_lt, cases_eq, ne_eqb, eq-eqb, and_from, and_parts, both_ways, slice_index_or, slice_set, set-get_or, get_or-set_same, get_or-set_other, get_or-map, get_or-take, length-map, length-take, length-set, All, fold, list_all, has, are_in, holds, TruthTable, Candidate, Language, relation_of, scope_of, ones_of, Family, Arc, arc_of, is_wanted, is_not_empty, sets_on, family_size, union, or_left, Option, IsLanguage, AreConstraints, arcs_of, RunsEmpty, IsLooked, IsWithin, IsThrough, AreSupported, AreAlong, AreBelow, IsFamilyOf, AreDifferent, IsRevised, IsDead, replaced, take-set-lt, continues, HasOne, IsAlmostFixed, AreFixedBut, is_noted_in, AreEntailed, Entailed, Plan, ones_of-zero}
-use Rattle.propagators.proofs.Cutting.{set_for, different_at}
+use Rattle.propagators.proofs.Prelude.{◌≡◌, ◌≢◌, ℕ, zero, suc, ◌+◌, ◌*◌, ◌<◌, ◌≤◌, Bool, true, false, not, ◌&&◌, ◌||◌, List, [], ◌∷◌, length, map, refl, sym, ◌∙◌, ap, subst, arith, inl, inr, ◌⊎◌, ◌==◌, cases_lt, cases_eq, ne_eqb, eq-eqb, and_from, and_parts, both_ways, slice_index_or, slice_set, set-get_or, get_or-set_same, get_or-set_other, length-map, length-set, All, fold, list_all, has, are_in, holds, TruthTable, Candidate, Language, relation_of, scope_of, ones_of, Family, Arc, arc_of, is_wanted, is_not_empty, sets_on, family_size, union, or_left, Option, IsLanguage, AreConstraints, arcs_of, RunsEmpty, IsLooked, IsWithin, IsThrough, AreSupported, AreAlong, IsFamilyOf, AreDifferent, IsRevised, IsDead, replaced, continues, HasOne, IsAlmostFixed, AreFixedBut, is_noted_in, AreEntailed, Entailed, Plan, ones_of-zero}
+use Rattle.propagators.proofs.Cutting.{different_at}
 use Rattle.propagators.proofs.Conditions.{tuple_in, arcs_small, arcs_within, arcs_different}
 use Rattle.propagators.proofs.Fixed.{fixed_taken_in}
 use Rattle.propagators.proofs.Rounds.{dead_here}
 use Rattle.propagators.proofs.Beside.{beside_same}
-use Rattle.propagators.proofs.Visiting.{same_item, looked_changed}
+use Rattle.propagators.proofs.Visiting.{looked_changed}
 use Rattle.propagators.proofs.Replacing.{is_revised, is_dead, set_at, value_within, member_of_some}
 
 -- ---- a tuple within sets
-
--- a mask with members isn't zero
-pub some_mask : (mask : ℕ) → is_not_empty (ones_of mask) ≡ true → mask ≢ 0
-some_mask mask some e = both_ways _ (ap (λ m. is_not_empty (ones_of m)) e ∙ ap is_not_empty ones_of-zero) some
 
 -- with another value of the set at a place it is within the sets still
 with_at : (sets : List (List ℕ)) (tuple : List ℕ) (j x : ℕ) → IsWithin sets tuple → has (slice_index_or sets j []) x ≡ true → IsWithin sets (slice_set tuple j x)

@@ -1,5 +1,5 @@
 -- The values of a mask: of none, of the first ones, of those that pass a test.
-use Rattle.propagators.proofs.Prelude.{◌≡◌, ℕ, zero, suc, ◌+◌, ◌-◌, ◌*◌, ◌%◌, ◌<◌, ◌≤◌, ◌^◌, Bool, true, false, cond, ◌&&◌, ◌||◌, not, List, [], ◌∷◌, length, map, refl, sym, ◌∙◌, ap, subst, arith, inl, inr, ◌⊎◌, lit≤, ◌==◌, ◌≢◌, bit_and, bit_or, min, count_ones, All, filter, list_any, list_all, bit_at, bit_not, w64, count_leading_zeros, cases_lt, cases_eq, eqb-true, eq-eqb, ne_eqb, both_ways, All-head, All-tail, pow-le-pow_right, pow-suc, zero_from_ones, or_lt, xor_lt, and_le_l, pow_below, leading_top, bit_at-lt, bit_at_and, bit_at_xor, bit_at_not, bit_at_above, bit_at_cat_high, numbers, has, members_of, mask_of, filter_agree_from, is_one, is_one-or, is_one-pow, has-members_of, has-set_where_above, members_of-ones, length-members_of, any_number, ones_of, is_not_empty, ones_of-members_of, mask_of-ones_of, ones_of-zero, length-ones_of, no_ones, ones_of-passing, has-filter, has-ones_of, has_above, is_one-and}
+use Rattle.propagators.proofs.Prelude.{◌≡◌, ℕ, zero, suc, ◌+◌, ◌-◌, ◌*◌, ◌%◌, ◌<◌, ◌≤◌, ◌^◌, Bool, true, false, ◌&&◌, ◌||◌, not, List, [], ◌∷◌, length, map, refl, sym, ◌∙◌, ap, arith, inl, inr, ◌⊎◌, ◌==◌, ◌≢◌, bit_and, bit_or, All, filter, list_any, list_all, bit_at, bit_not, w64, count_leading_zeros, cases_lt, cases_eq, eqb-true, eq-eqb, ne_eqb, both_ways, All-head, All-tail, pow-suc, or_lt, xor_lt, and_le_l, pow_below, leading_top, bit_at-lt, bit_at_xor, bit_at_above, bit_at_cat_high, has, mask_of, is_one, is_one-or, is_one-pow, ones_of, is_not_empty, mask_of-ones_of, ones_of-zero, no_ones, ones_of-passing, has-ones_of, has_above, is_one-and}
 use Rattle.std.specs.Int.Bits.{bit_xor}
 use Rattle.propagators.proofs.Pruned.{filter_less}
 use Rattle.assign.proofs.Ones.{is_one-and_not}

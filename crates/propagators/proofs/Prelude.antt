@@ -42,7 +42,7 @@ pub use Rattle.propagators.specs.Loose.{HasMore, HasTwo, IsBounded}
 pub use Rattle.propagators.specs.Pairs.{AgreeInside, AreSides, IsBeside, IsNarrowed, IsOnly, IsValueOf, by_table, goes_by}
 pub use Rattle.propagators.specs.Plans.{AreApartSoFar, AreLeft, AreLimits, AreLooked, AreNarrow, AreNoted, AreTakenIn, HasApart, IsLeftOrLooked, IsLooked, IsParted, IsPlanOf, is_with}
 pub use Rattle.propagators.specs.Propagated.{IsPropagated, IsSettledBut, RunsEmpty}
-pub use Rattle.propagators.specs.Supports.{AreAlong, AreBelow, AreDifferent, AreFewer, AreSettled, AreSupported, AreSupportedBeside, DifferOnlyAt, HasNoTuple, HasTuple, IsCutAt, IsDead, IsFamilyOf, IsRevised, IsThrough, IsUnderway, IsWithin, continues, replaced}
+pub use Rattle.propagators.specs.Supports.{AreAlong, AreBelow, AreDifferent, AreFewer, AreSettled, AreSupported, AreSupportedBeside, DifferOnlyAt, HasNoTuple, HasTuple, IsCutAt, IsDead, IsFamilyOf, IsRevised, IsThrough, IsUnderway, IsWithin, continues, firsts_on, replaced}
 pub use Rattle.propagators.specs.declared.briefs.Brief.{Brief}
 pub use Rattle.propagators.specs.declared.briefs.Pair.{Pair}
 pub use Rattle.propagators.specs.declared.entailed.Entailed.{Entailed}

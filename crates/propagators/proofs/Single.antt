@@ -1,5 +1,5 @@
 -- Variables that have one value.
-use Rattle.propagators.proofs.Prelude.{◌≡◌, ℕ, zero, suc, ◌<◌, Bool, true, false, ◌&&◌, ◌||◌, ◌==◌, List, [], ◌∷◌, length, refl, subst, and_parts, and_from, eqb-true, eq-eqb, both_ways, ones_of, is_not_empty, IsOnly, IsWithin, IsThrough, AreSupported, sym, ◌∙◌, ap, arith, Option, Some, None, slice_index_or, IfSome, has, Family, Arc, IsUnderway, IsValueOf}
+use Rattle.propagators.proofs.Prelude.{◌≡◌, ℕ, zero, suc, ◌<◌, Bool, true, ◌&&◌, ◌||◌, ◌==◌, List, [], ◌∷◌, length, and_parts, and_from, eqb-true, eq-eqb, ones_of, is_not_empty, IsOnly, IsWithin, IsThrough, AreSupported, sym, ◌∙◌, ap, arith, Option, Some, None, slice_index_or, IfSome, has, Family, Arc, IsUnderway, IsValueOf}
 use Rattle.propagators.proofs.Replacing.{all_full, member_of_some, some_of_member}
 use Rattle.assign.proofs.Ones.{ones_of-zero}
 

@@ -1,6 +1,5 @@
 -- Collecting supported values, one value of the first set after another.
 use Rattle.propagators.proofs.Prelude.{◌≡◌, ℕ, zero, suc, ◌<◌, Bool, true, false, ◌&&◌, ◌||◌, not, List, [], ◌∷◌, ◌+◌, ◌*◌, ◌^◌, ◌≤◌, refl, sym, ◌∙◌, ap, subst, arith, inl, inr, ◌⊎◌, ◌==◌, slice_index_or, filter, and_parts, and_from, or_left, or_right, or_cases, both_ways, eq-eqb, eqb-true, not-true, mul-le-mul_right, mul_assoc, pow-succ', pow-zero, has, ones_of, is_not_empty, IsWithin, IsThrough, AreSupported, AreSupportedBeside, HasTuple, HasNoTuple, ones_of-zero, has-filter}
-use Rattle.propagators.proofs.Pruned.{has_head}
 use Rattle.propagators.proofs.Replacing.{member_of_some, some_of_member}
 
 -- each has the members of the one at its place

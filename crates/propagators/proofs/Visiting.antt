@@ -1,5 +1,5 @@
 -- Looking at the conditions of changed variables.
-use Rattle.propagators.proofs.Prelude.{◌≡◌, ℕ, zero, suc, ◌+◌, ◌-◌, ◌*◌, ◌/◌, ◌%◌, ◌<◌, ◌≤◌, Bool, true, false, ◌&&◌, ◌||◌, not, List, [], ◌∷◌, length, drop, Some, refl, sym, ◌∙◌, ap, subst, arith, inl, inr, ◌⊎◌, ◌==◌, ◌≢◌, slice_index_or, All, min, list_any, list_all, All-head, All-tail, both_ways, cases_eq, cases_lt, eq-eqb, eqb-true, ne_eqb, div-mul-add, mod-mul-add, has, union, without, least_of, Rises, IsSet, has-set_where, set_where-same, canonical, rises_lower, lacks, ones_of, bit_at, Family, Arc, is_consistent, is_not_empty, is_wanted, family_size, AreEntailed, Entailed, IsRevised, AreSettled, AreFewer, IsCutAt, IsUnderway, AreNoted, AreLeft, IsLooked, IsLeftOrLooked, AreLooked, IsApart, is_with, Brief, Plan}
+use Rattle.propagators.proofs.Prelude.{◌≡◌, ℕ, zero, suc, ◌+◌, ◌-◌, ◌*◌, ◌/◌, ◌%◌, ◌<◌, ◌≤◌, Bool, true, false, ◌&&◌, ◌||◌, not, List, [], ◌∷◌, length, refl, sym, ◌∙◌, ap, subst, arith, inl, inr, ◌⊎◌, ◌==◌, ◌≢◌, slice_index_or, All, min, list_any, list_all, All-head, All-tail, both_ways, cases_eq, cases_lt, eq-eqb, ne_eqb, div-mul-add, mod-mul-add, has, union, without, IsSet, has-set_where, ones_of, bit_at, Family, Arc, is_consistent, is_not_empty, is_wanted, family_size, AreEntailed, Entailed, IsRevised, AreSettled, AreFewer, IsCutAt, IsUnderway, AreNoted, AreLeft, IsLooked, IsLeftOrLooked, AreLooked, IsApart, is_with, Brief, Plan}
 use Rattle.assign.proofs.Masks.{rises_few}
 use Rattle.propagators.specs.declared.briefs.Brief.TheVariants.{Other}
 use Rattle.propagators.proofs.Words.{one_less}

@@ -1,5 +1,5 @@
 -- The words of a set of variables.
-use Rattle.propagators.proofs.Prelude.{◌≡◌, ◌≢◌, ℕ, zero, suc, ◌+◌, ◌-◌, ◌<◌, ◌≤◌, Bool, true, false, not, ◌&&◌, ◌||◌, ◌==◌, List, [], ◌∷◌, length, refl, sym, ◌∙◌, ap, subst, arith, inl, inr, ◌⊎◌, Some, None, least_of, drop, filter, range_with_len, and_parts, cases_lt, cases_eq, ne_eqb, eq-eqb, both_ways, rules, has, set_where, set_where-same, has-set_where, has-set_where_above, IsSet, or_left, or_right, or_cases, union, with_member, without, ones_of, is_not_empty, ◌^◌}
+use Rattle.propagators.proofs.Prelude.{◌≡◌, ◌≢◌, ℕ, zero, suc, ◌+◌, ◌-◌, ◌<◌, ◌≤◌, Bool, true, false, not, ◌&&◌, ◌||◌, ◌==◌, List, [], ◌∷◌, length, refl, sym, ◌∙◌, ap, subst, arith, inl, inr, ◌⊎◌, Some, None, least_of, drop, filter, range_with_len, and_parts, cases_lt, cases_eq, ne_eqb, eq-eqb, both_ways, has, set_where, set_where-same, has-set_where, has-set_where_above, IsSet, or_left, or_right, or_cases, union, with_member, without, ones_of, is_not_empty, ◌^◌}
 use Rattle.assign.proofs.Masks.{canonical, rises_where}
 use Rattle.propagators.proofs.Replacing.{member_of_some, some_of_member}
 use Rattle.std.proofs.lemmas.Bool.{lt-ltb, le-ltb}

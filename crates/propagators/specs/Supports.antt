@@ -1,5 +1,5 @@
 -- Which values of some sets an accepted tuple goes through.
-use Rattle.std.specs.Prelude.{ℕ, ◌≡◌, ◌+◌, ◌*◌, ◌<◌, ◌⊎◌, Bool, true, false, ◌&&◌, List, [], ◌∷◌, length, slice_index_or, slice_set}
+use Rattle.std.specs.Prelude.{ℕ, ◌≡◌, ◌+◌, ◌*◌, ◌<◌, ◌⊎◌, Bool, true, false, ◌&&◌, List, [], ◌∷◌, length, map, slice_index_or, slice_set}
 use Rattle.std.specs.List.{fold, list_any, list_all}
 use Rattle.assign.specs.Sets.{has}
 use Rattle.rel_table.specs.Table.{TruthTable, truth_at}
@@ -48,6 +48,10 @@ pub record AreAlong (sets : List (List ℕ)) (accepted : List ℕ → Bool) (pla
   pub others : List ℕ
   pub within : IsWithin sets others
   pub goes : (x : ℕ) → has found x ≡ (has (slice_index_or sets place []) x && accepted (slice_set others place x))
+
+-- the first value of each variable of a scope
+abbrev pub firsts_on : Family → List ℕ → List ℕ
+firsts_on f scope = map (λ v. slice_index_or (slice_index_or f v []) 0 0) scope
 
 -- what a table says of a tuple that goes on from a place
 abbrev pub continues : TruthTable → Bool → ℕ → List ℕ → Bool

@@ -104,16 +104,6 @@ impl Domains {
         least_from(self.sets[v as usize], x)
     }
 
-    /// The variable's least value.
-    #[inline]
-    pub(crate) fn least(&self, v: u8) -> u8
-        requires known { v < length self.now }
-        requires some { is_not_empty (slice_index_or self.now v []) ≡ true }
-        ensures { has (slice_index_or self.now v []) result ≡ true }
-    {
-        least_value(self.sets[v as usize])
-    }
-
     /// The mask of the variable's values.
     #[inline]
     pub(crate) fn values(&self, v: u8) -> u64

@@ -1,9 +1,9 @@
 //! Conditions that needn't be looked at again.
 
-ghost use Rattle.std.specs.Prelude.{◌≡◌, ◌<◌, ◌⊎◌, ℕ, List, [], true, All, IfSome, length, slice_index_or};
+ghost use Rattle.std.specs.Prelude.{◌≡◌, ◌<◌, ◌⊎◌, ℕ, List, [], true, All, length, slice_index_or};
 ghost use Rattle.propagators.specs.Families.{Family, Arc};
 ghost use Rattle.propagators.specs.declared.plan.Plan.{Plan};
-ghost use Rattle.propagators.specs.Entailed.{is_noted_in, is_among_struck, AreEntailed, HasOne, IsAlmostFixed, AreFixedBut};
+ghost use Rattle.propagators.specs.Entailed.{is_noted_in, is_among_struck, AreEntailed, HasOne, IsAlmostFixed};
 
 use crate::domains::Domains;
 use crate::values::add_value;
@@ -46,26 +46,6 @@ fn is_almost_fixed(doms: &Domains, scope: &[u8]) -> bool
         };
     }
     true
-}
-
-/// A place of a scope such that each variable at another one has one value alone.
-#[inline]
-pub(crate) fn open_place(doms: &Domains, scope: &[u8]) -> Option<usize>
-    requires known { All (λ v. v < length doms.now) scope.now }
-    requires some { 0 < length scope.now }
-    ensures low { IfSome result (λ place. place < length scope.now) }
-    ensures fixed { IfSome result (AreFixedBut doms.now scope.now) }
-{
-    for j in 0..scope.len() {
-        let Some(_x) = doms.only(scope[j]) else {
-            return if are_fixed(doms, &scope[j + 1..]) {
-                Some(j)
-            } else {
-                None
-            };
-        };
-    }
-    Some(0)
 }
 
 impl Entailed {

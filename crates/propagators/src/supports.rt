@@ -1,16 +1,17 @@
 //! Which values of some sets an accepted tuple goes through.
 
-ghost use Rattle.std.specs.Prelude.{◌≡◌, ◌+◌, ◌*◌, ◌^◌, ◌<◌, ◌≤◌, ◌==◌, ◌&&◌, ◌||◌, ℕ, Bool, true, false, List, [], ◌∷◌, length, map, take, slice_index_or, All};
+ghost use Rattle.std.specs.Prelude.{◌≡◌, ◌+◌, ◌-◌, ◌*◌, ◌^◌, ◌<◌, ◌≤◌, ◌==◌, ◌&&◌, ◌||◌, ℕ, Bool, true, false, List, [], ◌∷◌, length, map, take, slice_index_or, slice_set, All, IfSome};
 ghost use Rattle.std.specs.Int.{bit_at};
 ghost use Rattle.std.specs.List.{list_all};
 ghost use Rattle.assign.specs.Sets.{has, ones_of};
-ghost use Rattle.propagators.specs.Supports.{AreSupported, AreAlong, AreBelow, AreSupportedBeside, HasTuple, HasNoTuple, continues};
+ghost use Rattle.propagators.specs.Supports.{AreSupported, AreAlong, AreBelow, AreSupportedBeside, HasTuple, HasNoTuple, continues, firsts_on};
+ghost use Rattle.propagators.specs.Entailed.{HasOne, AreFixedBut};
 ghost use Rattle.propagators.specs.Families.{is_wanted, is_not_empty, sets_on};
 ghost use Rattle.propagators.specs.Loose.{IsBounded};
 ghost use Rattle.propagators.specs.Chains.{IsChain};
 ghost use Rattle.propagators.specs.Pairs.{goes_by, AreSides};
 ghost use Rattle.propagators.specs.Briefs.{by_pair};
-ghost use Rattle.rel_table.specs.Relation.{Relation};
+ghost use Rattle.rel_table.specs.Relation.{Relation, place};
 ghost use Rattle.rel_table.specs.Table.{truth_at};
 ghost use Rattle.language.specs.Pairs.{ArePairTables, IsPairTable};
 
@@ -21,7 +22,7 @@ use crate::values::{
     without_value,
 };
 use language::Language;
-use rel_table::{Table, place_of};
+use rel_table::Table;
 
 /// The supported values of one set.
 #[inline]
@@ -336,20 +337,67 @@ fn is_right(held: bool, holding: bool) -> bool
     if holding { held } else { !held }
 }
 
-/// The least value of each variable of a scope.
+/// A place of a scope, and where in a table that tuple stands that has value 0 there and the first value of each other variable.
+#[derive(Clone, Copy)]
+pub(crate) struct Opening {
+    /// The place of the scope.
+    pub(crate) place: usize,
+    /// The place in the table.
+    pub(crate) first: u32,
+}
+
+/// The place of a scope's first values but for a 0 right before those that are still to come, where each of these has one value
+/// alone. The ones before have a place already.
 #[inline]
-fn least_values(doms: &Domains, scope: &[u8]) -> [u8; 4]
-    requires short { length scope.now ≤ 4 }
+fn place_on(doms: &Domains, d: u8, scope: &[u8], from: usize, before: u32) -> Option<u32>
     requires known { All (λ v. v < length doms.now) scope.now }
     requires full { list_all is_not_empty doms.now ≡ true }
-    ensures there { (j : ℕ) → j < length scope.now → has (slice_index_or doms.now (slice_index_or scope.now j 0) []) (slice_index_or result j 0) ≡ true }
-    ensures size { length result ≡ 4 }
+    requires below { (v : ℕ) → AreBelow d (slice_index_or doms.now v []) }
+    requires small { d ≤ 64 }
+    requires short { length scope.now ≤ 4 }
+    requires some { 1 ≤ from }
+    requires from { from ≤ length scope.now }
+    requires low { before < 64 ^ from }
+    requires before { before ≡ place d (take from (slice_set (firsts_on doms.now scope.now) (from - 1) 0)) }
+    ensures is { IfSome result (λ at. at ≡ place d (slice_set (firsts_on doms.now scope.now) (from - 1) 0)) }
+    ensures fixed { IfSome result (λ at. (j : ℕ) → from ≤ j → j < length scope.now → HasOne (slice_index_or doms.now (slice_index_or scope.now j 0) [])) }
 {
-    let mut values = [0; 4];
-    for j in 0..scope.len() {
-        values[j] = doms.least(scope[j]);
+    let mut at = before;
+    for j in from..scope.len() {
+        let Some(x) = doms.only(scope[j]) else {
+            return None;
+        };
+        at = at * u32::from(d) + u32::from(x);
     }
-    values
+    Some(at)
+}
+
+/// A place of a scope such that each variable at another one has one value alone.
+#[inline]
+pub(crate) fn opening_of(doms: &Domains, d: u8, scope: &[u8]) -> Option<Opening>
+    requires known { All (λ v. v < length doms.now) scope.now }
+    requires some { 0 < length scope.now }
+    requires short { length scope.now ≤ 4 }
+    requires full { list_all is_not_empty doms.now ≡ true }
+    requires below { (v : ℕ) → AreBelow d (slice_index_or doms.now v []) }
+    requires small { d ≤ 64 }
+    ensures low { IfSome result (λ o. o.place < length scope.now) }
+    ensures fixed { IfSome result (λ o. AreFixedBut doms.now scope.now o.place) }
+    ensures first { IfSome result (λ o. o.first ≡ place d (slice_set (firsts_on doms.now scope.now) o.place 0)) }
+{
+    let last = scope.len() - 1;
+    let mut at = 0;
+    for place in 0..last {
+        let Some(x) = doms.only(scope[place]) else {
+            let first = place_on(doms, d, scope, place + 1, at * u32::from(d))?;
+            return Some(Opening { place, first });
+        };
+        at = at * u32::from(d) + u32::from(x);
+    }
+    Some(Opening {
+        place: last,
+        first: at * u32::from(d),
+    })
 }
 
 /// How far apart two tuples stand that differ by one at a place before so many others.
@@ -395,23 +443,27 @@ pub(crate) fn going_along(
     holding: bool,
     doms: &Domains,
     scope: &[u8],
-    place: usize,
+    opening: Opening,
 ) -> u64
     requires arity { length scope.now ≡ table.now.arity }
-    requires place { place < length scope.now }
+    requires place { opening.place < length scope.now }
+    requires first { opening.first ≡ place table.now.value_count (slice_set (firsts_on doms.now scope.now) opening.place 0) }
     requires known { All (λ v. v < length doms.now) scope.now }
     requires full { list_all is_not_empty doms.now ≡ true }
     requires below { (v : ℕ) → AreBelow table.now.value_count (slice_index_or doms.now v []) }
-    ensures { AreAlong (sets_on doms.now scope.now) (continues table.now holding 0) place (ones_of result) }
+    ensures { AreAlong (sets_on doms.now scope.now) (continues table.now holding 0) opening.place (ones_of result) }
 {
-    let arity = usize::from(table.arity());
     let d = table.value_count();
-    let mut tuple = least_values(doms, scope);
-    tuple[place] = 0;
-    let first = place_of(d, &tuple[..arity]) as u32;
-    if place + 1 == arity {
-        return doms.passing(scope[place], table.row(first), holding);
+    let v = scope[opening.place];
+    let after = scope.len() - 1 - opening.place;
+    if after == 0 {
+        return doms.passing(v, table.row(opening.first), holding);
     }
-    let step = step_of(d, arity - 1 - place);
-    in_steps(table, holding, first, step, doms.values(scope[place]))
+    in_steps(
+        table,
+        holding,
+        opening.first,
+        step_of(d, after),
+        doms.values(v),
+    )
 }

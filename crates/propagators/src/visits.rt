@@ -1,17 +1,17 @@
 //! Propagation with a plan: only the conditions of a changed variable are looked at.
 
-ghost use Rattle.std.specs.Prelude.{◌≡◌, ◌<◌, ◌+◌, ◌*◌, ◌/◌, ◌==◌, ◌⊎◌, ℕ, List, [], true, false, IfSome, IsSome, None, Some, length, slice_index_or};
+ghost use Rattle.std.specs.Prelude.{◌≡◌, ◌<◌, ◌+◌, ◌*◌, ◌/◌, ◌==◌, ◌⊎◌, ℕ, List, [], true, false, IfSome, IsSome, None, Some, length, slice_index_or, slice_set};
 ghost use Rattle.std.specs.Int.{bit_at};
 ghost use Rattle.std.specs.List.{list_all};
 ghost use Rattle.assign.specs.Sets.{has, without, IsSet};
 ghost use Rattle.language.specs.Language.{Language, IsLanguage, IsCandidate, variable_count, scope_of};
 ghost use Rattle.propagators.specs.Allowed.{AreConstraints};
 ghost use Rattle.propagators.specs.Families.{Family, Arc, arc_of, arcs_of, is_not_empty, is_wanted};
-ghost use Rattle.propagators.specs.Supports.{AreBelow, IsFamilyOf};
+ghost use Rattle.propagators.specs.Supports.{AreBelow, IsFamilyOf, firsts_on};
 ghost use Rattle.propagators.specs.Loose.{HasTwo, HasMore};
 ghost use Rattle.propagators.specs.Pairs.{IsOnly, IsValueOf, IsBeside};
 ghost use Rattle.propagators.specs.Briefs.{IsPairOf, arc_by, IsApart, IsApartAt};
-ghost use Rattle.rel_table.specs.Relation.{Relation};
+ghost use Rattle.rel_table.specs.Relation.{Relation, place};
 ghost use Rattle.language.specs.Pairs.{ArePairTables, IsPairTable};
 ghost use Rattle.propagators.specs.declared.plan.Plan.{Plan};
 ghost use Rattle.propagators.specs.Entailed.{AreEntailed, IsEntailed, AreFixedBut, is_noted_in, is_among_struck};
@@ -21,10 +21,10 @@ ghost use Rattle.propagators.specs.Propagated.{AreSome, IsSettledBut, IsPropagat
 use crate::briefs::{Brief, Pair};
 use crate::constraints::Constraints;
 use crate::domains::Domains;
-use crate::entailed::{Entailed, open_place};
+use crate::entailed::Entailed;
 use crate::plan::Plan;
 use crate::revising::{Alive, revise, revise_pair, settle, touches};
-use crate::supports::going_along;
+use crate::supports::{Opening, going_along, opening_of};
 use crate::values::{is_empty, least_value, passing, without_value};
 use crate::waiting::Waiting;
 use assign::VarSet;
@@ -90,7 +90,7 @@ fn look_along(
     i: usize,
     c: Candidate,
     holding: bool,
-    place: usize,
+    opening: Opening,
     doms: &mut Domains,
     entailed: &mut Entailed,
     waiting: &mut Waiting,
@@ -100,8 +100,9 @@ fn look_along(
     requires low { i < length (arcs_of cons.now.lang.now cons.now.list.now cons.now.against) }
     requires candidate { IsCandidate cons.now.lang.now c }
     requires is { (a : Arc) → slice_index_or (arcs_of cons.now.lang.now cons.now.list.now cons.now.against) i a ≡ arc_of cons.now.lang.now c holding }
-    requires place { place < length (scope_of cons.now.lang.now c) }
-    requires fixed { AreFixedBut doms.old (scope_of cons.now.lang.now c) place }
+    requires place { opening.place < length (scope_of cons.now.lang.now c) }
+    requires fixed { AreFixedBut doms.old (scope_of cons.now.lang.now c) opening.place }
+    requires first { opening.first ≡ place cons.now.lang.now.value_count (slice_set (firsts_on doms.old (scope_of cons.now.lang.now c)) opening.place 0) }
     requires doms { AreSome cons.now.lang.now doms.old }
     ensures looked { result ≡ Alive.Yes → IsLooked (arcs_of cons.now.lang.now cons.now.list.now cons.now.against) i waiting.old waiting.new doms.old doms.new }
     ensures entailed { result ≡ Alive.Yes → (p : Plan) → AreEntailed (arcs_of cons.now.lang.now cons.now.list.now cons.now.against) p entailed.old doms.old → AreEntailed (arcs_of cons.now.lang.now cons.now.list.now cons.now.against) p entailed.new doms.new }
@@ -109,16 +110,50 @@ fn look_along(
 {
     let scope = cons.lang.scope(c.scope);
     let table = cons.lang.table_on(c.scope, c.rel);
-    let values = going_along(table, holding, doms, scope, place);
+    let values = going_along(table, holding, doms, scope, opening);
     if is_empty(values) {
         return Alive::No;
     }
     entailed.add(i);
-    if !doms.cut(scope[place], values) {
+    if !doms.cut(scope[opening.place], values) {
         return Alive::Yes;
     }
-    *waiting = waiting.with(scope[place]);
+    *waiting = waiting.with(scope[opening.place]);
     Alive::Yes
+}
+
+/// Revises condition i, a candidate that is to hold or not to hold. To the variables that are waiting are added those that lost
+/// values; `No` where some variable has none left in an arc-consistent subfamily.
+fn look_at_several(
+    cons: &Constraints,
+    i: usize,
+    c: Candidate,
+    holding: bool,
+    doms: &mut Domains,
+    entailed: &mut Entailed,
+    waiting: &mut Waiting,
+) -> Alive
+    requires lawful { IsLanguage cons.now.lang.now }
+    requires constraints { AreConstraints cons.now.lang.now cons.now.list.now cons.now.against }
+    requires low { i < length (arcs_of cons.now.lang.now cons.now.list.now cons.now.against) }
+    requires candidate { IsCandidate cons.now.lang.now c }
+    requires is { (a : Arc) → slice_index_or (arcs_of cons.now.lang.now cons.now.list.now cons.now.against) i a ≡ arc_of cons.now.lang.now c holding }
+    requires doms { AreSome cons.now.lang.now doms.old }
+    ensures looked { result ≡ Alive.Yes → IsLooked (arcs_of cons.now.lang.now cons.now.list.now cons.now.against) i waiting.old waiting.new doms.old doms.new }
+    ensures entailed { result ≡ Alive.Yes → (p : Plan) → AreEntailed (arcs_of cons.now.lang.now cons.now.list.now cons.now.against) p entailed.old doms.old → AreEntailed (arcs_of cons.now.lang.now cons.now.list.now cons.now.against) p entailed.new doms.new }
+    ensures dead { result ≡ Alive.No → RunsEmpty (arcs_of cons.now.lang.now cons.now.list.now cons.now.against) doms.old }
+{
+    match revise(cons.lang, c, holding, doms) {
+        None => Alive::No,
+        Some(lost) => {
+            if lost.is_empty() {
+                return Alive::Yes;
+            }
+            entailed.add_fixed(i, doms, cons.lang.scope(c.scope));
+            *waiting = waiting.union(lost);
+            Alive::Yes
+        }
+    }
 }
 
 /// Revises condition i, unless one of its variables is waiting, at whose turn that is done. To the variables that are waiting are
@@ -140,23 +175,13 @@ fn look_at_other(
 {
     let (c, holding) = cons.condition(i);
     let scope = cons.lang.scope(c.scope);
-    if let Some(place) = open_place(doms, scope) {
-        return look_along(cons, i, c, holding, place, doms, entailed, waiting);
+    if let Some(opening) = opening_of(doms, cons.lang.d(), scope) {
+        return look_along(cons, i, c, holding, opening, doms, entailed, waiting);
     }
     if touches(scope, *waiting) {
         return Alive::Yes;
     }
-    match revise(cons.lang, c, holding, doms) {
-        None => Alive::No,
-        Some(lost) => {
-            entailed.add_fixed(i, doms, scope);
-            if lost.is_empty() {
-                return Alive::Yes;
-            }
-            *waiting = waiting.union(lost);
-            Alive::Yes
-        }
-    }
+    look_at_several(cons, i, c, holding, doms, entailed, waiting)
 }
 
 /// `look_at_other` for a condition on two variables, by the masks of its relation. Apart from the loop over conditions, which

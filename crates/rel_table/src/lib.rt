@@ -3,7 +3,7 @@
 //!
 //! | to | call |
 //! |---|---|
-//! | learn a table's size, a tuple's place, a place's tuple | `table_size`, `place_of`, `tuple_of` |
+//! | learn a table's size, a tuple's place, a place's tuple | `table_size`, `place_count`, `place_of`, `tuple_of` |
 //! | make a table | `Table::from_tuples`, `Table::from_truth` |
 //! | ask about one tuple | `accepts`, `at` |
 //! | ask about the tuples that differ in their last value | `row` |
@@ -17,5 +17,5 @@ mod places;
 mod table;
 
 pub use closing::{Closed, close};
-pub use places::tuple_of;
+pub use places::{place_count, tuple_of};
 pub use table::{CloseFault, MOST_PLACES, Memory, Table, TableFault, place_of, table_size};

@@ -18,6 +18,7 @@ use answer_journal::MOST_RECORDS;
 use assign::{Event, Partial};
 use language::Memory;
 use session_core::Session;
+use std::slice::from_ref;
 
 /// A session that stands where its events lead.
 #[derive(Drop)]
@@ -28,11 +29,11 @@ pub(crate) struct Held {
 }
 
 /// Adds an event in a place that was taken. `push` hands a refused one back, and copies it four times for that.
-fn push_event(events: &mut Vec<Event>, event: Event)
+fn push_event(events: &mut Vec<Event>, event: &Event)
     requires { vec_len events.old < vec_capacity events.old }
-    ensures { events.new.items ≡ events.old.items ++ event ∷ [] }
+    ensures { events.new.items ≡ events.old.items ++ event.now ∷ [] }
 {
-    events.extend_from_slice(&[event]).unwrap();
+    events.extend_from_slice(from_ref(event)).unwrap();
 }
 
 impl Held {
@@ -127,15 +128,15 @@ impl Held {
     }
 
     /// Adds the event of an answer to the question that is put, in a place that was taken, and moves the session.
-    pub(crate) fn add(&mut self, event: Event, question: &Partial, yes: bool)
+    pub(crate) fn add(&mut self, event: &Event, question: &Partial, yes: bool)
         requires sound { IsHeld self.old }
         requires put { question_held self.old ≡ Some question.now }
         requires fits { IsQuestion (lang_held self.old) question.now }
-        requires is { ForSome (question_held self.old) (λ q. event ≡ answer_event q «yes») }
-        requires storable { IsStorableEvent event }
+        requires is { ForSome (question_held self.old) (λ q. event.now ≡ answer_event q «yes») }
+        requires storable { IsStorableEvent event.now }
         requires few { length (events_held self.old) + 1 < 1000000 }
         requires room { vec_len self.old.events < vec_capacity self.old.events }
-        ensures events { events_held self.new ≡ events_held self.old ++ event ∷ [] }
+        ensures events { events_held self.new ≡ events_held self.old ++ event.now ∷ [] }
         ensures settled { IsSettled (lang_held self.new) (plan_held self.new) (standing_on (lang_held self.new) (events_held self.new)) (question_held self.new) }
         ensures lang { lang_held self.new ≡ lang_held self.old }
         ensures plan { plan_held self.new ≡ plan_held self.old }

@@ -84,7 +84,7 @@ impl<D: Disk> Keep<D> for Loose {
         let question = self.held.question();
         let event = self.held.event(&question, yes);
         self.held.make_room()?;
-        self.held.add(event, &question, yes);
+        self.held.add(&event, &question, yes);
         Ok(())
     }
 

@@ -267,7 +267,7 @@ impl<D: Disk> Keep<D> for Store {
         self.held.make_room()?;
         match self.journal.append(disk, &event) {
             Ok(()) => {
-                self.held.add(event, &question, yes);
+                self.held.add(&event, &question, yes);
                 Ok(())
             }
             Err(_) => Err(SFault::Journal(JFault::DiskFault)),

@@ -41,6 +41,7 @@ fn trim(line: &[u8]) -> &[u8]
     &line[..len_before_blanks(line)]
 }
 
+#[inline(always)]
 fn is_either(word: &[u8], long: &[u8], short: &[u8]) -> bool
     ensures { result ≡ (bytes_eq word.now long.now || bytes_eq word.now short.now) }
 {

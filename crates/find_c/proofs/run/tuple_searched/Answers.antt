@@ -7,7 +7,7 @@ pub returns-then-is_single : goal.returns-then-is_single
 returns-then-is_single c = sym (none_of_one (scene_of c.args.lang.now c.args.s) c.args.choices.now (c.is_single.ensures.0 c.if-is_single.true))
 
 pub first_row-place-requires-clause-places : goal.first_row-place-requires-clause-places
-first_row-place-requires-clause-places c = c.pow-places.ensures ∙ (λ i. (c.from-row.ensures ∙ c.d-value_count.ensures.is) i ^ (c.from.ensures ∙ ap length c.scope.ensures.is) i)
+first_row-place-requires-clause-places c = c.place_count-places.ensures ∙ (λ i. c.d-value_count.ensures.is i ^ ap length c.scope.ensures.is i)
 
 pub loop-place-init : goal.loop-place-init
 loop-place-init c = c.first_row-place.ensures.found
@@ -17,13 +17,13 @@ differences-y-requires-clause-row c = c.loop-place.invariant.row
 
 pub differences-y-requires-clause-below : goal.differences-y-requires-clause-below
 differences-y-requires-clause-below c =
-    let all : c.pow-places.result ≡ c.args.lang.now.value_count ^ length (scope_at c.args.lang.now c.args.s) = c.pow-places.ensures ∙ (λ i. (c.from-row.ensures ∙ c.d-value_count.ensures.is) i ^ (c.from.ensures ∙ ap length c.scope.ensures.is) i) in
+    let all : c.place_count-places.result ≡ c.args.lang.now.value_count ^ length (scope_at c.args.lang.now c.args.s) = c.place_count-places.ensures ∙ (λ i. c.d-value_count.ensures.is i ^ ap length c.scope.ensures.is i) in
     let low = c.loop-place-test.true in
     omega arith
 
 pub overflow_add-place : goal.overflow_add-place
 overflow_add-place c =
-    let all : c.pow-places.result ≡ c.args.lang.now.value_count ^ length (scope_at c.args.lang.now c.args.s) = c.pow-places.ensures ∙ (λ i. (c.from-row.ensures ∙ c.d-value_count.ensures.is) i ^ (c.from.ensures ∙ ap length c.scope.ensures.is) i) in
+    let all : c.place_count-places.result ≡ c.args.lang.now.value_count ^ length (scope_at c.args.lang.now c.args.s) = c.place_count-places.ensures ∙ (λ i. c.d-value_count.ensures.is i ^ ap length c.scope.ensures.is i) in
     let low = c.loop-place-test.true in
     let fits = row_fits c.args.lang.now.value_count (c.args.lang.now.value_count ^ length (scope_at c.args.lang.now c.args.s)) c.loop-place.place c.loop-place.invariant.row (omega arith) in
     let few = few_places c.args.lang.now c.d-value_count.ensures.lawful c.args.s c.requires.scope in
@@ -33,7 +33,7 @@ overflow_add-place c =
 
 pub returns-then-y-row : goal.returns-then-y-row
 returns-then-y-row c =
-    let all : c.pow-places.result ≡ c.args.lang.now.value_count ^ length (scope_at c.args.lang.now c.args.s) = c.pow-places.ensures ∙ (λ i. (c.from-row.ensures ∙ c.d-value_count.ensures.is) i ^ (c.from.ensures ∙ ap length c.scope.ensures.is) i) in
+    let all : c.place_count-places.result ≡ c.args.lang.now.value_count ^ length (scope_at c.args.lang.now c.args.s) = c.place_count-places.ensures ∙ (λ i. c.d-value_count.ensures.is i ^ ap length c.scope.ensures.is i) in
     let low = c.loop-place-test.true in
     let fits = row_fits c.args.lang.now.value_count (c.args.lang.now.value_count ^ length (scope_at c.args.lang.now c.args.s)) c.loop-place.place c.loop-place.invariant.row (omega arith) in
     let values = c.d-value_count.ensures.is in
@@ -46,7 +46,7 @@ returns-then-y-row c =
 
 pub loop-place-preserved : goal.loop-place-preserved
 loop-place-preserved c =
-    let all : c.pow-places.result ≡ c.args.lang.now.value_count ^ length (scope_at c.args.lang.now c.args.s) = c.pow-places.ensures ∙ (λ i. (c.from-row.ensures ∙ c.d-value_count.ensures.is) i ^ (c.from.ensures ∙ ap length c.scope.ensures.is) i) in
+    let all : c.place_count-places.result ≡ c.args.lang.now.value_count ^ length (scope_at c.args.lang.now c.args.s) = c.place_count-places.ensures ∙ (λ i. c.d-value_count.ensures.is i ^ ap length c.scope.ensures.is i) in
     let low = c.loop-place-test.true in
     let past = c.if-y-row.false in
     from_next_row c.args.lang.now c.args.s c.args.choices.now c.loop-place.place c.from-row.result c.differences-y.result (trailing_zeros w64 c.differences-y.result) c.loop-place.invariant (omega arith)
@@ -54,5 +54,5 @@ loop-place-preserved c =
 
 pub returns : goal.returns
 returns c =
-    let all : c.pow-places.result ≡ c.args.lang.now.value_count ^ length (scope_at c.args.lang.now c.args.s) = c.pow-places.ensures ∙ (λ i. (c.from-row.ensures ∙ c.d-value_count.ensures.is) i ^ (c.from.ensures ∙ ap length c.scope.ensures.is) i) in
+    let all : c.place_count-places.result ≡ c.args.lang.now.value_count ^ length (scope_at c.args.lang.now c.args.s) = c.place_count-places.ensures ∙ (λ i. c.d-value_count.ensures.is i ^ ap length c.scope.ensures.is i) in
     sym (found_nowhere (scene_of c.args.lang.now c.args.s) c.args.choices.now c.loop-place.place (let past = c.loop-place-test.false in omega arith)) ∙ c.loop-place.invariant.found

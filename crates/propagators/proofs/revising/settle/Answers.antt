@@ -1,4 +1,4 @@
-use Rattle.propagators.proofs.Prelude.{◌≡◌, ℕ, List, [], ◌∷◌, length, refl, sym, arith, arcs_of}
+use Rattle.propagators.proofs.Prelude.{refl, sym, arith, arcs_of}
 use Rattle.propagators.proofs.Rounds.{dead_before, turn_falls, settled_largest}
 use Rattle.propagators.proofs.Conditions.{family_under}
 use Rattle.propagators.proofs.Words.{no_length, some_length}

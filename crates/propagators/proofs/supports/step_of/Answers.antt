@@ -1,4 +1,4 @@
-use Rattle.propagators.proofs.Prelude.{◌≡◌, ◌*◌, ◌^◌, ◌∙◌, ℕ, sym, ap, arith, mul_assoc}
+use Rattle.propagators.proofs.Prelude.{◌≡◌, ◌*◌, ◌^◌, ◌∙◌, sym, ap, arith, mul_assoc}
 use Rattle.propagators.proofs.Sweeping.{power_one, power_two, power_three}
 use Rattle.propagators.proofs.supports.step_of.Goals as goal
 

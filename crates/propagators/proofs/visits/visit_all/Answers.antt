@@ -1,4 +1,4 @@
-use Rattle.propagators.proofs.Prelude.{◌≡◌, ◌∙◌, ℕ, List, [], ◌∷◌, None, sym, refl, arcs_of, least_of}
+use Rattle.propagators.proofs.Prelude.{refl, arcs_of}
 use Rattle.propagators.proofs.Rounds.{dead_before, settled_largest}
 use Rattle.propagators.proofs.Conditions.{family_under}
 use Rattle.propagators.proofs.Visiting.{visits_fall}

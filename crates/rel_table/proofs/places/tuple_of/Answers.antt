@@ -1,9 +1,6 @@
 use Rattle.rel_table.proofs.Prelude.{◌≡◌, ℕ, ◌+◌, ◌-◌, ◌<◌, List, take, drop, replicate, ap, subst, sym, ◌∙◌, arith, rules, All, common_steps, mod_below, drop-set-lt, drop-drop, drop-replicate, tuple_at}
-use Rattle.rel_table.proofs.PlaceLemmas.{small_power, next_size, some_size, value_below, taken_more, tuple_at-below}
+use Rattle.rel_table.proofs.PlaceLemmas.{next_size, some_size, value_below, taken_more, tuple_at-below}
 use Rattle.rel_table.proofs.places.tuple_of.Goals as goal
-
-pub pow-size-requires : goal.pow-size-requires
-pow-size-requires c = let small = small_power c.args.d c.args.arity (omega arith) c.requires.short in grind (arith, common_steps, small)
 
 pub nonzero_div-tuple : goal.nonzero_div-tuple
 nonzero_div-tuple c =

@@ -1,4 +1,4 @@
-use Rattle.propagators.proofs.Prelude.{◌≡◌, ◌+◌, ◌-◌, ◌<◌, ◌∙◌, ℕ, sym, ap, arith, has}
+use Rattle.propagators.proofs.Prelude.{◌≡◌, ◌+◌, ◌-◌, ◌∙◌, sym, ap, arith, has}
 use Rattle.propagators.proofs.Words.{has_low, has_high}
 use Rattle.propagators.proofs.waiting.Waiting.has.Goals as goal
 

@@ -1,4 +1,4 @@
-use Rattle.propagators.proofs.Prelude.{◌≡◌, ◌+◌, ◌<◌, ◌≤◌, ◌∙◌, ℕ, ap, arith, has}
+use Rattle.propagators.proofs.Prelude.{◌≡◌, ◌+◌, ◌∙◌, ap, arith, has}
 use Rattle.propagators.proofs.Words.{has_low, has_high, are_set, none_left, least_low, least_high}
 use Rattle.propagators.proofs.waiting.Waiting.least.Goals as goal
 

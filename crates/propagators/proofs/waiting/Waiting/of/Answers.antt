@@ -1,4 +1,4 @@
-use Rattle.propagators.proofs.Prelude.{◌≡◌, ◌<◌, ◌∙◌, ◌||◌, ℕ, List, [], drop, subst, sym, has, IsSet, union, ◌∷◌}
+use Rattle.propagators.proofs.Prelude.{◌∙◌, ◌||◌, [], subst, sym, has, IsSet, ◌∷◌}
 use Rattle.assign.proofs.Masks.{rises_where}
 use Rattle.propagators.proofs.Words.{moved_over, all_moved}
 use Rattle.propagators.proofs.waiting.Waiting.of.Goals as goal

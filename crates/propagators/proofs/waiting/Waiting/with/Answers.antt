@@ -1,4 +1,4 @@
-use Rattle.propagators.proofs.Prelude.{◌≡◌, ◌+◌, ◌-◌, ◌<◌, ◌≤◌, ℕ, arith}
+use Rattle.propagators.proofs.Prelude.{◌-◌, arith}
 use Rattle.propagators.proofs.Words.{with_low, with_high}
 use Rattle.propagators.proofs.waiting.Waiting.with.Goals as goal
 

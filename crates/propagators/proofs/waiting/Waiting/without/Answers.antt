@@ -1,4 +1,4 @@
-use Rattle.propagators.proofs.Prelude.{◌≡◌, ◌+◌, ◌-◌, ◌<◌, ◌≤◌, ℕ, arith}
+use Rattle.propagators.proofs.Prelude.{◌-◌, arith}
 use Rattle.propagators.proofs.Words.{without_low, without_high}
 use Rattle.propagators.proofs.waiting.Waiting.without.Goals as goal
 

@@ -21,8 +21,8 @@ returns-clause-sound c =
     let asked : IsAskedAfter l p (standing_on l events) q = open_asked c.in-Some-Asking.asking (standing_on l events) before in
     let size : length q ≡ variable_count l = (asked_fits l lawful p (standing_on l events) q asked).size in
     let after = c.answer_to.ensures.stands (standing_on l events) q refl before in
-    let is : c.args.event ≡ answer_event q c.args.yes = c.requires.is q (ap asked_of_session here) in
-    let pushed : c.push_event.new.events.items ≡ events ++ c.args.event ∷ [] = c.push_event.ensures in
+    let is : c.args.event.now ≡ answer_event q c.args.yes = c.requires.is q (ap asked_of_session here) in
+    let pushed : c.push_event.new.events.items ≡ events ++ c.args.event.now ∷ [] = c.push_event.ensures in
     let as_answer : c.push_event.new.events.items ≡ events ++ answer_event q c.args.yes ∷ [] = pushed ∙ ap (λ (e : Event). events ++ e ∷ []) is in
     let Placed : Option Session → Type 0 = λ o. HavePlaces (lang_in o) (plan_in o) events in
     let places : HavePlaces l p (events ++ answer_event q c.args.yes ∷ []) =
@@ -32,9 +32,9 @@ returns-clause-sound c =
     ap (standing_on l) as_answer ∙ cut_to-standing-push (variable_count l) events q c.args.yes size in
     record {
       stands = subst (Stands c.answer_to.result) (sym added ∙ ap (λ m. standing_on m c.push_event.new.events.items) (sym c.answer_to.ensures.lang)) after;
-      wide = subst (All IsWide) (sym pushed) (All-append IsWide events (c.args.event ∷ []) c.requires.sound.wide (All-cons IsWide c.args.event [] (storable_wide c.args.event c.requires.storable) (All-nil IsWide)));
+      wide = subst (All IsWide) (sym pushed) (All-append IsWide events (c.args.event.now ∷ []) c.requires.sound.wide (All-cons IsWide c.args.event.now [] (storable_wide c.args.event.now c.requires.storable) (All-nil IsWide)));
       places = both_same As l (knowledge_of c.answer_to.result).lang p (knowledge_of c.answer_to.result).plan (sym c.answer_to.ensures.lang) (sym c.answer_to.ensures.plan) (subst (HavePlaces l p) (sym as_answer) places);
-      few = let size = ap length pushed in let more = length-append events (c.args.event ∷ []) in let few = c.requires.few in omega arith;
+      few = let size = ap length pushed in let more = length-append events (c.args.event.now ∷ []) in let few = c.requires.few in omega arith;
     }
 
 pub returns-clause-settled : goal.returns-clause-settled

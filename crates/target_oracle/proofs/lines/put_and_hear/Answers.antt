@@ -4,7 +4,7 @@ use Rattle.acq_io.specs.declared.streams.Put.{Put}
 use Rattle.language.specs.Texts.{question_text}
 use Rattle.target_oracle.proofs.Fronts.{front_longer, front_none}
 use Rattle.target_oracle.proofs.Hearings.{tells_after, silent}
-use Rattle.target_oracle.proofs.lines.LineTeacherTeacher.told.Goals as goal
+use Rattle.target_oracle.proofs.lines.put_and_hear.Goals as goal
 
 pub returns-in-Ok-write-clause-tells : goal.returns-in-Ok-write-clause-tells
 returns-in-Ok-write-clause-tells g c = λ bytes left.
@@ -38,23 +38,14 @@ returns-in-Ok-write-clause-asks g c =
       first = inr (more, subst Put is (adds_then old (g.K.Sink.written c.write.new.self) new c.as_bytes.result.now more c.in-Ok-write.ensures.ok c.hear_lines.ensures.adds.1));
     }
 
-pub returns-in_default-clause-on : goal.returns-in_default-clause-on
-returns-in_default-clause-on g c = record { turn = refl; fits = λ l fits. fits; fitted = λ l fits. fits; no_more = λ l q told says. says; reads = refl }
-
 pub returns-in_default-clause-asks : goal.returns-in_default-clause-asks
 returns-in_default-clause-asks g c = record { takes = ([], takes_none (g.S.Source.left c.args.source.now)); first = inl refl }
-
-pub returns-in_default-clause-unread : goal.returns-in_default-clause-unread
-returns-in_default-clause-unread g c = λ none. refl
 
 pub returns-in_default-clause-called : goal.returns-in_default-clause-called
 returns-in_default-clause-called g c = called_not _ _ _ (λ is. cc)
 
 pub returns-in_default-clause-back : goal.returns-in_default-clause-back
 returns-in_default-clause-back g c = λ is. cc
-
-pub returns-in-Ok-write-clause-on : goal.returns-in-Ok-write-clause-on
-returns-in-Ok-write-clause-on g c = record { turn = refl; fits = λ l fits. fits; fitted = λ l fits. fits; no_more = λ l q told says. says; reads = refl }
 
 pub returns-in-Ok-write-clause-called : goal.returns-in-Ok-write-clause-called
 returns-in-Ok-write-clause-called g c = c.hear_lines.ensures.called
@@ -68,14 +59,8 @@ returns-in-Ok-write-clause-later_sink g c = omega (arith, c.write.ensures.later,
 pub returns-in-Ok-write-clause-write : goal.returns-in-Ok-write-clause-write
 returns-in-Ok-write-clause-write g c = λ is. omega (arith, c.write.ensures.later, c.hear_lines.ensures.write is)
 
-pub returns-in-Err-Failed-clause-on : goal.returns-in-Err-Failed-clause-on
-returns-in-Err-Failed-clause-on g c = record { turn = refl; fits = λ l fits. fits; fitted = λ l fits. fits; no_more = λ l q told says. says; reads = refl }
-
 pub returns-in-Err-Failed-clause-asks : goal.returns-in-Err-Failed-clause-asks
 returns-in-Err-Failed-clause-asks g c = record { takes = ([], takes_none (g.S.Source.left c.args.source.now)); first = inl refl }
-
-pub returns-in-Err-Failed-clause-unread : goal.returns-in-Err-Failed-clause-unread
-returns-in-Err-Failed-clause-unread g c = λ none. refl
 
 pub returns-in-Err-Failed-clause-called : goal.returns-in-Err-Failed-clause-called
 returns-in-Err-Failed-clause-called g c = called_not _ _ _ (λ is. cc)
@@ -83,20 +68,14 @@ returns-in-Err-Failed-clause-called g c = called_not _ _ _ (λ is. cc)
 pub returns-in-Err-Failed-clause-back : goal.returns-in-Err-Failed-clause-back
 returns-in-Err-Failed-clause-back g c = λ is. cc
 
-pub returns-clause-on : goal.returns-clause-on
-returns-clause-on g c = record { turn = refl; fits = λ l fits. fits; fitted = λ l fits. fits; no_more = λ l q told says. says; reads = refl }
+pub returns-in-Err-Memory-clause-asks : goal.returns-in-Err-Memory-clause-asks
+returns-in-Err-Memory-clause-asks g c = record { takes = ([], takes_none (g.S.Source.left c.args.source.now)); first = inl refl }
 
-pub returns-clause-asks : goal.returns-clause-asks
-returns-clause-asks g c = record { takes = ([], takes_none (g.S.Source.left c.args.source.now)); first = inl refl }
+pub returns-in-Err-Memory-clause-called : goal.returns-in-Err-Memory-clause-called
+returns-in-Err-Memory-clause-called g c = called_not _ _ _ (λ is. cc)
 
-pub returns-clause-unread : goal.returns-clause-unread
-returns-clause-unread g c = λ none. refl
-
-pub returns-clause-called : goal.returns-clause-called
-returns-clause-called g c = called_not _ _ _ (λ is. cc)
-
-pub returns-clause-back : goal.returns-clause-back
-returns-clause-back g c = λ is. cc
+pub returns-in-Err-Memory-clause-back : goal.returns-in-Err-Memory-clause-back
+returns-in-Err-Memory-clause-back g c = λ is. cc
 
 pub returns-in_default-clause-tells : goal.returns-in_default-clause-tells
 returns-in_default-clause-tells g c = λ bytes left. front_none (g.K.Sink.written c.args.sink.now) (g.K.Sink.written c.args.sink.now) (line_turn c.args.lang.now c.args.k c.args.q.now bytes).text refl
@@ -104,11 +83,11 @@ returns-in_default-clause-tells g c = λ bytes left. front_none (g.K.Sink.writte
 pub returns-in_default-clause-write : goal.returns-in_default-clause-write
 returns-in_default-clause-write g c = λ is. cc
 
-pub returns-clause-write : goal.returns-clause-write
-returns-clause-write g c = λ is. cc
+pub returns-in-Err-Memory-clause-write : goal.returns-in-Err-Memory-clause-write
+returns-in-Err-Memory-clause-write g c = λ is. cc
 
-pub returns-clause-tells : goal.returns-clause-tells
-returns-clause-tells g c = λ bytes left. front_none (g.K.Sink.written c.args.sink.now) (g.K.Sink.written c.write.new.self) (line_turn c.args.lang.now c.args.k c.args.q.now bytes).text (c.in-Err-Memory.ensures.memory (ap (λ (p : Put). let r : Result (Unit {0}) Put = Err p in r) c.in-Err-Memory.field-0-is))
+pub returns-in-Err-Memory-clause-tells : goal.returns-in-Err-Memory-clause-tells
+returns-in-Err-Memory-clause-tells g c = λ bytes left. front_none (g.K.Sink.written c.args.sink.now) (g.K.Sink.written c.write.new.self) (line_turn c.args.lang.now c.args.k c.args.q.now bytes).text (c.in-Err-Memory.ensures.memory (ap (λ (p : Put). let r : Result (Unit {0}) Put = Err p in r) c.in-Err-Memory.field-0-is))
 
 pub returns-in-Err-Failed-clause-write : goal.returns-in-Err-Failed-clause-write
 returns-in-Err-Failed-clause-write g c = λ is. c.in-Err-Failed.ensures.cause (ap (λ (p : Put). let r : Result (Unit {0}) Put = Err p in r) c.in-Err-Failed.field-0-is)
@@ -116,5 +95,5 @@ returns-in-Err-Failed-clause-write g c = λ is. c.in-Err-Failed.ensures.cause (a
 pub returns-in-Err-Failed-clause-later_sink : goal.returns-in-Err-Failed-clause-later_sink
 returns-in-Err-Failed-clause-later_sink g c = c.write.ensures.later
 
-pub returns-clause-later_sink : goal.returns-clause-later_sink
-returns-clause-later_sink g c = c.write.ensures.later
+pub returns-in-Err-Memory-clause-later_sink : goal.returns-in-Err-Memory-clause-later_sink
+returns-in-Err-Memory-clause-later_sink g c = c.write.ensures.later

@@ -2,7 +2,7 @@ use Rattle.language.proofs.Prelude.{◌≡◌, ◌≤◌, ◌<◌, [], ◌∷◌
 use Rattle.assign.proofs.Masks.{rises_where}
 use Rattle.language.proofs.InOrder.{shorter}
 use Rattle.language.proofs.Wording.{pieces, all_written, values_are_pieces, piece_written, no_pieces, nameless_pieces, small_fits}
-use Rattle.language.proofs.texts.text_of_question.Goals as goal
+use Rattle.language.proofs.texts.write_question.Goals as goal
 
 pub loop-v-init : goal.loop-v-init
 loop-v-init c =
@@ -11,7 +11,7 @@ loop-v-init c =
     let least = to_z w64 (of_z w64 c.args.least_value) in (
       subst (λ (set : List ℕ). IsSet set) (sym c.vars-left.ensures) (rises_where (λ v. is_some (value_of c.args.q.now v))),
       ap (λ (t : List ℕ). 113 ∷ (decimal c.args.k ++ t)) (values_are_pieces least names c.args.q.now few ∙ ap (pieces least names c.args.q.now) (sym c.vars-left.ensures))
-          ∙ ap (λ t. t ++ pieces least names c.args.q.now c.vars-left.result) (sym (c.in_ok-add_mark.ensures ∙ ap (λ t. t ++ 113 ∷ decimal c.args.k) c.in_ok-text.ensures.bytes)),
+          ∙ ap (λ t. t ++ pieces least names c.args.q.now c.vars-left.result) (sym (c.in_ok-add_mark.ensures ∙ ap (λ t. t ++ 113 ∷ decimal c.args.k) c.clear.ensures.bytes)),
     )
 
 pub loop-v-preserved : goal.loop-v-preserved
