@@ -1,7 +1,8 @@
 #!/bin/bash
 # Builds a program without proof as the proved one is compiled: optimized in full, and without the tests that `rt try` puts at each
-# read and write, where a proof says that they can't fail. It takes 0 to 6 in 100 instructions more than that one, to count them while
-# a change isn't proved yet. It is for measuring alone: a bug that a proof would find does anything here.
+# read and write, where a proof says that they can't fail, and with the sources' inline hints, which `rt try` leaves out
+# (tools/hints.py). It takes up to 6 in 100 instructions more than that one, or 2 less, to count them while a change isn't proved yet.
+# It is for measuring alone: a bug that a proof would find does anything here.
 #
 # usage: tools/as_proved.sh PROGRAM      the file to write, a few minutes later
 set -u
@@ -14,10 +15,12 @@ trap 'rm -rf "$room"' EXIT
 . "$home/tools/unproved.sh"
 lay_out_kit || { echo "this kit isn't laid out as expected" >&2; exit 1; }
 
+ln -s "$home/tools/hints.py" "$room/hints.py" || exit 1
 # The compiler gets the module as text, whose traps are ends that can't come.
 cat >"$room/kit/toolchain/bin/clang" <<'END'
 #!/bin/bash
-real="${0%/*}/../../../from/toolchain/bin/clang"
+room="${0%/*}/../../.."
+real=$room/from/toolchain/bin/clang
 words=()
 for word; do
     case $word in
@@ -26,6 +29,7 @@ for word; do
     module.bc)
         "$real" -S -emit-llvm -O0 -Xclang -disable-llvm-passes -x ir module.bc -o module.text.ll || exit
         sed -i '/call void @llvm\.\(ubsan\)\?trap/d; s/ sanitize_address / /g; s/ sanitize_address$//' module.text.ll
+        python3 "$room/hints.py" "$room/from/rattle" module.text.ll >/dev/null || exit
         word=module.text.ll
         ;;
     esac
