@@ -1,6 +1,7 @@
 mod Prelude
 pub mod Runs
 pub mod Places
+pub mod Rows
 pub mod Operands
 pub mod TruthOperands
 pub mod InTurn

@@ -1,10 +1,12 @@
 -- A formula's truth, place by place.
-use Rattle.rel_formula.proofs.Prelude.{◌≡◌, ℕ, zero, suc, ◌+◌, ◌*◌, ◌/◌, ◌%◌, ◌^◌, ◌<◌, ◌≤◌, ℤ, Bool, true, false, List, [], ◌∷◌, ◌++◌, length, take, set, get_or, pos, ◌+ℤ◌, Option, Some, None, if◌then◌else◌, refl, sym, subst, ◌∙◌, ap, arith, add-one, lt-ltb, le-ltb, position_or_len, take-suc, length-map, get_or-map, take_all, take_more_set, map_more, tuples, tuple_at, length-tuples, get_or-tuples, Truth, is_true, is_too_big, shown_tuple, relation_from_formula, first_too_big}
+use Rattle.rel_formula.proofs.Prelude.{◌≡◌, ℕ, zero, suc, ◌+◌, ◌*◌, ◌/◌, ◌%◌, ◌^◌, ◌<◌, ◌≤◌, ℤ, Bool, true, false, List, [], ◌∷◌, ◌++◌, length, take, set, get_or, pos, ◌+ℤ◌, Option, Some, None, if◌then◌else◌, refl, sym, subst, ◌∙◌, ap, append_assoc, append-nil, arith, add-one, lt-ltb, le-ltb, position_or_len, take-suc, length-map, get_or-map, take_all, take_more_set, map_more, tuples, tuple_at, length-tuples, get_or-tuples, Truth, is_true, is_too_big, shown_tuple, relation_from_formula, first_too_big}
 use Rattle.std.proofs.Common.{div-one, div-add-mod', pow-suc}
 use Rattle.std.proofs.Math.Nat.{pow-zero}
-use Rattle.std.proofs.lemmas.List.{map-append}
+use Rattle.std.proofs.lemmas.List.{map-append, take-map}
+use Rattle.std.specs.Prelude.{slice_index_or}
 use Rattle.std.proofs.lemmas.Nat.{div-mul-add, mod-mul-add, mod_below, mul-add-lt}
 use Rattle.std.proofs.lemmas.List.Sums.{position_or_len_is}
+use Rattle.rel_formula.specs.Batch.{numbers_at}
 use Rattle.rel_formula.specs.Places.{AreTruthsTo}
 
 pub length-relation_of : (f : Truth) (a : ℕ) (lo : ℤ) (d : ℕ) → length (relation_from_formula f a lo d) ≡ d ^ a
@@ -123,3 +125,28 @@ row_within d a b row x size low h =
 
 pub all_rows : (d a b row : ℕ) → b ≡ suc a → row ≡ d ^ a → row * d ≡ d ^ b
 all_rows d a b row size e = ap (λ k. k * d) e ∙ sym (ap (λ k. d ^ k) size ∙ pow-suc d a)
+
+-- as many places more as these truths are known of
+pub truths_many : (f : Truth) (a : ℕ) (lo : ℤ) (d at : ℕ) (truths known : List Bool) (n : ℕ) → at + n ≤ d ^ a → n ≤ length known → AreTruthsTo f a lo d at truths →
+    ((k : ℕ) → k < n → (if is_too_big (shown_tuple lo (tuple_at d a (at + k))) f then None else Some (is_true (shown_tuple lo (tuple_at d a (at + k))) f)) ≡ Some (get_or known k false)) →
+    AreTruthsTo f a lo d (at + n) (truths ++ take n known)
+truths_many f a lo d at truths known zero room size so_far are =
+    let none : at ≡ at + 0 = omega arith in
+    subst (λ k. AreTruthsTo f a lo d k (truths ++ [])) none (subst (λ xs. AreTruthsTo f a lo d at xs) (sym (append-nil truths)) so_far)
+truths_many f a lo d at truths known (suc n) room size so_far are =
+    let low : n < length known = omega arith in
+    let within : at + n < d ^ a = omega arith in
+    let next : at + suc n ≡ (at + n) + 1 = omega arith in
+    truths_more f a lo d (at + n) (at + suc n) (truths ++ take n known) (truths ++ take (suc n) known) (get_or known n false) _ within next
+    (truths_many f a lo d at truths known n (omega arith) (omega arith) so_far (λ k h. are k (omega arith)))
+    (ap (λ xs. truths ++ xs) (take-suc known n false low) ∙ sym (append_assoc truths (take n known) (get_or known n false ∷ [])))
+    refl (are n (omega arith))
+
+-- the shown values of a tuple of a batch
+pub shown_batch : (lo : ℤ) (shown : List ℤ) (tuples : List (List ℤ)) (d a b row first k n : ℕ) → b ≡ suc a → n ≡ b → a < length shown → first + k < d → row < d ^ a →
+    take a shown ≡ shown_tuple lo (tuple_at d a row) → numbers_at k tuples ≡ set shown a (lo +ℤ pos (first + k)) → numbers_at k (take n tuples) ≡ shown_tuple lo (tuple_at d b (row * d + first + k))
+shown_batch lo shown tuples d a b row first k n size all h low within e is =
+    let at : row * d + (first + k) ≡ row * d + first + k = omega arith in
+    sym (take-map (λ row. slice_index_or row k (pos 0)) n tuples) ∙ ap (λ i. take i (numbers_at k tuples)) all ∙ ap (take b) is
+    ∙ shown_row lo shown d a b row (first + k) (lo +ℤ pos (first + k)) size h low within e refl
+    ∙ ap (λ i. shown_tuple lo (tuple_at d b i)) at

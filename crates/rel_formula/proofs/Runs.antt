@@ -1,5 +1,6 @@
 -- The steps of a formula end with its truth, or with a part that leaves 64 bits.
-use Rattle.rel_formula.proofs.Prelude.{◌≡◌, ℤ, Bool, true, false, not, ◌||◌, List, [], ◌∷◌, ◌++◌, Option, Some, None, is_some, IsSome, if◌then◌else◌, refl, sym, ◌∙◌, ap, append_assoc, append-nil, Term, whole, shown, absolute, combined, Truth, compared, joined, opposite, value, is_true, parts_of, parts, fits, some_too_big, is_too_big, term_steps, truth_steps, regrouped, run, MachineEnd, Step, Combine, Compare, Join, Negate}
+use Rattle.rel_formula.proofs.Prelude.{◌≡◌, ℕ, ◌<◌, ℤ, Bool, true, false, not, ◌||◌, List, [], ◌∷◌, ◌++◌, Option, Some, None, is_some, IsSome, if◌then◌else◌, refl, sym, ◌∙◌, ap, append_assoc, append-nil, Term, whole, shown, absolute, combined, Truth, compared, joined, opposite, value, is_true, parts_of, parts, fits, some_too_big, is_too_big, term_steps, truth_steps, regrouped, run, MachineEnd, Step, Combine, Compare, Join, Negate}
+use Rattle.std.specs.Prelude.{slice_index_or, IfSome}
 use Rattle.std.proofs.lemmas.List.Folds.{list_any-append}
 use Rattle.rel_formula.specs.declared.step.Step.TheVariants.{Absolute}
 
@@ -73,3 +74,13 @@ end_is tuple steps p e = ap (λ xs. run tuple xs [] []) e ∙ run-formula tuple 
 
 pub ends : (end : MachineEnd) (x : Option Bool) → end ≡ Some x → IsSome end
 ends end x e = ap is_some e
+
+same_end : (end : MachineEnd) (x : Option Bool) (b : Bool) → end ≡ Some x → end ≡ Some (Some b) → x ≡ Some b
+same_end end x b e is = let h = sym e ∙ is in cc
+
+-- how steps end at each tuple that are those of a formula, where they are known to end with truths
+pub ends_are : (result : Option (List Bool)) (tuple : ℕ → List ℤ) (steps : List Step) (p : Truth) → steps ≡ truth_steps p →
+    IfSome result (λ ends. (k : ℕ) → k < 16 → run (tuple k) steps [] [] ≡ Some (Some (slice_index_or ends k false))) →
+    IfSome result (λ truths. (k : ℕ) → k < 16 → (if is_too_big (tuple k) p then None else Some (is_true (tuple k) p)) ≡ Some (slice_index_or truths k false))
+ends_are None tuple steps p e h = h
+ends_are (Some ends) tuple steps p e h = λ k low. same_end (run (tuple k) steps [] []) _ (slice_index_or ends k false) (end_is (tuple k) steps p e) (h k low)

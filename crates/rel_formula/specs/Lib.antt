@@ -5,6 +5,7 @@ pub mod StepLemmas
 pub mod Codes
 pub mod Inside
 pub mod Machine
+pub mod Batch
 pub mod Answers
 pub mod Names
 pub mod Reading

@@ -1,9 +1,11 @@
-ghost use Rattle.std.specs.Prelude.{◌≡◌, ◌≢◌, ◌≤◌, Ok, Err, Some, None, if◌then◌else◌, length, IfOk, IfErr};
+ghost use Rattle.std.specs.Prelude.{◌≡◌, ◌≢◌, ◌<◌, ◌≤◌, ℕ, false, Ok, Err, Some, None, if◌then◌else◌, length, slice_index_or, IfSome, IfOk, IfErr};
+ghost use Rattle.rel_formula.specs.Batch.{numbers_at};
 ghost use Rattle.serde_json.specs.View.{view};
 ghost use Rattle.rel_formula.specs.Formula.{is_true, is_too_big};
 ghost use Rattle.rel_formula.specs.Reading.{formula_in};
 ghost use Rattle.rel_formula.specs.Steps.{truth_steps, formula_of};
 
+use crate::batch::{Batch, Numbers, Truths};
 use crate::fault::FormulaFault;
 use crate::machine::Stacks;
 use crate::reading::Reading;
@@ -50,6 +52,13 @@ impl Formula {
         ensures { result ≡ if is_too_big tuple.now self.now then None else Some (is_true tuple.now self.now) }
     {
         stacks.end_of(&self.steps, tuple)
+    }
+
+    /// Its truth at each tuple of a batch, or none where they have to be evaluated one by one.
+    pub(crate) fn truths_at(&self, tuples: &[Numbers], batch: &mut Batch) -> Option<Truths>
+        ensures { IfSome result (λ truths. (k : ℕ) → k < 16 → (if is_too_big (numbers_at k tuples.now) self.now then None else Some (is_true (numbers_at k tuples.now) self.now)) ≡ Some (slice_index_or truths k false)) }
+    {
+        batch.ends_of(&self.steps, tuples)
     }
 }
 

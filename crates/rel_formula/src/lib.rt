@@ -4,6 +4,7 @@
 //! which tuples make the formula true, or the first place at which some part of it leaves 64 bits.
 #![tactic(auto)]
 
+mod batch;
 mod fault;
 mod formula;
 mod machine;

@@ -1,10 +1,12 @@
 // A formula's table.
-ghost use Rattle.std.specs.Prelude.{◌≡◌, ◌≢◌, ◌+◌, ◌-◌, ◌*◌, ◌^◌, ◌<◌, ◌≤◌, ◌≤ℤ◌, ◌+ℤ◌, Some, None, pos, negsuc, take, IfOk, IfErr, OnOk};
+ghost use Rattle.std.specs.Prelude.{◌≡◌, ◌≢◌, ◌+◌, ◌-◌, ◌*◌, ◌^◌, ◌<◌, ◌≤◌, ◌≤ℤ◌, ◌+ℤ◌, ℕ, Some, None, pos, negsuc, take, slice_index_or, slice_set, IfOk, IfErr, OnOk};
+ghost use Rattle.rel_formula.specs.Batch.{numbers_at};
 ghost use Rattle.std.specs.Option.{option_map};
 ghost use Rattle.rel_table.specs.Relation.{tuple_at};
 ghost use Rattle.rel_formula.specs.Formula.{shown_tuple, relation_from_formula, first_too_big};
 ghost use Rattle.rel_formula.specs.Places.{AreTruthsTo};
 
+use crate::batch::{BATCH, Batch, Numbers};
 use crate::fault::TableOfFault;
 use crate::formula::Formula;
 use crate::machine::Stacks;
@@ -44,6 +46,78 @@ fn shown_at(arity: u8, lo: i64, d: u8, place: u32) -> [i64; 4]
     shown
 }
 
+/// Adds the formula's truths in the rest of one row, tuple by tuple: at the places whose tuples begin with the tuple of this number, and end with a value from `first` on.
+fn add_rest(
+    f: &Formula,
+    arity: u8,
+    lo: i64,
+    d: u8,
+    row: u32,
+    first: u8,
+    stacks: &mut Stacks,
+    truths: &mut Vec<bool>,
+) -> Result<(), TableOfFault>
+    requires some { 1 ≤ arity }
+    requires short { arity ≤ 4 }
+    requires fits { d ^ arity ≤ 65536 }
+    requires within { row < d ^ (arity - 1) }
+    requires first { first ≤ d }
+    requires low { negsuc 999999 ≤ℤ lo }
+    requires high { lo ≤ℤ pos 1000000 }
+    requires so_far { AreTruthsTo f.now arity lo d (row * d + first) truths.old.items }
+    ensures so_far { OnOk result (AreTruthsTo f.now arity lo d (row * d + d) truths.new.items) }
+    ensures refused { IfErr result (λ e. e ≢ TableOfFault.Memory → option_map TableOfFault.TooBig (first_too_big f.now arity lo d) ≡ Some e) }
+{
+    let last = usize::from(arity - 1);
+    let mut shown = shown_at(arity - 1, lo, d, row);
+    for x in first..d {
+        shown[last] = shown_value(lo, x);
+        match f.truth_at(&shown[..last + 1], stacks) {
+            Some(is_true) => truths.push(is_true)?,
+            None => return Err(TableOfFault::TooBig(row * u32::from(d) + u32::from(x))),
+        }
+    }
+    Ok(())
+}
+
+/// One value for each tuple.
+fn repeated(value: i64) -> Numbers
+    ensures { (k : ℕ) → k < 16 → slice_index_or result k (pos 0) ≡ value }
+{
+    [value; BATCH]
+}
+
+/// The shown values from that of an index on, one for each tuple.
+fn counted(lo: i64, first: u8) -> Numbers
+    requires low { negsuc 999999 ≤ℤ lo }
+    requires high { lo ≤ℤ pos 1000000 }
+    ensures { (k : ℕ) → k < 16 → slice_index_or result k (pos 0) ≡ lo +ℤ pos (first + k) }
+{
+    let mut values = [0; BATCH];
+    for k in 0..BATCH {
+        let x = usize::from(first) + k;
+        values[k] = lo + x as i64;
+    }
+    values
+}
+
+/// The tuples that have these values, but at the position `last` the shown values from `first` on: a row of numbers for each position.
+fn batch_from(shown: &[i64; 4], last: usize, lo: i64, first: u8) -> [Numbers; 4]
+    requires within { last < 4 }
+    requires low { negsuc 999999 ≤ℤ lo }
+    requires high { lo ≤ℤ pos 1000000 }
+    ensures { (k : ℕ) → k < 16 → numbers_at k result ≡ slice_set shown.now last (lo +ℤ pos (first + k)) }
+{
+    let mut tuples = [
+        repeated(shown[0]),
+        repeated(shown[1]),
+        repeated(shown[2]),
+        repeated(shown[3]),
+    ];
+    tuples[last] = counted(lo, first);
+    tuples
+}
+
 /// Adds the formula's truths in one row: at the places whose tuples begin with the tuple of this number, and differ in their last value alone.
 fn add_row(
     f: &Formula,
@@ -52,6 +126,7 @@ fn add_row(
     d: u8,
     row: u32,
     stacks: &mut Stacks,
+    batch: &mut Batch,
     truths: &mut Vec<bool>,
 ) -> Result<(), TableOfFault>
     requires some { 1 ≤ arity }
@@ -65,12 +140,17 @@ fn add_row(
     ensures refused { IfErr result (λ e. e ≢ TableOfFault.Memory → option_map TableOfFault.TooBig (first_too_big f.now arity lo d) ≡ Some e) }
 {
     let last = usize::from(arity - 1);
-    let mut shown = shown_at(arity - 1, lo, d, row);
-    for x in 0..d {
-        shown[last] = shown_value(lo, x);
-        match f.truth_at(&shown[..last + 1], stacks) {
-            Some(is_true) => truths.push(is_true)?,
-            None => return Err(TableOfFault::TooBig(row * u32::from(d) + u32::from(x))),
+    let shown = shown_at(arity - 1, lo, d, row);
+    let mut first = 0;
+    while first < d {
+        let tuples = batch_from(&shown, last, lo, first);
+        match f.truths_at(&tuples[..last + 1], batch) {
+            Some(known) => {
+                let count = (d - first).min(BATCH as u8);
+                truths.extend_from_slice(&known[..usize::from(count)])?;
+                first += count;
+            }
+            None => return add_rest(f, arity, lo, d, row, first, stacks, truths),
         }
     }
     Ok(())
@@ -97,8 +177,9 @@ fn truths_of(
     let rows = tuple_count(arity - 1, d);
     let mut truths = Vec::with_capacity(alloc, rows as usize * usize::from(d))?;
     let mut stacks = Stacks::empty();
+    let mut batch = Batch::empty();
     for row in 0..rows {
-        add_row(f, arity, lo, d, row, &mut stacks, &mut truths)?;
+        add_row(f, arity, lo, d, row, &mut stacks, &mut batch, &mut truths)?;
     }
     Ok(truths)
 }
