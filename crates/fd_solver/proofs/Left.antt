@@ -1,5 +1,5 @@
 -- What an assignment leaves to the variables.
-use Rattle.fd_solver.proofs.Prelude.{◌≡◌, ℕ, zero, suc, ◌<◌, ◌≤◌, true, List, [], ◌∷◌, length, map, replicate, Option, Some, None, refl, sym, ◌∙◌, ap, subst, arith, inl, inr, ◌⊎◌, ◌==◌, slice_index_or, nat_le, filter, get_or-eq_default, length-map-range_with_len, get_or-map-range_with_len, and_parts, and_from, both_ways, cases_lt, eq-eqb, eqb-true, leb-true, numbers, has, Assignment, value_of, value_beside, assigned, is_in, Language, IsLanguage, variable_count, range_of, values_of, is_ranged, are_ranged, value_of_assigned, HasMore, ranged_at, any_number, domain_of, left_by, is_not_empty, IsSubfamily, has-filter}
+use Rattle.fd_solver.proofs.Prelude.{◌≡◌, ℕ, zero, suc, ◌<◌, ◌≤◌, true, List, [], length, map, replicate, Option, Some, None, refl, sym, ◌∙◌, ap, subst, arith, inl, inr, ◌⊎◌, ◌==◌, slice_index_or, nat_le, filter, get_or-eq_default, length-map-range_with_len, get_or-map-range_with_len, and_parts, and_from, both_ways, cases_lt, eq-eqb, eqb-true, leb-true, numbers, has, Assignment, value_of, value_beside, assigned, is_in, Language, IsLanguage, variable_count, range_of, values_of, is_ranged, are_ranged, value_of_assigned, HasMore, ranged_at, any_number, domain_of, left_by, IsSubfamily, has-filter}
 
 pub length-left : (l : Language) (e : Assignment) → length (left_by l e) ≡ variable_count l
 length-left l e = length-map-range_with_len (λ v. domain_of l v (value_of e v)) 0 (variable_count l)

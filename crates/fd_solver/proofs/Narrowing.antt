@@ -1,5 +1,5 @@
 -- The domains below a prefix, from those of the prefix.
-use Rattle.fd_solver.proofs.Prelude.{◌≡◌, ℕ, zero, suc, ◌+◌, ◌<◌, ◌≤◌, Bool, true, false, cond, ◌&&◌, ◌||◌, List, [], ◌∷◌, ◌++◌, length, map, take, replicate, Option, Some, None, refl, sym, ◌∙◌, ap, subst, arith, inl, inr, ◌⊎◌, length-append, ◌==◌, ◌≢◌, slice_index_or, slice_set, list_all, filter, length-set, get_or-set_same, get_or-set_other, set-get_or, take_all, AllPass-from_list_all, and_from, or_left, or_right, both_ways, cases_eq, cases_lt, eq-eqb, ne_eqb, numbers, has, with_member, value_beside, assigned, Candidate, Language, IsLanguage, variable_count, values_of, AreConstraints, Family, Arc, arcs_of, is_not_empty, domain_of, left_by, is_consistent, is_arc_consistent, has_family, IsSubfamily, IsLargest, largest, AreSettled, IsFamilyOf, largest_is, largest_again, filter_has, largest_tells, largest_long, all_full, full_from, stays_consistent, tells_with, empty_stays, IsOrder, is_alive_in, IsReady, AreReady, fixed, beside_next, beside_push, next_known, has-filter, some_of_member}
+use Rattle.fd_solver.proofs.Prelude.{◌≡◌, ℕ, ◌<◌, ◌≤◌, Bool, true, false, cond, ◌&&◌, ◌||◌, List, [], ◌∷◌, ◌++◌, length, map, replicate, Option, Some, None, refl, sym, ◌∙◌, ap, subst, arith, inl, inr, ◌⊎◌, ◌==◌, ◌≢◌, slice_index_or, slice_set, list_all, filter, length-set, get_or-set_same, get_or-set_other, set-get_or, AllPass-from_list_all, and_from, or_left, or_right, both_ways, cases_eq, cases_lt, eq-eqb, ne_eqb, numbers, has, with_member, value_beside, assigned, Candidate, Language, IsLanguage, variable_count, values_of, AreConstraints, Family, Arc, arcs_of, is_not_empty, domain_of, left_by, is_consistent, is_arc_consistent, has_family, IsSubfamily, IsLargest, largest, AreSettled, IsFamilyOf, largest_is, largest_again, filter_has, largest_tells, largest_long, all_full, full_from, stays_consistent, tells_with, empty_stays, IsOrder, is_alive_in, IsReady, fixed, beside_next, beside_push, next_known, has-filter, some_of_member}
 use Rattle.propagators.specs.Pairs.{IsOnly}
 use Rattle.propagators.specs.Propagated.{AreSome, IsPropagated, RunsEmpty}
 use Rattle.propagators.proofs.Cutting.{not_with}
@@ -184,43 +184,9 @@ module _ (l : Language) (list : List Candidate) (against : Option Candidate) (or
   pub entered_ready : (at : ℕ) (h g : Family) → at ≡ length p → h ≡ f → IsPropagated l (arcs_of l list against) (fixed h (slice_index_or order at 0) x) g → IsReady l list against (assigned (variable_count l) order (p ++ x ∷ [])) g
   entered_ready at h g place same to = below_ready g to.family (subst (λ (k : Family). IsLargest (arcs_of l list against) k g) (λ i. fixed (same i) (slice_index_or order (place i) 0) x) to.largest) to.full
 
--- ---- a family for each depth
+-- ---- what is ready
 
 module _ (l : Language) (list : List Candidate) (against : Option Candidate) (order : List ℕ) where
-  -- the deepest one
-  pub deepest : (p : List ℕ) (depths : List Family) → AreReady l list against order p depths → IsReady l list against (assigned (variable_count l) order p) (slice_index_or depths (length p) [])
-  deepest p depths ready = subst (λ (q : List ℕ). IsReady l list against (assigned (variable_count l) order q) (slice_index_or depths (length p) [])) (take_all (length p) p (omega arith)) (ready (length p) (omega arith))
-
-  take_front : (k : ℕ) (p q : List ℕ) → k ≤ length p → take k (p ++ q) ≡ take k p
-  take_front zero p q low = refl
-  take_front (suc k) [] q low = absurd (omega arith)
-  take_front (suc k) (x ∷ p) q low = ap (λ xs. x ∷ xs) (take_front k p q (omega arith))
-
-  -- a family written beneath leaves those above
-  pub ready_kept : (p : List ℕ) (depths more : List Family) → ((k : ℕ) → k ≤ length p → slice_index_or more k [] ≡ slice_index_or depths k []) → AreReady l list against order p depths → AreReady l list against order p more
-  ready_kept p depths more same ready = λ k low. subst (IsReady l list against (assigned (variable_count l) order (take k p))) (sym (same k low)) (ready k low)
-
-  pub ready_deeper : (p : List ℕ) (x : ℕ) (depths : List Family) → AreReady l list against order p depths → IsReady l list against (assigned (variable_count l) order (p ++ x ∷ [])) (slice_index_or depths (length p + 1) []) →
-      AreReady l list against order (p ++ x ∷ []) depths
-  ready_deeper p x depths ready new = λ k low. go k low (cases_lt k (length p + 1))
-    where
-      long : length (p ++ x ∷ []) ≡ length p + 1
-      long = length-append p (x ∷ [])
-
-      go : (k : ℕ) → k ≤ length (p ++ x ∷ []) → (k < length p + 1) ⊎ (length p + 1 ≤ k) → IsReady l list against (assigned (variable_count l) order (take k (p ++ x ∷ []))) (slice_index_or depths k [])
-      go k low (inl above) = subst (λ (q : List ℕ). IsReady l list against (assigned (variable_count l) order q) (slice_index_or depths k [])) (sym (take_front k p (x ∷ []) (omega arith))) (ready k (omega arith))
-      go k low (inr here) =
-          let at : length p + 1 ≡ k = (let size = long in omega arith) in
-          subst (λ (q : List ℕ). IsReady l list against (assigned (variable_count l) order q) (slice_index_or depths k [])) (sym (take_all k (p ++ x ∷ []) (let size = long in omega arith)))
-          (subst (λ (j : ℕ). IsReady l list against (assigned (variable_count l) order (p ++ x ∷ [])) (slice_index_or depths j [])) at new)
-
-  pub ready_up : (q : List ℕ) (y : ℕ) (depths : List Family) → AreReady l list against order (q ++ y ∷ []) depths → AreReady l list against order q depths
-  ready_up q y depths ready = λ k low. subst (λ (r : List ℕ). IsReady l list against (assigned (variable_count l) order r) (slice_index_or depths k [])) (take_front k q (y ∷ []) low)
-      (ready k (let size = length-append q (y ∷ []) in omega arith))
-
-  pub ready_first : (depths : List Family) → IsReady l list against (assigned (variable_count l) order []) (slice_index_or depths 0 []) → AreReady l list against order [] depths
-  ready_first depths new = λ k low. subst (λ (j : ℕ). IsReady l list against (assigned (variable_count l) order (take j [])) (slice_index_or depths j [])) (let e : 0 ≡ k = omega arith in e) new
-
   -- what is ready is alive
   pub ready_alive : (p : List ℕ) (f : Family) → IsReady l list against (assigned (variable_count l) order p) f → is_alive_in l list against order p ≡ true
   ready_alive p f ready =
@@ -228,17 +194,6 @@ module _ (l : Language) (list : List Candidate) (against : Option Candidate) (or
       ∙ tells_with (arcs_of l list against) (left_by l (assigned (variable_count l) order p)) f
       (ready.family.size ∙ sym (length-left l (assigned (variable_count l) order p))) ready.largest
       ∙ ready.full
-
-  -- a family written at the next depth
-  pub ready_written : (p : List ℕ) (at : ℕ) (depths : List Family) (a g : Family) → at ≡ length p → AreReady l list against order p depths → AreReady l list against order p (slice_set (slice_set depths (at + 1) a) (at + 1) g)
-  ready_written p at depths a g place ready = ready_kept p depths (slice_set (slice_set depths (at + 1) a) (at + 1) g)
-      (λ k low. get_or-set_other (slice_set depths (at + 1) a) (at + 1) k g [] (λ e. omega arith) ∙ get_or-set_other depths (at + 1) k a [] (λ e. omega arith)) ready
-
-  pub deeper_written : (p : List ℕ) (x at : ℕ) (depths : List Family) (a g : Family) → at ≡ length p → at + 1 < length depths → AreReady l list against order p depths → IsReady l list against (assigned (variable_count l) order (p ++ x ∷ [])) g →
-      AreReady l list against order (p ++ x ∷ []) (slice_set (slice_set depths (at + 1) a) (at + 1) g)
-  deeper_written p x at depths a g place low ready new = ready_deeper p x (slice_set (slice_set depths (at + 1) a) (at + 1) g) (ready_written p at depths a g place ready)
-      (subst (IsReady l list against (assigned (variable_count l) order (p ++ x ∷ [])))
-      (sym (ap (λ k. slice_index_or (slice_set (slice_set depths (at + 1) a) (at + 1) g) k []) (let e : length p + 1 ≡ at + 1 = omega arith in e) ∙ get_or-set_same (slice_set depths (at + 1) a) (at + 1) g [] (let size = length-set depths (at + 1) a in omega arith))) new)
 
 -- ---- no value
 

@@ -1,8 +1,8 @@
-ghost use Rattle.std.specs.Prelude.{◌≡◌, ◌≤◌, []};
+ghost use Rattle.std.specs.Prelude.{◌≡◌, ◌≤◌, [], true};
 ghost use Rattle.language.specs.Language.{variable_count};
 ghost use Rattle.propagators.specs.Allowed.{AreConstraints};
 ghost use Rattle.propagators.specs.Indexes.{IsIndexOf};
-ghost use Rattle.fd_solver.specs.Outcomes.{IsOrder, search_outcome};
+ghost use Rattle.fd_solver.specs.Outcomes.{IsOrder, is_alive_in, search_outcome};
 ghost use Rattle.fd_solver.specs.Ready.{IsArranged};
 
 use crate::outcome::Outcome;
@@ -57,7 +57,8 @@ fn walk(work: &mut Work, cons: &Constraints, order: &[u8], n: u8, budget: u32) -
     requires constraints { AreConstraints cons.now.lang.now cons.now.list.now cons.now.against }
     requires order { IsOrder (variable_count cons.now.lang.now) order.now }
     requires budget { 1 ≤ budget }
-    requires ready { IsArranged cons.now.lang.now cons.now.list.now cons.now.against order.now [] work.old }
+    requires alive { is_alive_in cons.now.lang.now cons.now.list.now cons.now.against order.now [] ≡ true }
+    requires ready { IsArranged cons.now.lang.now cons.now.list.now cons.now.against order.now [] 0 work.old }
     ensures { result ≡ search_outcome cons.now.lang.now cons.now.list.now cons.now.against order.now budget }
 {
     let d = cons.lang.d();

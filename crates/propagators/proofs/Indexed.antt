@@ -133,7 +133,7 @@ taken_front l arcs from p some room is = record {
   limits = λ k j a b low below.
       subst (λ (c : Arc). bound_at (slice_index_or p.briefs.items k b) j ≤ slice_index_or p.limits.items (slice_index_or c.scope j 0) 0) (at k a low)
       (is.limits k j a b (omega arith) (within k low) (subst (λ (c : Arc). j < length c.scope) (sym (at k a low)) below));
-  noted = λ k v a b low h. noted k b (is.noted k v a b (within k low) (let words = p.room in omega arith) (ap (λ (c : Arc). has c.scope v) (at k a low) ∙ h));
+  noted = λ k v a b low h. noted k b (is.noted k v a b (within k low) (let words = p.covered in omega arith) (ap (λ (c : Arc). has c.scope v) (at k a low) ∙ h));
   parted = λ k b low. is.parted k b (omega arith) (within k low);
   apart = subst (AreApartSoFar p.briefs.items p.aparts.items) (let long = length-take-le from arcs some in omega arith) is.apart;
 }
@@ -198,7 +198,7 @@ pub plan_copied : (l : Language) (arcs : List Arc) (p q : Plan) (count : ℕ) �
 plan_copied l arcs p q count few room there narrow words briefs sets limits aparts is = record {
   briefs = λ k a b low below. subst (IsBriefOf l (slice_index_or arcs k a)) (sym (briefs k b (omega arith))) (is.briefs k a b (omega arith) below);
   noted = λ k v a b low below h.
-      noted k v b (omega arith) (sets (k / 64 * 128 + v) (let small = narrow k v a low h in let fits = p.room in omega arith)) (briefs k b (omega arith)) (is.noted k v a b low (omega arith) h);
+      noted k v b (omega arith) (sets (k / 64 * 128 + v) (let small = narrow k v a low h in let fits = p.covered in omega arith)) (briefs k b (omega arith)) (is.noted k v a b low (omega arith) h);
   limits = λ k j a b low below inside.
       let small : slice_index_or (slice_index_or arcs k a).scope j 0 < 128 = narrow k (slice_index_or (slice_index_or arcs k a).scope j 0) a below (member_at (slice_index_or arcs k a).scope j inside) in
       let old = is.limits k j a b (omega arith) below inside in

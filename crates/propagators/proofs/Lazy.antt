@@ -1,5 +1,5 @@
 -- Bounded conditions stay consistent while a variable keeps more values than its limit.
-use Rattle.propagators.proofs.Prelude.{◌≡◌, ℕ, zero, suc, ◌+◌, ◌<◌, ◌≤◌, Bool, true, false, ◌||◌, List, [], ◌∷◌, length, refl, sym, ◌∙◌, ap, subst, arith, inl, inr, ◌⊎◌, ◌==◌, ◌≢◌, slice_index_or, slice_set, All, list_any, list_all, get_or-set_same, get_or-set_other, both_ways, cases_eq, eq-eqb, eqb-true, or_left, or_cases, has, Family, Arc, sets_on, is_consistent, is_not_empty, family_size, AreBelow, IsFamilyOf, AreDifferent, AreSettled, IsWithin, IsThrough, IsRevised, HasMore, IsBounded, IsNarrowed, IsLooked, AreLimits, AgreeInside, by_pair, IsPairOf, IsApartOf, IsBriefOf, AreBriefs, at_place, bound_at, Language, PairBounds, Pair, Brief}
+use Rattle.propagators.proofs.Prelude.{◌≡◌, ℕ, zero, suc, ◌+◌, ◌<◌, ◌≤◌, Bool, true, false, ◌||◌, List, [], ◌∷◌, length, refl, sym, ◌∙◌, ap, subst, arith, inl, inr, ◌⊎◌, ◌==◌, ◌≢◌, slice_index_or, slice_set, All, list_any, list_all, get_or-set_same, get_or-set_other, both_ways, cases_eq, eq-eqb, eqb-true, or_left, or_cases, has, Family, Arc, sets_on, is_consistent, is_not_empty, family_size, AreBelow, IsFamilyOf, AreDifferent, AreSettled, IsWithin, IsThrough, IsRevised, HasMore, IsBounded, IsNarrowed, IsLooked, AreLimits, AgreeInside, by_pair, IsPairOf, IsApartOf, IsBriefOf, AreBriefs, at_place, bound_at, Language, PairBounds, Pair, Brief, blank}
 use Rattle.propagators.specs.declared.briefs.Brief.TheVariants.{Two, Apart, Other}
 use Rattle.propagators.proofs.Pruned.{consistent, supporting}
 use Rattle.propagators.proofs.Replacing.{supported_through, through_supported, member_place}
@@ -134,7 +134,7 @@ beside_lazy l arcs i waiting f g v pass limits few small different low full to n
 -- the conditions of a variable whose limit is below 64 are bounded ones on two variables
 pub capped : (l : Language) (arcs : List Arc) (briefs : List Brief) (limits : List ℕ) → AreBriefs l arcs briefs → AreLimits arcs briefs limits →
     (k v : ℕ) (a : Arc) → k < length arcs → k < length briefs → has (slice_index_or arcs k a).scope v ≡ true → slice_index_or limits v 0 < 64 → IsCapped l (slice_index_or arcs k a) limits
-capped l arcs briefs limits told limited k v a low room there few = go (slice_index_or briefs k Other) refl
+capped l arcs briefs limits told limited k v a low room there few = go (slice_index_or briefs k blank) refl
   where
     pair : (p : Pair) → IsPairOf l (slice_index_or arcs k a) p → ((j : ℕ) → j < length (slice_index_or arcs k a).scope → at_place p.bounds j ≤ slice_index_or limits (slice_index_or (slice_index_or arcs k a).scope j 0) 0) → IsCapped l (slice_index_or arcs k a) limits
     pair p is within = record {
@@ -148,17 +148,17 @@ capped l arcs briefs limits told limited k v a low room there few = go (slice_in
       };
     }
 
-    go : (b : Brief) → slice_index_or briefs k Other ≡ b → IsCapped l (slice_index_or arcs k a) limits
+    go : (b : Brief) → slice_index_or briefs k blank ≡ b → IsCapped l (slice_index_or arcs k a) limits
     go (Two p) e =
-        pair p (subst (IsBriefOf l (slice_index_or arcs k a)) e (told k a Other room low))
-        (λ j below. subst (λ (b : Brief). bound_at b j ≤ slice_index_or limits (slice_index_or (slice_index_or arcs k a).scope j 0) 0) e (limited k j a Other room low below))
+        pair p (subst (IsBriefOf l (slice_index_or arcs k a)) e (told k a blank room low))
+        (λ j below. subst (λ (b : Brief). bound_at b j ≤ slice_index_or limits (slice_index_or (slice_index_or arcs k a).scope j 0) 0) e (limited k j a blank room low below))
     go (Apart p) e =
-        let is : IsApartOf l (slice_index_or arcs k a) p = subst (IsBriefOf l (slice_index_or arcs k a)) e (told k a Other room low) in
+        let is : IsApartOf l (slice_index_or arcs k a) p = subst (IsBriefOf l (slice_index_or arcs k a)) e (told k a blank room low) in
         pair p is.pair
-        (λ j below. subst (λ (b : Brief). bound_at b j ≤ slice_index_or limits (slice_index_or (slice_index_or arcs k a).scope j 0) 0) e (limited k j a Other room low below))
-    go Other e =
+        (λ j below. subst (λ (b : Brief). bound_at b j ≤ slice_index_or limits (slice_index_or (slice_index_or arcs k a).scope j 0) 0) e (limited k j a blank room low below))
+    go (Other o) e =
         let at = member_place (slice_index_or arcs k a).scope v there in
-        let most : 64 ≤ slice_index_or limits (slice_index_or (slice_index_or arcs k a).scope at.0 0) 0 = subst (λ (b : Brief). bound_at b at.0 ≤ slice_index_or limits (slice_index_or (slice_index_or arcs k a).scope at.0 0) 0) e (limited k at.0 a Other room low at.1) in
+        let most : 64 ≤ slice_index_or limits (slice_index_or (slice_index_or arcs k a).scope at.0 0) 0 = subst (λ (b : Brief). bound_at b at.0 ≤ slice_index_or limits (slice_index_or (slice_index_or arcs k a).scope at.0 0) 0) e (limited k at.0 a blank room low at.1) in
         let here : 64 ≤ slice_index_or limits v 0 = subst (λ (u : ℕ). 64 ≤ slice_index_or limits u 0) at.2 most in
         absurd (omega arith)
 

@@ -1,5 +1,5 @@
 -- Looking at what says that a variable differs from others, neighbour by neighbour.
-use Rattle.propagators.proofs.Prelude.{◌≡◌, ℕ, eqb-true, ◌||◌, ◌+◌, ◌-◌, ◌*◌, ◌/◌, ◌%◌, ◌<◌, ◌≤◌, Bool, true, false, ◌&&◌, not, List, [], ◌∷◌, Option, Some, None, IfSome, IsSome, length, refl, sym, ◌∙◌, ap, subst, arith, inl, inr, ◌⊎◌, ◌==◌, ◌≢◌, slice_index_or, list_any, list_all, both_ways, cases_eq, cases_lt, ne_eqb, div-mul-add, mod-mul-add, or_left, or_right, eq-eqb, has, ones_of, bit_at, Family, Arc, is_consistent, is_not_empty, is_wanted, IsBriefOf, IsEntailed, AreEntailed, Entailed, is_noted_in, is_among_struck, IsUnderway, AreLeft, IsLooked, AreLooked, IsApart, IsApartAt, AreBothOf, IsParted, is_with, Brief, Pair, Plan, Language, ones_of-zero, has-ones_of}
+use Rattle.propagators.proofs.Prelude.{◌≡◌, ℕ, eqb-true, ◌||◌, ◌+◌, ◌-◌, ◌*◌, ◌/◌, ◌%◌, ◌<◌, ◌≤◌, Bool, true, false, ◌&&◌, not, List, [], ◌∷◌, Option, Some, None, IfSome, IsSome, length, refl, sym, ◌∙◌, ap, subst, arith, inl, inr, ◌⊎◌, ◌==◌, ◌≢◌, slice_index_or, list_any, list_all, both_ways, cases_eq, cases_lt, ne_eqb, div-mul-add, mod-mul-add, or_left, or_right, eq-eqb, has, ones_of, bit_at, Family, Arc, is_consistent, is_not_empty, is_wanted, IsBriefOf, IsEntailed, AreEntailed, Entailed, is_noted_in, is_among_struck, IsUnderway, AreLeft, IsLooked, AreLooked, IsApart, IsApartAt, AreBothOf, IsParted, is_with, Brief, Pair, Plan, Language, ones_of-zero, has-ones_of, blank}
 use Rattle.propagators.specs.Propagated.{IsWholePlanOf}
 use Rattle.propagators.specs.declared.briefs.Brief.TheVariants.{Two, Apart, Other}
 use Rattle.propagators.proofs.Entailing.{entailed_less, entailed_now}
@@ -49,14 +49,14 @@ module _ (l : Language) (arcs : List Arc) (p : Plan) (whole : IsWholePlanOf l ar
   room : k < length p.briefs.items
   room = (let long = whole.room in omega arith)
 
-  scope_of_apart : (a : Arc) (q : Pair) → slice_index_or p.briefs.items k Other ≡ Apart q → (slice_index_or arcs k a).scope ≡ q.first ∷ q.second ∷ []
-  scope_of_apart a q e = (subst (IsBriefOf l (slice_index_or arcs k a)) e (whole.plan.briefs k a Other room low)).pair.scope
+  scope_of_apart : (a : Arc) (q : Pair) → slice_index_or p.briefs.items k blank ≡ Apart q → (slice_index_or arcs k a).scope ≡ q.first ∷ q.second ∷ []
+  scope_of_apart a q e = (subst (IsBriefOf l (slice_index_or arcs k a)) e (whole.plan.briefs k a blank room low)).pair.scope
 
   pub second_there : (a : Arc) (v u : ℕ) → ((b : Brief) → IsApartAt (slice_index_or p.briefs.items k b) v u) → has (slice_index_or arcs k a).scope u ≡ true
   second_there a v u at = ap (λ (xs : List ℕ). has xs u) (scope_of_apart a found.0 found.1) ∙ go found.2
     where
-      found : (q : Pair) × (slice_index_or p.briefs.items k Other ≡ Apart q) × AreBothOf q v u
-      found = apart_at (slice_index_or p.briefs.items k Other) v u (at Other)
+      found : (q : Pair) × (slice_index_or p.briefs.items k blank ≡ Apart q) × AreBothOf q v u
+      found = apart_at (slice_index_or p.briefs.items k blank) v u (at blank)
 
       go : AreBothOf found.0 v u → has (found.0.first ∷ found.0.second ∷ []) u ≡ true
       go (inl e) = or_right _ _ (or_left _ _ (eq-eqb found.0.second u (sym e.1)))
@@ -64,18 +64,18 @@ module _ (l : Language) (arcs : List Arc) (p : Plan) (whole : IsWholePlanOf l ar
 
   -- which one it is beside v
   pub second_of : (a : Arc) (v : ℕ) → has (slice_index_or arcs k a).scope v ≡ true → ((b : Brief) → IsApart (slice_index_or p.briefs.items k b)) → (u : ℕ) × (has (slice_index_or arcs k a).scope u ≡ true) × ((b : Brief) → IsApartAt (slice_index_or p.briefs.items k b) v u)
-  second_of a v there apart = go (slice_index_or p.briefs.items k Other) refl (apart Other)
+  second_of a v there apart = go (slice_index_or p.briefs.items k blank) refl (apart blank)
     where
-      go : (b : Brief) → slice_index_or p.briefs.items k Other ≡ b → IsApart b → (u : ℕ) × (has (slice_index_or arcs k a).scope u ≡ true) × ((b : Brief) → IsApartAt (slice_index_or p.briefs.items k b) v u)
+      go : (b : Brief) → slice_index_or p.briefs.items k blank ≡ b → IsApart b → (u : ℕ) × (has (slice_index_or arcs k a).scope u ≡ true) × ((b : Brief) → IsApartAt (slice_index_or p.briefs.items k b) v u)
       go (Two q) e h = absurd h
-      go Other e h = absurd h
+      go (Other o) e h = absurd h
       go (Apart q) e h = pick (cases_eq v q.first)
         where
           scope : (slice_index_or arcs k a).scope ≡ q.first ∷ q.second ∷ []
           scope = scope_of_apart a q e
 
           with_ends : (u : ℕ) → AreBothOf q v u → (b : Brief) → IsApartAt (slice_index_or p.briefs.items k b) v u
-          with_ends u ends b = subst (λ (c : Brief). IsApartAt c v u) (sym (same_item p.briefs.items k b Other room ∙ e)) ends
+          with_ends u ends b = subst (λ (c : Brief). IsApartAt c v u) (sym (same_item p.briefs.items k b blank room ∙ e)) ends
 
           second : v ≢ q.first → (b : Bool) → (q.second == v) ≡ b → v ≡ q.second
           second other true e = sym (eqb-true q.second v e)
@@ -109,7 +109,7 @@ part_word l arcs p whole v h begun from value waiting f beside struck rest e bes
     taken_out false r e n = cc
 
     entailed : (k : ℕ) (a : Arc) (u : ℕ) → k < length arcs → ((b : Brief) → IsApartAt (slice_index_or p.briefs.items k b) v u) → IsGone h rest u → IsEntailed (slice_index_or arcs k a) f
-    entailed k a u low at gone = entailed_less (slice_index_or arcs k a) from f is.underway.within is.underway.size (are.struck k u a Other low (room l arcs p whole k low) struck_there (second_there l arcs p whole k low a v u at) apart)
+    entailed k a u low at gone = entailed_less (slice_index_or arcs k a) from f is.underway.within is.underway.size (are.struck k u a blank low (room l arcs p whole k low) struck_there (second_there l arcs p whole k low a v u at) apart)
       where
         row : u / 64 ≡ h
         row = ap (λ j. j / 64) gone.2 ∙ div-mul-add h 64 gone.0 gone.1
@@ -118,13 +118,13 @@ part_word l arcs p whole v h begun from value waiting f beside struck rest e bes
         bit = ap (λ j. j % 64) gone.2 ∙ mod-mul-add h 64 gone.0 gone.1
 
         with_v : is_with p.aparts.items v u ≡ true
-        with_v = parted_at (slice_index_or p.briefs.items k Other) (at Other) (whole.plan.parted k Other (room l arcs p whole k low) low)
+        with_v = parted_at (slice_index_or p.briefs.items k blank) (at blank) (whole.plan.parted k blank (room l arcs p whole k low) low)
           where
             parted_at : (b : Brief) → IsApartAt b v u → IsParted p.aparts.items b → is_with p.aparts.items v u ≡ true
             parted_at (Two q) h parted = absurd h
             parted_at (Apart q) (inl e) parted = ap (λ w. is_with p.aparts.items w u) e.0 ∙ ap (λ w. is_with p.aparts.items q.first w) e.1 ∙ parted.0
             parted_at (Apart q) (inr e) parted = ap (λ w. is_with p.aparts.items w u) e.0 ∙ ap (λ w. is_with p.aparts.items q.second w) e.1 ∙ parted.1
-            parted_at Other h parted = absurd h
+            parted_at (Other o) h parted = absurd h
 
         there : has (ones_of beside) gone.0 ≡ true
         there = ap (λ (m : ℕ). has (ones_of m) gone.0) (beside_is ∙ ap (λ j. slice_index_or p.aparts.items (j * 128 + v) 0) (sym row)) ∙ ap (λ j. has (ones_of (slice_index_or p.aparts.items (u / 64 * 128 + v) 0)) j) (sym bit) ∙ with_v
@@ -134,13 +134,13 @@ part_word l arcs p whole v h begun from value waiting f beside struck rest e bes
             ap (λ j. has (ones_of (slice_index_or e.struck j 0)) (u % 64)) row ∙ ap (λ j. has (ones_of (slice_index_or e.struck h 0)) j) bit ∙ ap (λ (m : ℕ). has (ones_of m) gone.0) (sym struck_is)
             ∙ has-ones_of struck gone.0 gone.1 ∙ taken_out (has (ones_of beside) gone.0) (bit_at struck gone.0 == 1) there (sym (goes gone.0) ∙ gone.3)
 
-        apart : IsApart (slice_index_or p.briefs.items k Other)
-        apart = is_apart (slice_index_or p.briefs.items k Other) (at Other)
+        apart : IsApart (slice_index_or p.briefs.items k blank)
+        apart = is_apart (slice_index_or p.briefs.items k blank) (at blank)
           where
             is_apart : (b : Brief) → IsApartAt b v u → IsApart b
             is_apart (Two q) h = absurd h
             is_apart (Apart q) h = tt
-            is_apart Other h = absurd h
+            is_apart (Other o) h = absurd h
 
     here : (k : ℕ) (a : Arc) (u : ℕ) → k < length arcs → ((b : Brief) → IsApartAt (slice_index_or p.briefs.items k b) v u) → IsPastBut h rest u → list_any (has waiting) (slice_index_or arcs k a).scope ≡ false → is_consistent f (slice_index_or arcs k a).scope (slice_index_or arcs k a).accepted ≡ true
     here k a u low at (inl past) untouched = is.here k a u low at past untouched

@@ -109,12 +109,12 @@ noted_over arcs briefs scope sets noted more i new more_is is grows there old k 
 pub parted_other : (aparts : List ℕ) (b : Brief) → ((p : Pair) → b ≡ Apart p → ⊥) → IsParted aparts b
 parted_other aparts (Two p) none = tt
 parted_other aparts (Apart p) none = absurd (none p refl)
-parted_other aparts Other none = tt
+parted_other aparts (Other o) none = tt
 
 parted_grows : (aparts more : List ℕ) (b : Brief) → ((q x : ℕ) → has (ones_of (slice_index_or aparts q 0)) x ≡ true → has (ones_of (slice_index_or more q 0)) x ≡ true) → IsParted aparts b → IsParted more b
 parted_grows aparts more (Two p) grows is = tt
 parted_grows aparts more (Apart p) grows is = (grows (p.second / 64 * 128 + p.first) (p.second % 64) is.0, grows (p.first / 64 * 128 + p.second) (p.first % 64) is.1)
-parted_grows aparts more Other grows is = tt
+parted_grows aparts more (Other o) grows is = tt
 
 pub parted_next : (briefs : List Brief) (aparts more : List ℕ) (i : ℕ) (new : Brief) → i < length briefs →
     ((q x : ℕ) → has (ones_of (slice_index_or aparts q 0)) x ≡ true → has (ones_of (slice_index_or more q 0)) x ≡ true) → IsParted more new →

@@ -1,5 +1,5 @@
 -- The names from outside that these proofs cite, passed on from one place. Declares nothing.
-pub use Rattle.std.proofs.Common.{Bool, List, None, Option, Some, [], ap, arith, cond, drop, false, inl, inr, length, length-drop, lit≤, map, nat_eq, not, refl, replicate, rules, subst, suc, sym, take, true, zero, ℕ, ◌%◌, ◌&&◌, ◌*◌, ◌++◌, ◌+◌, ◌-◌, ◌/◌, ◌<◌, ◌^◌, ◌||◌, ◌∙◌, ◌∷◌, ◌≡◌, ◌≤◌, ◌⊎◌}
+pub use Rattle.std.proofs.Common.{Bool, List, None, Option, Some, [], ap, arith, cond, drop, false, inl, inr, length, length-drop, lit≤, map, nat_eq, not, refl, replicate, rules, subst, suc, sym, take, true, vec_len, zero, ℕ, ◌%◌, ◌&&◌, ◌*◌, ◌++◌, ◌+◌, ◌-◌, ◌/◌, ◌<◌, ◌^◌, ◌||◌, ◌∙◌, ◌∷◌, ◌≡◌, ◌≤◌, ◌⊎◌}
 pub use Rattle.std.proofs.Math.ListN.{length-set}
 pub use Rattle.std.proofs.Math.Nat.{mul-le-mul_right, mul_assoc, pow-le-pow_right, pow-suc, pow-succ', pow-zero}
 pub use Rattle.std.proofs.Math.Seq.{take-set-lt}
@@ -15,7 +15,7 @@ pub use Rattle.std.specs.Int.{bit_at, bit_not, w64}
 pub use Rattle.std.specs.Int.Count.{count_leading_zeros}
 pub use Rattle.std.specs.List.{filter, flat_map, fold, list_all, list_any, range_with_len}
 pub use Rattle.std.specs.Option.{option_map_or}
-pub use Rattle.std.specs.Prelude.{All, IfSome, IsSome, bit_and, bit_or, count_ones, min, nat_le, nat_lt, slice_index, slice_index_or, slice_set, ◌==◌, ◌≢◌}
+pub use Rattle.std.specs.Prelude.{All, IfSome, IsSome, bit_and, bit_or, count_ones, min, nat_le, nat_lt, slice_index, slice_index_or, slice_set, vec_capacity, ◌==◌, ◌≢◌}
 pub use Rattle.std.specs.Vec.{with_items}
 pub use Rattle.assign.proofs.Masks.{canonical, is_one-and, lacks, length-members_of, members_of-ones, rises_filter, rises_lower}
 pub use Rattle.assign.specs.SetLemmas.{filter_agree_from, filter_front, has-members_of, has-set_where, has-set_where_above, is_one, is_one-or, is_one-pow, mask_of-ones_of, ones_of-members_of, set_where-same}
@@ -32,7 +32,7 @@ pub use Rattle.language.specs.declared.masks.PairBounds.{PairBounds}
 pub use Rattle.rel_table.specs.Relation.{Relation, holds}
 pub use Rattle.rel_table.specs.Table.{TruthTable, truth_at}
 pub use Rattle.propagators.specs.Allowed.{AreConstraints}
-pub use Rattle.propagators.specs.Briefs.{AreBothOf, AreBriefs, IsApart, IsApartAt, IsApartOf, IsBriefOf, IsPairOf, TellsApart, arc_by, at_place, bound_at, by_pair}
+pub use Rattle.propagators.specs.Briefs.{AreBothOf, AreBriefs, IsApart, IsApartAt, IsApartOf, IsBriefOf, IsOnScope, IsPairOf, TellsApart, arc_by, at_place, blank, bound_at, by_pair}
 pub use Rattle.propagators.specs.Chains.{AreEnds, IsChain, IsRunning}
 pub use Rattle.propagators.specs.Entailed.{AreEntailed, AreFixedBut, HasOne, IsAlmostFixed, IsEntailed, is_noted_in, is_among_struck}
 pub use Rattle.propagators.specs.Families.{Arc, Family, IsLargest, IsSubfamily, arc_of, arcs_of, families_within, has_support, is_arc_consistent, is_consistent, is_not_empty, is_supported, is_wanted, largest, left_by, prune, prune_from, pruned, selections, sets_on, family_size, subsets}

@@ -1,5 +1,5 @@
 -- The value of a variable is taken away from another one that has to differ from it.
-use Rattle.propagators.proofs.Prelude.{◌≡◌, ◌≢◌, ℕ, zero, suc, ◌<◌, ◌==◌, Bool, true, false, not, List, [], ◌∷◌, length, refl, sym, ◌∙◌, ap, subst, arith, inl, inr, ◌⊎◌, slice_index_or, All, Option, union, has, Candidate, Language, IsLanguage, AreConstraints, Family, Arc, arcs_of, family_size, AreDifferent, IsRevised, IsEntailed, IsValueOf, IsBeside, IsNarrowed, HasMore, IsApartOf, IsApartAt, AreBothOf, IsBriefOf, TellsApart, IsParted, is_with, HasTwo, IsFamilyOf, IsThrough, is_consistent, sets_on, both_ways, arc_by, Pair, Brief, Plan, IsLooked, RunsEmpty, cases_eq, eq-eqb, ne_eqb}
+use Rattle.propagators.proofs.Prelude.{◌≡◌, ◌≢◌, ℕ, zero, suc, ◌<◌, ◌==◌, Bool, true, false, not, List, [], ◌∷◌, length, refl, sym, ◌∙◌, ap, subst, arith, inl, inr, ◌⊎◌, slice_index_or, All, Option, union, has, Candidate, Language, IsLanguage, AreConstraints, Family, Arc, arcs_of, family_size, AreDifferent, IsRevised, IsEntailed, IsValueOf, IsBeside, IsNarrowed, HasMore, IsApartOf, IsApartAt, AreBothOf, IsBriefOf, TellsApart, IsParted, is_with, HasTwo, IsFamilyOf, IsThrough, is_consistent, sets_on, both_ways, arc_by, Pair, Brief, Plan, IsLooked, RunsEmpty, cases_eq, eq-eqb, ne_eqb, blank}
 use Rattle.propagators.specs.Propagated.{AreSome, IsWholePlanOf}
 use Rattle.propagators.specs.declared.briefs.Brief.TheVariants.{Two, Apart, Other}
 use Rattle.propagators.proofs.Standing.{stood_consistent, stood_dead}
@@ -18,7 +18,7 @@ none = record { scope = []; accepted = λ tuple. true }
 pub apart_at : (b : Brief) (v u : ℕ) → IsApartAt b v u → (q : Pair) × (b ≡ Apart q) × AreBothOf q v u
 apart_at (Two q) v u h = absurd h
 apart_at (Apart q) v u h = (q, refl, h)
-apart_at Other v u h = absurd h
+apart_at (Other o) v u h = absurd h
 
 turned : (x y : ℕ) → not (y == x) ≡ not (x == y)
 turned x y = ap not (go (cases_eq x y))
@@ -36,7 +36,7 @@ pub turned_at : (b : Brief) (v u : ℕ) → IsApartAt b v u → IsApartAt b u v
 turned_at (Two q) v u h = h
 turned_at (Apart q) v u (inl e) = inr (e.1, e.0)
 turned_at (Apart q) v u (inr e) = inl (e.1, e.0)
-turned_at Other v u h = h
+turned_at (Other o) v u h = h
 
 -- of two members one is another one than x
 other_of : (xs : List ℕ) (x : ℕ) → HasTwo xs → (y : ℕ) × (has xs y ≡ true) × ((x == y) ≡ false)
@@ -65,11 +65,11 @@ both_supported l a q f is family first second = stood_consistent l a q f is.pair
     at (suc (suc i)) x low here = absurd (omega arith)
 
 module _ (l : Language) (list : List Candidate) (against : Option Candidate) (lawful : IsLanguage l) (are : AreConstraints l list against) (p : Plan) (plan : IsWholePlanOf l (arcs_of l list against) p) (f : Family) (some : AreSome l f) (v u k : ℕ) (room : k < length p.briefs.items) (low : k < length (arcs_of l list against)) (at : (b : Brief) → IsApartAt (slice_index_or p.briefs.items k b) v u) where
-  two : (q : Pair) × (slice_index_or p.briefs.items k Other ≡ Apart q) × AreBothOf q v u
-  two = apart_at (slice_index_or p.briefs.items k Other) v u (at Other)
+  two : (q : Pair) × (slice_index_or p.briefs.items k blank ≡ Apart q) × AreBothOf q v u
+  two = apart_at (slice_index_or p.briefs.items k blank) v u (at blank)
 
   says_so : (a : Arc) → IsApartOf l (slice_index_or (arcs_of l list against) k a) two.0
-  says_so a = subst (IsBriefOf l (slice_index_or (arcs_of l list against) k a)) two.1 (plan.plan.briefs k a Other room low)
+  says_so a = subst (IsBriefOf l (slice_index_or (arcs_of l list against) k a)) two.1 (plan.plan.briefs k a blank room low)
 
   pub two_known : (v < length f) × (u < length f)
   two_known = go two.2
@@ -99,7 +99,7 @@ module _ (l : Language) (list : List Candidate) (against : Option Candidate) (la
   two_beside = go two.2
     where
       parted : IsParted p.aparts.items (Apart two.0)
-      parted = subst (IsParted p.aparts.items) two.1 (plan.plan.parted k Other room low)
+      parted = subst (IsParted p.aparts.items) two.1 (plan.plan.parted k blank room low)
 
       go : AreBothOf two.0 v u → (is_with p.aparts.items v u ≡ true) × (is_with p.aparts.items u v ≡ true)
       go (inl e) = (ap (λ w. is_with p.aparts.items w u) e.0 ∙ ap (λ w. is_with p.aparts.items two.0.first w) e.1 ∙ parted.0, ap (λ w. is_with p.aparts.items w v) e.1 ∙ ap (λ w. is_with p.aparts.items two.0.second w) e.0 ∙ parted.1)
@@ -112,14 +112,14 @@ module _ (l : Language) (list : List Candidate) (against : Option Candidate) (la
   abbrev item : Arc → Arc
   item a = slice_index_or arcs k a
 
-  found : (q : Pair) × (slice_index_or p.briefs.items k Other ≡ Apart q) × AreBothOf q v u
-  found = apart_at (slice_index_or p.briefs.items k Other) v u (at Other)
+  found : (q : Pair) × (slice_index_or p.briefs.items k blank ≡ Apart q) × AreBothOf q v u
+  found = apart_at (slice_index_or p.briefs.items k blank) v u (at blank)
 
   abbrev pair : Pair
   pair = found.0
 
   is : (a : Arc) → IsApartOf l (item a) pair
-  is a = subst (IsBriefOf l (item a)) found.1 (plan.plan.briefs k a Other room low)
+  is a = subst (IsBriefOf l (item a)) found.1 (plan.plan.briefs k a blank room low)
 
   below : x < l.value_count
   below = some.family.values v x value.only.there

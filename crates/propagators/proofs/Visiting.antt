@@ -1,7 +1,6 @@
 -- Looking at the conditions of changed variables.
-use Rattle.propagators.proofs.Prelude.{◌≡◌, ℕ, zero, suc, ◌+◌, ◌-◌, ◌*◌, ◌/◌, ◌%◌, ◌<◌, ◌≤◌, Bool, true, false, ◌&&◌, ◌||◌, not, List, [], ◌∷◌, length, refl, sym, ◌∙◌, ap, subst, arith, inl, inr, ◌⊎◌, ◌==◌, ◌≢◌, slice_index_or, All, min, list_any, list_all, All-head, All-tail, both_ways, cases_eq, cases_lt, eq-eqb, ne_eqb, div-mul-add, mod-mul-add, has, union, without, IsSet, has-set_where, ones_of, bit_at, Family, Arc, is_consistent, is_not_empty, is_wanted, family_size, AreEntailed, Entailed, IsRevised, AreSettled, AreFewer, IsCutAt, IsUnderway, AreNoted, AreLeft, IsLooked, IsLeftOrLooked, AreLooked, IsApart, is_with, Brief, Plan}
+use Rattle.propagators.proofs.Prelude.{◌≡◌, ℕ, zero, suc, ◌+◌, ◌-◌, ◌*◌, ◌/◌, ◌%◌, ◌<◌, ◌≤◌, Bool, true, false, ◌&&◌, ◌||◌, not, List, [], ◌∷◌, length, refl, sym, ◌∙◌, ap, subst, arith, inl, inr, ◌⊎◌, ◌==◌, ◌≢◌, slice_index_or, All, min, list_any, list_all, All-head, All-tail, both_ways, cases_eq, cases_lt, eq-eqb, ne_eqb, div-mul-add, mod-mul-add, has, union, without, IsSet, has-set_where, ones_of, bit_at, Family, Arc, is_consistent, is_not_empty, is_wanted, family_size, AreEntailed, Entailed, IsRevised, AreSettled, AreFewer, IsCutAt, IsUnderway, AreNoted, AreLeft, IsLooked, IsLeftOrLooked, AreLooked, IsApart, is_with, Brief, Plan, blank}
 use Rattle.assign.proofs.Masks.{rises_few}
-use Rattle.propagators.specs.declared.briefs.Brief.TheVariants.{Other}
 use Rattle.propagators.proofs.Words.{one_less}
 use Rattle.assign.proofs.Ones.{ones_of-zero, has-ones_of}
 use Rattle.propagators.proofs.Entailing.{entailed_now}
@@ -164,7 +163,7 @@ visit_apart arcs p v begun waiting next from f g is to = record {
     go k a low h (inr (inr apart)) = pick (has (slice_index_or arcs k a).scope v) refl
       where
         pick : (q : Bool) → has (slice_index_or arcs k a).scope v ≡ q → is_consistent g (slice_index_or arcs k a).scope (slice_index_or arcs k a).accepted ≡ true
-        pick true e = to.here k a Other low e (apart Other) h
+        pick true e = to.here k a blank low e (apart blank) h
         pick false e = lacks k a low h (λ b. ap (λ (c : Arc). has c.scope v) (same_item arcs k b a low) ∙ e)
 
 -- what isn't in the word of the variable lacks it, or says that two differ, but for what is entailed

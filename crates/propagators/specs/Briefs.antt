@@ -1,12 +1,13 @@
 -- What is known of a condition before the search.
-use Rattle.std.specs.Prelude.{ℕ, zero, suc, ◌≡◌, ◌<◌, ◌==◌, ◌⊎◌, Bool, not, List, [], ◌∷◌, length, slice_index_or}
+use Rattle.std.specs.Prelude.{ℕ, zero, suc, ◌≡◌, ◌<◌, ◌≤◌, ◌==◌, ◌⊎◌, Bool, not, false, List, [], ◌∷◌, length, take, slice_index_or}
 use Rattle.rel_table.specs.Relation.{Relation}
-use Rattle.language.specs.Language.{Language}
+use Rattle.language.specs.Language.{Language, IsCandidate, scope_of}
 use Rattle.language.specs.Pairs.{ArePairTables, IsPairTable}
 use Rattle.language.specs.declared.masks.PairBounds.{PairBounds}
-use Rattle.propagators.specs.Families.{Arc}
+use Rattle.propagators.specs.Families.{Arc, arc_of}
 use Rattle.propagators.specs.Loose.{IsBounded}
 use Rattle.propagators.specs.Pairs.{by_table, AgreeInside}
+use Rattle.propagators.specs.declared.briefs.OnScope.{OnScope}
 use Rattle.propagators.specs.declared.briefs.Pair.{Pair}
 use Rattle.propagators.specs.declared.briefs.Brief.{Brief}
 use Rattle.propagators.specs.declared.briefs.Brief.TheVariants.{Two, Apart, Other}
@@ -37,10 +38,21 @@ pub record IsApartOf (l : Language) (a : Arc) (p : Pair) : Type 0 where
   pub pair : IsPairOf l a p
   pub apart : (pairs : List Relation) → ArePairTables l pairs → TellsApart l.value_count (by_pair l pairs p)
 
+-- a condition that a candidate holds, or that it doesn't, whose variables stand in the first ones of four places
+pub record IsOnScope (l : Language) (a : Arc) (o : OnScope) : Type 0 where
+  pub candidate : IsCandidate l o.candidate
+  pub is : a ≡ arc_of l o.candidate o.holding
+  pub size : o.size ≤ 4
+  pub scope : take o.size o.scope ≡ scope_of l o.candidate
+
 abbrev pub IsBriefOf : Language → Arc → Brief → Type 0
 IsBriefOf l a (Two p) = IsPairOf l a p
 IsBriefOf l a (Apart p) = IsApartOf l a p
-IsBriefOf l a Other = Unit {0}
+IsBriefOf l a (Other o) = IsOnScope l a o
+
+-- what stands for a brief where there is none
+abbrev pub blank : Brief
+blank = Other (record { scope = []; size = 0; holding = false; candidate = record { scope = 0; rel = 0 } })
 
 -- the first conditions have theirs, as far as these go
 abbrev pub AreBriefs : Language → List Arc → List Brief → Type 0
@@ -55,13 +67,13 @@ at_place b (suc j) = b.second
 abbrev pub bound_at : Brief → ℕ → ℕ
 bound_at (Two p) j = at_place p.bounds j
 bound_at (Apart p) j = at_place p.bounds j
-bound_at Other j = 64
+bound_at (Other o) j = 64
 
 -- a brief of two variables is one of this scope
 abbrev pub IsBriefOn : List ℕ → Brief → Type 0
 IsBriefOn scope (Two p) = scope ≡ p.first ∷ p.second ∷ []
 IsBriefOn scope (Apart p) = scope ≡ p.first ∷ p.second ∷ []
-IsBriefOn scope Other = Unit {0}
+IsBriefOn scope (Other o) = Unit {0}
 
 -- ---- Conditions that two variables differ
 
@@ -73,10 +85,10 @@ AreBothOf p v u = ((v ≡ p.first) × (u ≡ p.second)) ⊎ ((v ≡ p.second) ×
 abbrev pub IsApart : Brief → Type 0
 IsApart (Two p) = ⊥
 IsApart (Apart p) = Unit {0}
-IsApart Other = ⊥
+IsApart (Other o) = ⊥
 
 -- that of one on these two variables
 abbrev pub IsApartAt : Brief → ℕ → ℕ → Type 0
 IsApartAt (Two p) v u = ⊥
 IsApartAt (Apart p) v u = AreBothOf p v u
-IsApartAt Other v u = ⊥
+IsApartAt (Other o) v u = ⊥

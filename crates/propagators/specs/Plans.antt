@@ -23,7 +23,7 @@ AreNoted arcs briefs words sets =
 abbrev pub IsParted : List ℕ → Brief → Type 0
 IsParted aparts (Two p) = Unit {0}
 IsParted aparts (Apart p) = (is_with aparts p.first p.second ≡ true) × (is_with aparts p.second p.first ≡ true)
-IsParted aparts Other = Unit {0}
+IsParted aparts (Other o) = Unit {0}
 
 -- one of the first conditions, so many, says that these two differ
 pub record HasApart (briefs : List Brief) (i v u : ℕ) : Type 0 where

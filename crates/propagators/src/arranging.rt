@@ -1,6 +1,6 @@
 //! A plan of conditions: each is noted with its variables, and what says that two differ with these.
 
-ghost use Rattle.std.specs.Prelude.{◌≡◌, ◌<◌, ◌≤◌, ◌+◌, ◌*◌, ◌/◌, ◌%◌, ◌⊎◌, ℕ, List, true, All, IfOk, None, length, min, take, slice_index_or};
+ghost use Rattle.std.specs.Prelude.{◌≡◌, ◌<◌, ◌≤◌, ◌+◌, ◌*◌, ◌/◌, ◌%◌, ◌⊎◌, ℕ, List, true, All, IfOk, None, length, min, take, slice_index_or, vec_len, vec_capacity};
 ghost use Rattle.assign.specs.Sets.{has, ones_of};
 ghost use Rattle.language.specs.Language.{Language, IsLanguage};
 ghost use Rattle.propagators.specs.Allowed.{AreConstraints};
@@ -9,7 +9,7 @@ ghost use Rattle.propagators.specs.Briefs.{AreBriefs, AreBothOf, IsApart};
 ghost use Rattle.propagators.specs.declared.plan.Plan.{Plan};
 ghost use Rattle.propagators.specs.Plans.{IsPlanOf, is_with, IsParted, AreApartSoFar, AreNoted, AreLimits, AreTakenIn, AreNarrow};
 
-use crate::briefs::{Brief, Pair, brief_of, raise_all};
+use crate::briefs::{BLANK, Brief, Pair, brief_of, raise_all};
 use crate::constraints::Constraints;
 use crate::plan::Plan;
 use crate::values::add_value;
@@ -146,28 +146,68 @@ pub(crate) fn copy_front<T: Copy>(to: &mut [T], from: &[T], count: usize)
     to[..count].copy_from_slice(&from[..count]);
 }
 
+/// Puts the same item behind those of a list until there are so many, for which it has the capacity.
+fn fill_up<T: Copy>(list: &mut Vec<T>, item: T, count: usize)
+    requires capacity { count ≤ vec_capacity list.old }
+    requires below { vec_len list.old ≤ count }
+    ensures size { vec_len list.new ≡ count }
+    ensures capacity { vec_capacity list.new ≡ vec_capacity list.old }
+{
+    for _i in list.len()..count {
+        list.push_reserved(item);
+    }
+}
+
 impl Plan {
-    /// Room for so many conditions: some 24 bytes for each, and 2 KB. `AllocError` where the allocator gives no memory.
+    /// Room for so many conditions: some 28 bytes for each, and 2 KB. `AllocError` where the allocator gives no memory.
     pub fn new(alloc: Global, room: usize) -> Result<Plan, AllocError>
         requires { room ≤ 65536 }
         ensures { IfOk result (λ p. length p.briefs.items ≡ room) }
     {
-        let words = room.div_ceil(64);
+        let mut plan = Plan::unwritten(alloc, room)?;
+        plan.fill_room();
+        Ok(plan)
+    }
+
+    /// The same, but only the 2 KB are written before the plan is first arranged: many plans never are.
+    pub fn unwritten(alloc: Global, room: usize) -> Result<Plan, AllocError>
+        requires { room ≤ 65536 }
+        ensures { IfOk result (λ p. p.room ≡ room) }
+    {
         Ok(Plan {
-            briefs: vec![in alloc; Brief::Other; room]?,
+            room,
+            briefs: Vec::with_capacity(alloc, room)?,
             limits: vec![in alloc; 0; 128]?,
-            words,
-            sets: vec![in alloc; 0; 128 * words]?,
+            words: 0,
+            sets: Vec::with_capacity(alloc, 128 * room.div_ceil(64))?,
             aparts: vec![in alloc; 0; 128 * 2]?,
         })
+    }
+
+    /// Writes the room that the plan has. Only the first arrangement finds any that isn't written, so this stands apart.
+    #[inline(never)]
+    fn fill_room(&mut self)
+        ensures full { length self.new.briefs.items ≡ self.old.room }
+        ensures room { self.new.room ≡ self.old.room }
+    {
+        if self.briefs.len() == self.room {
+            return;
+        }
+        let words = self.room.div_ceil(64);
+        fill_up(&mut self.sets, 0, 128 * words);
+        self.words = words;
+        fill_up(&mut self.briefs, BLANK, self.room);
     }
 
     /// Makes the plan one of these conditions. With more than there is room for it is of no use.
     pub fn arrange(&mut self, cons: &Constraints)
         requires lawful { IsLanguage cons.now.lang.now }
         requires constraints { AreConstraints cons.now.lang.now cons.now.list.now cons.now.against }
-        ensures { IsPlanOf cons.now.lang.now (arcs_of cons.now.lang.now cons.now.list.now cons.now.against) self.new }
+        ensures plan { IsPlanOf cons.now.lang.now (arcs_of cons.now.lang.now cons.now.list.now cons.now.against) self.new }
+        ensures full { length self.new.briefs.items ≡ self.old.room }
+        ensures room { self.new.room ≡ self.old.room }
     {
+        self.fill_room();
         arrange_all(
             cons,
             &mut self.briefs,
@@ -230,6 +270,7 @@ impl Plan {
         requires other { IsPlanOf cons.now.lang.now (arcs_of cons.now.lang.now cons.now.list.now None) other.now }
         ensures { IsPlanOf cons.now.lang.now (arcs_of cons.now.lang.now cons.now.list.now cons.now.against) self.new }
     {
+        self.fill_room();
         let size = cons.list.len();
         if self.words != other.words
             || size > other.briefs.len()

@@ -1,6 +1,6 @@
 //! What is known of a condition before a search.
 
-ghost use Rattle.std.specs.Prelude.{◌≡◌, ◌<◌, ◌≤◌, ℕ, All, length, slice_index_or};
+ghost use Rattle.std.specs.Prelude.{◌≡◌, ◌<◌, ◌≤◌, ℕ, All, length, take, slice_index_or};
 ghost use Rattle.language.specs.Language.{IsLanguage, IsCandidate, scope_of};
 ghost use Rattle.propagators.specs.Families.{arc_of};
 ghost use Rattle.propagators.specs.Briefs.{IsBriefOf, IsBriefOn, bound_at};
@@ -22,6 +22,17 @@ pub struct Pair {
     pub(crate) bounds: PairBounds,
 }
 
+/// A condition on one variable, or on three or four.
+#[derive(Clone, Copy)]
+pub struct OnScope {
+    /// Its variables; those from `size` on have no meaning.
+    pub(crate) scope: [u8; 4],
+    pub(crate) size: u8,
+    /// Whether the relation is to hold, or not to hold.
+    pub(crate) holding: bool,
+    pub(crate) candidate: Candidate,
+}
+
 /// What is known of a condition before a search.
 #[derive(Clone, Copy)]
 pub enum Brief {
@@ -30,7 +41,25 @@ pub enum Brief {
     /// It has two, and says that they differ.
     Apart(Pair),
     /// It is another one.
-    Other,
+    Other(OnScope),
+}
+
+/// What stands for a brief where there is none.
+pub(crate) const BLANK: Brief = Brief::Other(OnScope {
+    scope: [0; 4],
+    size: 0,
+    holding: false,
+    candidate: Candidate { scope: 0, rel: 0 },
+});
+
+/// The variables of a scope in the first ones of four places.
+fn four_places(scope: &[u8]) -> [u8; 4]
+    requires { length scope.now ≤ 4 }
+    ensures { take (length scope.now) result ≡ scope.now }
+{
+    let mut places = [0; 4];
+    places[..scope.len()].copy_from_slice(scope);
+    places
 }
 
 /// The brief of a candidate on a scope, where it is to hold, or not to hold.
@@ -42,7 +71,12 @@ pub(crate) fn brief_of(lang: &Language, c: Candidate, scope: &[u8], holding: boo
     ensures on { IsBriefOn scope.now result }
 {
     if scope.len() != 2 {
-        return Brief::Other;
+        return Brief::Other(OnScope {
+            scope: four_places(scope),
+            size: scope.len() as u8,
+            holding,
+            candidate: c,
+        });
     }
     let table = lang.pair_table(c.scope, c.rel);
     let pair = Pair {
@@ -85,7 +119,7 @@ pub(crate) fn raise_all(limits: &mut [u8], scope: &[u8], brief: Brief)
             raise(limits, pair.first, pair.bounds.first);
             raise(limits, pair.second, pair.bounds.second);
         }
-        Brief::Other => {
+        Brief::Other(_) => {
             for v in scope {
                 raise(limits, *v, 64);
             }

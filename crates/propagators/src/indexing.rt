@@ -68,7 +68,7 @@ fn leave_more(
 }
 
 impl Index {
-    /// The index of no candidates, with room for as many as there are scopes: some 28 bytes for each. `Memory` where there is none.
+    /// The index of no candidates, with room for as many as there are scopes: some 32 bytes for each. `Memory` where there is none.
     pub fn new(alloc: Global, lang: &Language) -> Result<Index, Memory>
         ensures { IfOk result (IsIndexOf lang.now) }
     {

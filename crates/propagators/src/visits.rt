@@ -1,12 +1,12 @@
 //! Propagation with a plan: only the conditions of a changed variable are looked at.
 
-ghost use Rattle.std.specs.Prelude.{◌≡◌, ◌<◌, ◌+◌, ◌*◌, ◌/◌, ◌==◌, ◌⊎◌, ℕ, List, [], true, false, IfSome, IsSome, None, Some, length, slice_index_or, slice_set};
+ghost use Rattle.std.specs.Prelude.{◌≡◌, ◌<◌, ◌≤◌, ◌+◌, ◌*◌, ◌/◌, ◌==◌, ◌⊎◌, ℕ, List, [], true, false, IfSome, IsSome, None, Some, length, take, slice_index_or, slice_set};
 ghost use Rattle.std.specs.Int.{bit_at};
 ghost use Rattle.std.specs.List.{list_all};
 ghost use Rattle.assign.specs.Sets.{has, without, IsSet};
-ghost use Rattle.language.specs.Language.{Language, IsLanguage, IsCandidate, variable_count, scope_of};
+ghost use Rattle.language.specs.Language.{IsLanguage, variable_count, scope_of};
 ghost use Rattle.propagators.specs.Allowed.{AreConstraints};
-ghost use Rattle.propagators.specs.Families.{Family, Arc, arc_of, arcs_of, is_not_empty, is_wanted};
+ghost use Rattle.propagators.specs.Families.{Family, Arc, arcs_of, is_not_empty, is_wanted};
 ghost use Rattle.propagators.specs.Supports.{AreBelow, IsFamilyOf, firsts_on};
 ghost use Rattle.propagators.specs.Loose.{HasTwo, HasMore};
 ghost use Rattle.propagators.specs.Pairs.{IsOnly, IsValueOf, IsBeside};
@@ -16,9 +16,9 @@ ghost use Rattle.language.specs.Pairs.{ArePairTables, IsPairTable};
 ghost use Rattle.propagators.specs.declared.plan.Plan.{Plan};
 ghost use Rattle.propagators.specs.Entailed.{AreEntailed, IsEntailed, AreFixedBut, is_noted_in, is_among_struck};
 ghost use Rattle.propagators.specs.Plans.{IsPlanOf, is_with, AreLooked, IsLooked, IsLeftOrLooked};
-ghost use Rattle.propagators.specs.Propagated.{AreSome, IsSettledBut, IsPropagated, RunsEmpty, IsWholePlanOf, IsVisited};
+ghost use Rattle.propagators.specs.Propagated.{AreSome, IsCondition, IsSettledBut, IsPropagated, RunsEmpty, IsWholePlanOf, IsVisited};
 
-use crate::briefs::{Brief, Pair};
+use crate::briefs::{Brief, OnScope, Pair};
 use crate::constraints::Constraints;
 use crate::domains::Domains;
 use crate::entailed::Entailed;
@@ -81,25 +81,23 @@ fn beside(
     None
 }
 
-/// Looks at condition i, a candidate that is to hold or not to hold, each of whose variables has one value alone but for that at
-/// a place. That one is left the values that go with the others, and is waiting if it had more; `No` where there are none. Then the
-/// condition is entailed.
+/// Looks at condition i, a candidate on this scope that is to hold or not to hold, each of whose variables has one value alone but
+/// for that at a place. That one is left the values that go with the others, and is waiting if it had more; `No` where there are
+/// none. Then the condition is entailed.
 #[inline]
 fn look_along(
     cons: &Constraints,
     i: usize,
     c: Candidate,
     holding: bool,
+    scope: &[u8],
     opening: Opening,
     doms: &mut Domains,
     entailed: &mut Entailed,
     waiting: &mut Waiting,
 ) -> Alive
-    requires lawful { IsLanguage cons.now.lang.now }
-    requires constraints { AreConstraints cons.now.lang.now cons.now.list.now cons.now.against }
-    requires low { i < length (arcs_of cons.now.lang.now cons.now.list.now cons.now.against) }
-    requires candidate { IsCandidate cons.now.lang.now c }
-    requires is { (a : Arc) → slice_index_or (arcs_of cons.now.lang.now cons.now.list.now cons.now.against) i a ≡ arc_of cons.now.lang.now c holding }
+    requires condition { IsCondition cons.now.lang.now cons.now.list.now cons.now.against i c holding }
+    requires scope { scope.now ≡ scope_of cons.now.lang.now c }
     requires place { opening.place < length (scope_of cons.now.lang.now c) }
     requires fixed { AreFixedBut doms.old (scope_of cons.now.lang.now c) opening.place }
     requires first { opening.first ≡ place cons.now.lang.now.value_count (slice_set (firsts_on doms.old (scope_of cons.now.lang.now c)) opening.place 0) }
@@ -108,7 +106,6 @@ fn look_along(
     ensures entailed { result ≡ Alive.Yes → (p : Plan) → AreEntailed (arcs_of cons.now.lang.now cons.now.list.now cons.now.against) p entailed.old doms.old → AreEntailed (arcs_of cons.now.lang.now cons.now.list.now cons.now.against) p entailed.new doms.new }
     ensures dead { result ≡ Alive.No → RunsEmpty (arcs_of cons.now.lang.now cons.now.list.now cons.now.against) doms.old }
 {
-    let scope = cons.lang.scope(c.scope);
     let table = cons.lang.table_on(c.scope, c.rel);
     let values = going_along(table, holding, doms, scope, opening);
     if is_empty(values) {
@@ -133,11 +130,7 @@ fn look_at_several(
     entailed: &mut Entailed,
     waiting: &mut Waiting,
 ) -> Alive
-    requires lawful { IsLanguage cons.now.lang.now }
-    requires constraints { AreConstraints cons.now.lang.now cons.now.list.now cons.now.against }
-    requires low { i < length (arcs_of cons.now.lang.now cons.now.list.now cons.now.against) }
-    requires candidate { IsCandidate cons.now.lang.now c }
-    requires is { (a : Arc) → slice_index_or (arcs_of cons.now.lang.now cons.now.list.now cons.now.against) i a ≡ arc_of cons.now.lang.now c holding }
+    requires condition { IsCondition cons.now.lang.now cons.now.list.now cons.now.against i c holding }
     requires doms { AreSome cons.now.lang.now doms.old }
     ensures looked { result ≡ Alive.Yes → IsLooked (arcs_of cons.now.lang.now cons.now.list.now cons.now.against) i waiting.old waiting.new doms.old doms.new }
     ensures entailed { result ≡ Alive.Yes → (p : Plan) → AreEntailed (arcs_of cons.now.lang.now cons.now.list.now cons.now.against) p entailed.old doms.old → AreEntailed (arcs_of cons.now.lang.now cons.now.list.now cons.now.against) p entailed.new doms.new }
@@ -160,28 +153,48 @@ fn look_at_several(
 /// added those that lost values; `No` where some variable has none left in an arc-consistent subfamily.
 fn look_at_other(
     cons: &Constraints,
+    other: &OnScope,
     i: usize,
     doms: &mut Domains,
     entailed: &mut Entailed,
     waiting: &mut Waiting,
 ) -> Alive
-    requires lawful { IsLanguage cons.now.lang.now }
-    requires constraints { AreConstraints cons.now.lang.now cons.now.list.now cons.now.against }
-    requires low { i < length (arcs_of cons.now.lang.now cons.now.list.now cons.now.against) }
+    requires condition { IsCondition cons.now.lang.now cons.now.list.now cons.now.against i other.now.candidate other.now.holding }
+    requires size { other.now.size ≤ 4 }
+    requires scope { take other.now.size other.now.scope ≡ scope_of cons.now.lang.now other.now.candidate }
     requires doms { AreSome cons.now.lang.now doms.old }
     ensures looked { result ≡ Alive.Yes → IsLeftOrLooked (arcs_of cons.now.lang.now cons.now.list.now cons.now.against) i waiting.old waiting.new doms.old doms.new }
     ensures entailed { result ≡ Alive.Yes → (p : Plan) → AreEntailed (arcs_of cons.now.lang.now cons.now.list.now cons.now.against) p entailed.old doms.old → AreEntailed (arcs_of cons.now.lang.now cons.now.list.now cons.now.against) p entailed.new doms.new }
     ensures dead { result ≡ Alive.No → RunsEmpty (arcs_of cons.now.lang.now cons.now.list.now cons.now.against) doms.old }
 {
-    let (c, holding) = cons.condition(i);
-    let scope = cons.lang.scope(c.scope);
+    // A copy: the loops over the scope then read one place, whichever condition it is.
+    let places = other.scope;
+    let scope = &places[..usize::from(other.size)];
     if let Some(opening) = opening_of(doms, cons.lang.d(), scope) {
-        return look_along(cons, i, c, holding, opening, doms, entailed, waiting);
+        return look_along(
+            cons,
+            i,
+            other.candidate,
+            other.holding,
+            scope,
+            opening,
+            doms,
+            entailed,
+            waiting,
+        );
     }
     if touches(scope, *waiting) {
         return Alive::Yes;
     }
-    look_at_several(cons, i, c, holding, doms, entailed, waiting)
+    look_at_several(
+        cons,
+        i,
+        other.candidate,
+        other.holding,
+        doms,
+        entailed,
+        waiting,
+    )
 }
 
 /// `look_at_other` for a condition on two variables, by the masks of its relation. Apart from the loop over conditions, which
@@ -299,7 +312,7 @@ fn look_at(
     match &plan.briefs[i] {
         Brief::Two(pair) => look_at_pair(cons, plan, pair, i, v, value, doms, entailed, waiting),
         Brief::Apart(pair) => look_at_pair(cons, plan, pair, i, v, value, doms, entailed, waiting),
-        Brief::Other => look_at_other(cons, i, doms, entailed, waiting),
+        Brief::Other(other) => look_at_other(cons, other, i, doms, entailed, waiting),
     }
 }
 
@@ -554,7 +567,7 @@ fn begins_long(plan: &Plan) -> bool {
         return false;
     }
     match plan.briefs[0] {
-        Brief::Other => true,
+        Brief::Other(_) => true,
         _ => false,
     }
 }

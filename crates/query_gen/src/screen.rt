@@ -114,7 +114,7 @@ fn take_bytes(marks: &mut [Mark], first: usize, bytes: &[u8], count: usize)
 }
 
 impl Screen {
-    /// No marks, a byte for each candidate, and some 32 bytes for each scope. `Memory` where there is none for them.
+    /// No marks, a byte for each candidate, and some 36 bytes for each scope. `Memory` where there is none for them.
     pub fn new(alloc: Global, lang: &Language) -> Result<Screen, Memory>
         ensures made { IfOk result (AreMarksFor lang.now) }
         ensures unmarked { IfOk result HasNoMarks }

@@ -1,19 +1,18 @@
-use Rattle.fd_solver.proofs.Prelude.{◌∙◌, [], ap, sym, subst, slice_index_or, variable_count, assigned, arcs_of, has_family, is_alive_in, IsReady, assigned_blank}
+use Rattle.fd_solver.proofs.Prelude.{◌∙◌, [], ap, sym, subst, slice_index_or, variable_count, assigned, has_family, is_alive_in, IsReady, assigned_blank}
 use Rattle.fd_solver.proofs.Alive.{alive_fronts}
-use Rattle.fd_solver.proofs.Narrowing.{ready_first}
-use Rattle.fd_solver.proofs.Knowing.{known_first}
+use Rattle.fd_solver.proofs.Narrowing.{ready_alive}
+use Rattle.fd_solver.proofs.Rows.{arranged_first}
 use Rattle.fd_solver.proofs.Turning.{turn_dead}
 use Rattle.fd_solver.proofs.depth_first.search_with.Goals as goal
 
+pub walk-requires-clause-alive : goal.walk-requires-clause-alive
+walk-requires-clause-alive c = ready_alive c.args.cons.now.lang.now c.args.cons.now.list.now c.args.cons.now.against c.args.order.now [] (slice_index_or c.begin_with.new.self.depths 0 [])
+    (subst (λ e. IsReady c.args.cons.now.lang.now c.args.cons.now.list.now c.args.cons.now.against e (slice_index_or c.begin_with.new.self.depths 0 [])) (assigned_blank (variable_count c.args.cons.now.lang.now) c.args.order.now c.requires.order) (c.begin_with.ensures.ready c.if-begin_with.true))
+
 pub walk-requires-clause-ready : goal.walk-requires-clause-ready
-walk-requires-clause-ready c = record {
-  depths = ready_first c.args.cons.now.lang.now c.args.cons.now.list.now c.args.cons.now.against c.args.order.now c.begin_with.new.self.depths
-      (subst (λ e. IsReady c.args.cons.now.lang.now c.args.cons.now.list.now c.args.cons.now.against e (slice_index_or c.begin_with.new.self.depths 0 [])) (assigned_blank (variable_count c.args.cons.now.lang.now) c.args.order.now c.requires.order) (c.begin_with.ensures.ready c.if-begin_with.true));
-  entailed = known_first (arcs_of c.args.cons.now.lang.now c.args.cons.now.list.now c.args.cons.now.against) c.begin_with.new.self.plan c.begin_with.new.self.depths c.begin_with.new.self.entailed (c.begin_with.ensures.entailed c.if-begin_with.true);
-  plan = c.begin_with.ensures.plan;
-  deep = c.begin_with.ensures.deep;
-  same = c.begin_with.ensures.same;
-}
+walk-requires-clause-ready c = arranged_first c.args.cons.now.lang.now c.args.cons.now.list.now c.args.cons.now.against c.args.order.now c.begin_with.new.self (c.begin_with.ensures.row c.if-begin_with.true)
+    (subst (λ e. IsReady c.args.cons.now.lang.now c.args.cons.now.list.now c.args.cons.now.against e (slice_index_or c.begin_with.new.self.depths 0 [])) (assigned_blank (variable_count c.args.cons.now.lang.now) c.args.order.now c.requires.order) (c.begin_with.ensures.ready c.if-begin_with.true))
+    (c.begin_with.ensures.entailed c.if-begin_with.true) c.begin_with.ensures.plan c.begin_with.ensures.deep c.begin_with.ensures.same c.begin_with.ensures.wide
 
 pub returns-else-begin_with : goal.returns-else-begin_with
 returns-else-begin_with c = sym (turn_dead c.args.cons.now.lang.now.value_count (variable_count c.args.cons.now.lang.now) (assigned (variable_count c.args.cons.now.lang.now) c.args.order.now)

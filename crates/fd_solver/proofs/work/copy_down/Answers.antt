@@ -8,12 +8,12 @@ returns-clause-is c =
     let rest = c.split_at_mut-front.result.1.now in
     let long = c.split_at_mut-front.ensures.front_len in
     let value : c.args.depths.now.items ≡ front ++ rest = sym c.deref_mut.ensures.value ∙ c.split_at_mut-front.ensures.value in
-    let taken : c.take.new.self ≡ slice_index_or c.args.depths.now.items c.args.at [] =
-    c.take.ensures ∙ sym c.index-front-at.is ∙ get_or_read front c.args.at c.index-front-at.result (omega arith) c.index-front-at.is []
-    ∙ sym (get_or_append_left front rest [] c.args.at (omega arith)) ∙ ap (λ (xs : List Family). slice_index_or xs c.args.at []) (sym value) in
+    let taken : c.take.new.self ≡ slice_index_or c.args.depths.now.items c.args.from [] =
+    c.take.ensures ∙ sym c.index-front-from.is ∙ get_or_read front c.args.from c.index-front-from.result (omega arith) c.index-front-from.is []
+    ∙ sym (get_or_append_left front rest [] c.args.from (omega arith)) ∙ ap (λ (xs : List Family). slice_index_or xs c.args.from []) (sym value) in
     let same : length (front ++ slice_set rest 0 c.take.new.self) ≡ c.args.depths.now.len =
     length-append front (slice_set rest 0 c.take.new.self) ∙ ap (λ k. length front + k) (length-set rest 0 c.take.new.self) ∙ sym (length-append front rest) ∙ ap length (sym value) ∙ sym c.args.depths.now.ok.0 in
     with_items_is c.args.depths.now (front ++ slice_set rest 0 c.take.new.self) same
-    ∙ sym (ap (λ (xs : List Family). slice_set xs (c.args.at + 1) (slice_index_or c.args.depths.now.items c.args.at [])) value
-    ∙ set-append_right front rest (c.args.at + 1) (c.args.at + 1) (slice_index_or c.args.depths.now.items c.args.at []) long (omega arith)
-    ∙ (λ i. front ++ slice_set rest ((let e : (c.args.at + 1) - (c.args.at + 1) ≡ 0 = omega arith in e) i) (sym taken i)))
+    ∙ sym (ap (λ (xs : List Family). slice_set xs c.args.to (slice_index_or c.args.depths.now.items c.args.from [])) value
+    ∙ set-append_right front rest c.args.to c.args.to (slice_index_or c.args.depths.now.items c.args.from []) long (omega arith)
+    ∙ (λ i. front ++ slice_set rest ((let e : c.args.to - c.args.to ≡ 0 = omega arith in e) i) (sym taken i)))

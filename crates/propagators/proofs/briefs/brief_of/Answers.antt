@@ -1,4 +1,4 @@
-use Rattle.propagators.proofs.Prelude.{◌≡◌, ◌∙◌, ℕ, List, [], ◌∷◌, ap, sym, refl, length, arith, slice_index_or, is_wanted}
+use Rattle.propagators.proofs.Prelude.{◌≡◌, ◌∙◌, ℕ, List, [], ◌∷◌, ap, sym, refl, length, arith, slice_index_or, is_wanted, IsScope, variable_count, scope_of}
 use Rattle.propagators.proofs.briefs.brief_of.Goals as goal
 
 two_of : (xs : List ℕ) → length xs ≡ 2 → xs ≡ slice_index_or xs 0 0 ∷ slice_index_or xs 1 0 ∷ []
@@ -6,6 +6,13 @@ two_of [] h = absurd (omega arith)
 two_of (x ∷ []) h = absurd (omega arith)
 two_of (x ∷ y ∷ []) h = refl
 two_of (x ∷ y ∷ z ∷ xs) h = absurd (omega arith)
+
+pub four_places-requires : goal.four_places-requires
+four_places-requires c =
+    (let known : IsScope (variable_count c.args.lang.now) (scope_of c.args.lang.now c.args.c) = c.requires.lawful.scopes c.args.c.scope [] c.requires.candidate.scope in
+    let short = known.short in
+    let long = ap length c.requires.scope in
+    omega arith)
 
 pub pair_table-table-requires-clause-two : goal.pair_table-table-requires-clause-two
 pair_table-table-requires-clause-two c = ap length (sym c.requires.scope) ∙ c.if-scope-ne2.false

@@ -10,7 +10,7 @@ returns c =
     ap (take (length c.args.list.now)) items ∙ listed c.copy_front.new.to c.args.list.now (length c.args.list.now) refl (let room = c.requires.room in omega arith) c.copy_front.ensures in
     record {
       known = subst (IsNetwork c.args.lang.now) (sym same) c.requires.known;
-      plan = subst (λ (xs : List Candidate). IsPlanOf c.args.lang.now (arcs_of c.args.lang.now xs None) c.arrange.new.self) (sym same) c.arrange.ensures;
+      plan = subst (λ (xs : List Candidate). IsPlanOf c.args.lang.now (arcs_of c.args.lang.now xs None) c.arrange.new.self) (sym same) c.arrange.ensures.plan;
       root = subst (λ (xs : List Candidate). IsRoot c.args.lang.now (arcs_of c.args.lang.now xs None) c.propagate_all.new.doms c.is_yes-self.result) (sym same) (record {
         alive = λ e. subst (λ (f : Family). IsPropagated c.args.lang.now (arcs_of c.args.lang.now c.args.list.now None) f c.propagate_all.new.doms) c.full-self.ensures.is (c.propagate_all.ensures.alive (c.is_yes-self.ensures.yes e));
         dead = λ e. subst (λ (f : Family). RunsEmpty (arcs_of c.args.lang.now c.args.list.now None) f) c.full-self.ensures.is (c.propagate_all.ensures.dead (c.is_yes-self.ensures.no e));
