@@ -230,6 +230,8 @@ fn splitting_tuple(lang: &Language, s: ScopeId, choices: &Choices, new: bool) ->
 }
 
 /// The same, looked for among all values of the last variable at once.
+// Always inlined: what each reply leads to would be moved from it.
+#[inline(always)]
 fn tuple_searched(lang: &Language, s: ScopeId, choices: &Choices) -> Option<Tuple>
     requires scope { s < length lang.now.scopes }
     requires known { All (IsChoiceOn lang.now s) choices.now }

@@ -1,7 +1,7 @@
 //! Tuples of up to four values.
 
-ghost use Rattle.std.specs.Prelude.{◌≡◌, ◌^◌, ◌<◌, ◌≤◌, [], slice_index_or};
-ghost use Rattle.rel_table.specs.Relation.{tuples};
+ghost use Rattle.std.specs.Prelude.{◌≡◌, ◌^◌, ◌<◌, ◌≤◌, [], take, slice_index_or};
+ghost use Rattle.rel_table.specs.Relation.{tuples, tuple_at};
 
 use rel_table::tuple_of;
 use std::marker::Model;
@@ -24,6 +24,15 @@ impl Model for Tuple {
     ghost invariant = { λ t. t.size ≤ 4 };
 }
 
+/// The values of the pair at a place. Most tuples are pairs, which one division tells.
+fn pair_at(value_count: u8, place: u32) -> [u8; 4]
+    requires { place < value_count ^ 2 }
+    ensures { take 2 result ≡ tuple_at value_count 2 place }
+{
+    let d = u32::from(value_count);
+    [(place / d) as u8, (place % d) as u8, 0, 0]
+}
+
 impl Tuple {
     /// The tuple of no values.
     pub fn blank() -> Tuple {
@@ -39,6 +48,12 @@ impl Tuple {
         requires place { place < value_count ^ size }
         ensures { result ≡ slice_index_or (tuples value_count size) place [] }
     {
+        if size == 2 {
+            return Tuple {
+                size,
+                values: pair_at(value_count, place),
+            };
+        }
         Tuple {
             size,
             values: tuple_of(value_count, size, place),

@@ -67,6 +67,8 @@ pub(crate) fn learn(mut knowledge: Box<Knowledge>, room: Box<Put>, c: Candidate)
 }
 
 /// Choices on a scope are told apart further, or what remains of them is learned.
+// Always inlined: each reply to a tuple goes through it, and would be moved to it and back.
+#[inline(always)]
 pub(crate) fn tell_apart(
     mut knowledge: Box<Knowledge>,
     mut room: Box<Put>,

@@ -1,4 +1,4 @@
-use Rattle.find_c.proofs.Prelude.{◌<◌, ◌-◌, ◌^◌, ◌∙◌, ap, sym, arith, ◌==◌, bit_at}
+use Rattle.find_c.proofs.Prelude.{◌<◌, ◌-◌, ◌∙◌, ap, sym, arith, ◌==◌, bit_at}
 use Rattle.std.proofs.lemmas.Nat.{one_shl}
 use Rattle.std.specs.Prelude.{nat_lt}
 use Rattle.find_c.proofs.Between.{ones_below}

@@ -1,4 +1,4 @@
-use Rattle.find_c.proofs.Prelude.{◌∙◌, ◌+◌, ◌&&◌, not, arith, range_of, is_in, is_one-and_not}
+use Rattle.find_c.proofs.Prelude.{◌∙◌, ◌&&◌, not, arith, is_in, is_one-and_not}
 use Rattle.find_c.proofs.Between.{between_by}
 use Rattle.find_c.proofs.choices.range_mask.Goals as goal
 
