@@ -59,13 +59,16 @@ change_during() {
 
 here=$room/top
 fresh
-report "passed" "0 5 passed, 0 failed" "$(gate) $(cat "$room/printed")"
+report "passed" "0 5 passed, 0 failed" "$(gate) $(sed -n 2p "$room/printed")"
+report "how many proofs go side by side" "gate: $(tools/lanes.sh) proofs side by side" "$(head -n 1 "$room/printed")"
+report "where the time went" "processor minutes proof second proof edits compile run sum" "$(sed -n 3p "$room/printed" | tr -s ' ')"
+report "that is kept" 0 "$(tail -n +3 "$room/printed" | cmp -s - .ci/out/minutes; echo $?)"
 report "nothing is said" "" "$(cat "$room/said")"
 rm "$kit/bin/asked"
 report "acquire proves nothing again" "one $here run 6 0" "$(start)"
 report "rt isn't asked" "" "$(cat "$kit/bin/asked" 2>/dev/null)"
 report "the record" "$(git rev-parse HEAD) $(sha256sum <crates/acquire/out/acquire) first kit 5 passed, 0 failed" "$(tr '\n' ' ' <.ci/out/passed | sed 's/ $//')"
-report "nothing else is left" "passed" "$(ls .ci/out)"
+report "nothing else is left" "minutes passed" "$(ls .ci/out | tr '\n' ' ' | sed 's/ $//')"
 name=acquire-$(git log -1 --format=%cs)-$(git rev-parse --short HEAD)
 report "release" "0 $name.tar.gz" "$(release)"
 mkdir "$room/unpacked" && tar -xzf "$room/made/$name.tar.gz" -C "$room/unpacked"
@@ -99,7 +102,7 @@ rm .ci/out/passed
 refuses "no record"
 
 fresh
-report "broken" "3 1 passed, 1 failed" "$(echo BROKEN >crates/low/src/lib.rt; gate) $(cat "$room/printed")"
+report "broken" "3 1 passed, 1 failed" "$(echo BROKEN >crates/low/src/lib.rt; gate) $(sed -n 2p "$room/printed")"
 refuses "broken"
 git checkout -q .
 report "mended" "one $here run 6 1" "$(start)"
