@@ -1,6 +1,6 @@
 -- How an input stands after more calls.
 use Rattle.acq_io.specs.Streams.{raised, IsLate}
-use Rattle.acq_io.proofs.Prelude.{ℕ, ◌∙◌, refl, arith, ◌≡◌, ◌≤◌, HasCalled, HasStopped}
+use Rattle.acq_io.proofs.Prelude.{ℕ, ◌∙◌, refl, arith, ◌≡◌, ◌≤◌, HasCalled}
 
 -- before any call
 pub called_none : (f l : ℕ) → HasCalled f f l l ⊥

@@ -1,12 +1,13 @@
 ghost use Rattle.std.specs.Prelude.{◌≡◌, ◌≢◌, ◌<◌, ◌≤◌, length, Err, IfOk, OnOk, OnErr};
+ghost use Rattle.std.specs.Io.KnownBytes.{Appends, ReadConsumes};
 ghost use Rattle.acq_io.specs.Streams.{raised, IsLate};
 
 use crate::streams::{Failed, Put, Sink, Source};
 use std::io::{ErrorKind, Read, Write};
 use std::marker::Model;
 
-/// A reader of std with a count of its faults. It tells nothing of the bytes. Each call is one read of the reader, so
-/// one that is asked byte by byte is best buffered.
+/// A reader of std with a count of its faults. As a source it tells nothing of the bytes; what the reader tells of them, it passes
+/// on. Each call is one read of the reader, so one that is asked byte by byte is best buffered.
 #[derive(Drop)]
 pub struct StdSource<R> {
     inner: R,
@@ -17,9 +18,9 @@ pub struct StdSource<R> {
 impl<R> Model for StdSource<R> {
     ghost use Rattle.acq_io.specs.Standard.{Counted};
 
-    ghost Value = { Counted };
+    ghost Value = { Counted R };
 
-    ghost view = { λ s. record { faults = s.faults; late = s.late } };
+    ghost view = { λ s. record { inner = s.inner; faults = s.faults; late = s.late } };
 }
 
 impl<R: Read> StdSource<R> {
@@ -53,6 +54,8 @@ impl<R: Read> Source for StdSource<R> {
         ensures kept { OnOk result (self.new.faults ≡ self.old.faults) }
         ensures later { self.old.faults ≤ self.new.faults }
         ensures late { IsLate self.old.faults self.old.late self.new.late }
+        // where the reader tells what it will give, these bytes were taken from it, and nothing by a read that failed
+        ensures passes { ReadConsumes (R.remaining self.old.inner) (R.remaining self.new.inner) result buf.new }
     {
         if self.faults > 0 {
             self.late = self.late.saturating_add(1);
@@ -70,7 +73,8 @@ impl<R: Read> Source for StdSource<R> {
 /// One read, tried again where a signal interrupts it, as std's own loops do.
 #[inline(always)]
 fn read_uninterrupted<R: Read>(reader: &mut R, buf: &mut [u8]) -> Result<usize, Failed>
-    ensures { IfOk result (λ n. n ≤ length buf.new) }
+    ensures fits { IfOk result (λ n. n ≤ length buf.new) }
+    ensures passes { ReadConsumes (R.remaining reader.old) (R.remaining reader.new) result buf.new }
 {
     match reader.read(buf) {
         Ok(count) => Ok(count),
@@ -81,7 +85,8 @@ fn read_uninterrupted<R: Read>(reader: &mut R, buf: &mut [u8]) -> Result<usize, 
 /// What comes of a read after an error of this kind. That is rare, and kept apart from what is done at each byte.
 #[inline(never)]
 fn read_again<R: Read>(first: ErrorKind, reader: &mut R, buf: &mut [u8]) -> Result<usize, Failed>
-    ensures { IfOk result (λ n. n ≤ length buf.new) }
+    ensures fits { IfOk result (λ n. n ≤ length buf.new) }
+    ensures passes { ReadConsumes (R.remaining reader.old) (R.remaining reader.new) result buf.new }
 {
     let mut kind = first;
     for _ in 0..u64::MAX {
@@ -96,7 +101,7 @@ fn read_again<R: Read>(first: ErrorKind, reader: &mut R, buf: &mut [u8]) -> Resu
     Err(Failed)
 }
 
-/// A writer of std with a count of its faults. It tells nothing of the bytes. Each piece is flushed.
+/// A writer of std with a count of its faults. As a sink it tells nothing of the bytes; each piece is passed on whole, and flushed.
 #[derive(Drop)]
 pub struct StdSink<W> {
     inner: W,
@@ -104,11 +109,11 @@ pub struct StdSink<W> {
 }
 
 impl<W> Model for StdSink<W> {
-    ghost use Rattle.std.specs.Prelude.{ℕ};
+    ghost use Rattle.acq_io.specs.Standard.{Writing};
 
-    ghost Value = { ℕ };
+    ghost Value = { Writing W };
 
-    ghost view = { λ s. s.faults };
+    ghost view = { λ s. record { inner = s.inner; faults = s.faults } };
 }
 
 impl<W: Write> StdSink<W> {
@@ -125,14 +130,16 @@ impl<W: Write> Sink for StdSink<W> {
 
     ghost written = { λ _. None };
 
-    ghost faults = { λ s. s };
+    ghost faults = { λ s. s.faults };
 
     /// The count rises at each failure, and at nothing else. It takes no memory of its own.
     fn write(&mut self, piece: &[u8]) -> Result<(), Put>
         ensures no_memory { result ≢ Err Put.Memory }
-        ensures raised { OnErr result (self.new ≡ raised self.old) }
-        ensures kept { OnOk result (self.new ≡ self.old) }
-        ensures later { self.old ≤ self.new }
+        ensures raised { OnErr result (self.new.faults ≡ raised self.old.faults) }
+        ensures kept { OnOk result (self.new.faults ≡ self.old.faults) }
+        ensures later { self.old.faults ≤ self.new.faults }
+        // where the writer tells what it holds, the piece was added to that
+        ensures passes { OnOk result (Appends (W.contents self.old.inner) (W.contents self.new.inner) piece.now) }
     {
         if self.inner.write_all(piece).is_err() {
             self.faults = self.faults.saturating_add(1);
