@@ -17,4 +17,3 @@ mod span;
 pub use place::Place;
 pub use query::{Query, next_query};
 pub use screen::Screen;
-pub use span::Span;

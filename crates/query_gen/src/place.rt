@@ -1,11 +1,11 @@
 //! Where one part of the candidates is searched.
 
-ghost use Rattle.std.specs.Prelude.{◌≡◌, ◌+◌, ◌-◌, ◌≤◌, ◌/◌, IfOk, length, replicate, vec_len};
+ghost use Rattle.std.specs.Prelude.{ℕ, ◌≡◌, ◌+◌, ◌-◌, ◌≤◌, ◌/◌, IfOk, length, replicate, vec_len};
 ghost use Rattle.language.specs.Language.{candidates};
 ghost use Rattle.language.specs.Answers.{IsNetwork};
 ghost use Rattle.bias_store.specs.KeptSet.{IsMadeFor as IsKeptOf};
 ghost use Rattle.query_gen.specs.Marks.{AreMarksFor, MarksHold};
-ghost use Rattle.query_gen.specs.Parts.{IsSearched};
+ghost use Rattle.query_gen.specs.Parts.{IsSearched, searched_from, searched_end};
 
 use crate::part::search_part;
 use crate::query::Query;
@@ -28,7 +28,7 @@ pub struct Place {
     /// What the kept candidates of the part say.
     pub answer: Query,
     /// Which of them were searched for.
-    pub searched: Span,
+    pub(crate) searched: Span,
 }
 
 impl Place {
@@ -36,6 +36,7 @@ impl Place {
     pub fn new(alloc: Global, lang: &Language) -> Result<Place, Memory>
         ensures marks { IfOk result (λ p. p.marks.items ≡ replicate ((length (candidates lang.now) + 7) / 8) 0) }
         ensures answer { IfOk result (λ p. p.answer ≡ Query.AllImplied) }
+        ensures unsearched { IfOk result (λ p. (first end : ℕ) → searched_end p end ≤ searched_from p first) }
     {
         let work = Work::new(alloc, lang)?;
         let size = lang.candidates().div_ceil(8) as usize;

@@ -2,9 +2,9 @@ ghost use Rattle.std.specs.Prelude.{◌≡◌, min};
 
 /// The numbers of candidates from the least to the greatest. There are none where the greatest is below the least.
 #[derive(Clone, Copy, Debug, PartialEq, Eq)]
-pub struct Span {
-    pub least: u32,
-    pub greatest: u32,
+pub(crate) struct Span {
+    pub(crate) least: u32,
+    pub(crate) greatest: u32,
 }
 
 impl Span {
