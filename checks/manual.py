@@ -3,8 +3,9 @@
 
 usage: checks/manual.py
 
-man/acquire.1 is what tools/manual.py makes of docs/formats.md. The help and the completions are held to its two tables: which
-commands there are, which options each takes, and which values. The completion for bash is asked by bash itself; where zsh isn't
+The commands of docs/formats.md are those whose words the program takes. man/acquire.1 is what tools/manual.py makes of
+docs/formats.md. The help and the completions are held to its two tables: which commands there are, which options each takes, and
+which values. The completion for bash is asked by bash itself; where zsh isn't
 there, that for zsh is only read.
 """
 
@@ -49,6 +50,13 @@ class Words:
         self.options = {name.strip("`"): value for name, value, _ in rows(words, "| option | value | where it isn't given |")}
         self.plans = re.findall("`([a-z]+)`", self.options["--plan"].split(":")[0])
         self.usage = re.search("(?m)^usage: .*$", words)[0]
+
+
+def program_faults(words):
+    """Which words the program takes for a command."""
+    taken = re.findall(r'"([a-z]+)" => Some\(CommandName::', text_of("crates/acq_words/src/request.rt"))
+    if sorted(taken) != sorted(words.commands):
+        yield f"the program takes {taken}, and docs/formats.md has {list(words.commands)}"
 
 
 def help_faults(words):
@@ -137,7 +145,7 @@ def manual_faults(words):
 def main():
     words = Words()
     failed = 0
-    parts = {"man/acquire.1": manual_faults, "help": help_faults, "bash": bash_faults, "zsh": zsh_faults}
+    parts = {"program": program_faults, "man/acquire.1": manual_faults, "help": help_faults, "bash": bash_faults, "zsh": zsh_faults}
     for name, faults in parts.items():
         found = list(faults(words))
         failed += bool(found)

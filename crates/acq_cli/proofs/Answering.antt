@@ -3,7 +3,7 @@ use Rattle.acq_cli.proofs.Prelude.{◌≡◌, ◌∙◌, ℕ, zero, suc, ◌+◌
 use Rattle.acq_io.specs.Lines.{newline}
 use Rattle.acq_io.proofs.LineLemmas.{line_of-line}
 use Rattle.query_gen.specs.declared.query.Query.{Query}
-use Rattle.query_gen.specs.declared.query.Query.TheVariants.{Ask, AllImplied, Undecided}
+use Rattle.query_gen.specs.declared.query.Query.TheVariants.{Ask, Undecided}
 use Rattle.session_laws.proofs.Counted.{answers_are_at_most}
 
 -- ---- how a run ends where nothing is put

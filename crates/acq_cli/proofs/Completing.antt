@@ -1,5 +1,5 @@
 -- When a command comes to its own end.
-use Rattle.acq_cli.proofs.Prelude.{none_placed, Acquires, AllFault, Answer, Bool, Candidate, Closing, Command, Completes, Demos, DiskOf, Does, Drove, Ending, EndsExactly, Err, Event, Gathered, Gives, HasEnded, HasFound, HasRecordsLeft, HasWritten, HavePlaces, SaysOpened, Idle, IfOk, IfSome, IsAffordable, IsBrokenOff, IsEnough, IsLanguage, IsLeftOpen, IsReached, IsRefusal, IsVocabulary, Language, List, NetFault, None, Ok, Opened, OpensAs, Option, Plan, PlaysOn, Quacq, RanTo, ReadOnce, ReadsTarget, ReadsVocabulary, SaysRefusal, Result, SFault, Saying, SaysNoNetwork, SaysUnplayed, Some, Terms, Tries, Turns, Undecided, Unsaid, UsageFault, [], all_of, answers_fit, ap, append-nil, arith, closing_of, cond, drop, ending_of, err_ok, false, fine, fine_long, first_line_of, gathered, gives_got, holds_none, inl, input_end, inr, length, line_turn, long_one, most_answers, nat_le, net_turn, network_of, not_refused, okay, one_language, option_map, point_of, ran, refl, refusal_of_vocabulary, refuses_end, replay_on, same_fine, same_ok, same_session, standing_on, subst, sym, terms_with, transport, true, whole_of, ℕ, ⊎_elim, ⊎_map, ◌+◌, ◌∙◌, ◌≡◌, ◌≤◌, ◌⊎◌}
+use Rattle.acq_cli.proofs.Prelude.{none_placed, Acquires, Answer, Candidate, Closing, Command, Completes, Demos, DiskOf, Does, Drove, Ending, EndsExactly, Err, Event, HasEnded, HasFound, HasRecordsLeft, HasWritten, HavePlaces, SaysOpened, IfOk, IfSome, IsAffordable, IsBrokenOff, IsEnough, IsLanguage, IsLeftOpen, IsReached, IsRefusal, IsVocabulary, Language, List, NetFault, Ok, Opened, OpensAs, Option, Plan, PlaysOn, Quacq, RanTo, ReadOnce, ReadsTarget, ReadsVocabulary, Result, SFault, Saying, SaysNoNetwork, SaysUnplayed, Some, Terms, Tries, Turns, Undecided, Unsaid, UsageFault, [], all_of, answers_fit, ap, append-nil, arith, closing_of, ending_of, err_ok, false, fine, first_line_of, gives_got, inl, input_end, inr, length, line_turn, most_answers, net_turn, network_of, not_refused, okay, one_language, point_of, refl, refusal_of_vocabulary, same_fine, same_ok, same_session, standing_on, subst, sym, terms_with, transport, whole_of, ℕ, ⊎_elim, ⊎_map, ◌+◌, ◌∙◌, ◌≡◌, ◌≤◌, ◌⊎◌}
 use Rattle.acq_said.proofs.Exactly.{RunsOn}
 use Rattle.acq_io.specs.declared.streams.Put.TheVariants as put
 use Rattle.acq_words.specs.declared.request.Command.TheVariants as command
@@ -8,9 +8,9 @@ use Rattle.session_store.proofs.Fronts.{replay_is_state}
 use Rattle.acq_loop.specs.declared.driving.Drove.TheVariants as drove
 use Rattle.acq_loop.specs.declared.ending.Ending.TheVariants as ending
 use Rattle.acq_cli.proofs.Answering.{AnswersEach, EndsItself, HasLines, AsMany, ends_itself, lines_answer, network_answers}
+use Rattle.acq_cli.proofs.Closed.{closed_none, gives_rest, target_left}
 use Rattle.acq_cli.proofs.Enough.{generated_is_settled}
 use Rattle.acq_cli.proofs.Exactly.{none_of}
-use Rattle.session_store.specs.Opening.{NotOpened}
 
 -- ---- a run that ends by itself
 
@@ -68,14 +68,6 @@ lines_end l terms start later left written left' written' end bytes lawful place
 no_events_room : (l : Language) → IsLanguage l → HasRecordsLeft l []
 no_events_room l lawful = let fit = answers_fit l lawful in omega (arith, fit)
 
--- what is left after a reading
-gives_rest : (f : List ℕ → Gathered) (left now : Option (List ℕ)) (got : Result (List ℕ) AllFault) (bytes : List ℕ) → Gives f left now got → left ≡ Some bytes → now ≡ Some (f bytes).rest
-gives_rest f left now got bytes gives told = go now (sym (ap (option_map f) told) ∙ gives)
-  where
-    go : (o : Option (List ℕ)) → Some (f bytes) ≡ option_map (gathered got) o → o ≡ Some (f bytes).rest
-    go None e = absurd (let no : ⊥ = cc in no)
-    go (Some rest) e = let same : f bytes ≡ gathered got rest = cc in ap (λ (x : Gathered). let o : Option (List ℕ) = Some x.rest in o) (sym same)
-
 -- ---- `try`
 
 module _ (terms : Terms) (left written left' written' : Option (List ℕ)) (bytes : List ℕ) (from : left ≡ Some bytes) (line : List ℕ) (l : Language) (first : (first_line_of 4194304 bytes).got ≡ Ok line) (read : IsVocabulary line l)
@@ -102,15 +94,6 @@ module _ (terms : Terms) (left written left' written' : Option (List ℕ)) (byte
 
 -- ---- the commands over a journal
 
--- nothing is left of what was read to the end
-none_left : (bytes got : List ℕ) → (all_of 4194304 bytes).got ≡ fine got → (all_of 4194304 bytes).rest ≡ []
-unfolding all_of
-none_left bytes got is = go (nat_le (length bytes) 4194304) is
-  where
-    go : (b : Bool) → (cond b (gathered (fine bytes) []) (gathered long_one (drop (4194304 + 1) bytes))).got ≡ fine got → (cond b (gathered (fine bytes) []) (gathered long_one (drop (4194304 + 1) bytes))).rest ≡ []
-    go true e = refl
-    go false e = absurd (fine_long got (sym e))
-
 none_stale : (t : List Answer) → t ≡ [] → 1 ≤ length t → ⊥
 none_stale t none some = let few : length t ≡ 0 = ap length none in omega (arith, few, some)
 
@@ -123,7 +106,7 @@ target_end : (l : Language) (terms : Terms) (start later : List Event) (left res
     Tries (net_turn target false) l terms start later rest written left' written' end → (m : ℕ) × (end ≡ ending.Converged m)
 target_end l terms start later left rest written left' written' end bytes target own lawful places from room is affordable reads agreed calm tries =
     let got = gives_got (all_of 4194304) left rest (fine reads.bytes) bytes reads.gives from in
-    let nothing : rest ≡ Some [] = gives_rest (all_of 4194304) left rest (fine reads.bytes) bytes reads.gives from ∙ ap (λ (x : List ℕ). let o : Option (List ℕ) = Some x in o) (none_left bytes reads.bytes got) in
+    let nothing : rest ≡ Some [] = target_left l left rest target bytes reads from in
     let both : networked own ≡ networked target = sym is ∙ ap (network_of l) (whole_of 4194304 bytes reads.bytes got) ∙ reads.is in
     let same : own ≡ target = cc in
     ⊎_elim (λ converged. converged) (λ collapsed. absurd (agreed collapsed.0 collapsed.1))
@@ -132,13 +115,9 @@ target_end l terms start later left rest written left' written' end bytes target
 -- ---- the commands
 
 module _ {D : Type 0} (disk : DiskOf D) (once : ReadOnce) (left written left' written' : Option (List ℕ)) (old new : D) (end : Ending) (calm : IsBrokenOff end → ⊥) where
-  -- a journal that isn't opened holds no session
-  closed_none : (file : List ℕ) (o : Opened) (fault : SFault) (said : Result Saying Unsaid) → NotOpened file fault → SaysOpened file o → SaysRefusal fault said → HasWritten said written written' (okay end) → ⊥
-  closed_none file o fault said why held refuses has = ⊎_elim calm (λ is. holds_none once file fault o (is.0, why) held) (refuses_end fault said written written' end refuses has)
-
   run_completes : (budget : ℕ) → RunsOn disk budget left written left' written' old new (okay end) → Completes (command.Run budget) left (disk.content old) end
   run_completes budget (inl (said, over, has)) = λ bytes from file told o held room enough.
-      absurd (closed_none file o over.says.0 said (subst (OpensAs file) over.says.1 (over.opens file told)) held over.says.2 has)
+      absurd (closed_none once written written' end calm file o over.says.0 said (subst (OpensAs file) over.says.1 (over.opens file told)) held over.says.2 has)
   run_completes budget (inr on) = λ bytes from file told o held room enough.
       let session = on.some.1.session in
       let Enough : Opened → Type 0 = λ x. HasRecordsLeft x.lang x.events × IsEnough x.lang (terms_with x.plan budget) x.events bytes in
@@ -148,7 +127,7 @@ module _ {D : Type 0} (disk : DiskOf D) (once : ReadOnce) (left written left' wr
   -- a session without answers, and with a network, comes to a run
   played_none : (bytes file : List ℕ) → left ≡ Some bytes → (said : Result Saying Unsaid) → HasWritten said written written' (okay end) → (o : Opened) (target : List Candidate) → SaysOpened file o → standing_on o.lang o.events ≡ [] → network_of o.lang bytes ≡ Ok target →
       (opening : Result Opened SFault) → OpensAs file opening → SaysUnplayed left left' opening said → ⊥
-  played_none bytes file from said has o target held fresh is (Err fault) opens says = closed_none file o fault said opens held says.0 has
+  played_none bytes file from said has o target held fresh is (Err fault) opens says = closed_none once written written' end calm file o fault said opens held says.0 has
   played_none bytes file from said has o target held fresh is (Ok x) opens says =
       let So : Opened → Type 0 = λ y. (standing_on y.lang y.events ≡ []) × (network_of y.lang bytes ≡ Ok target) in
       let so = subst So (same_session file o x held opens) (fresh, is) in

@@ -1,5 +1,5 @@
 -- What a command that has ended tells of the bytes of the input and of the file, exactly.
-use Rattle.acq_cli.proofs.Prelude.{AllFault, Asks, AsksTruly, Candidate, Command, ConfirmsExactly, DiskOf, Does, Drove, Ending, EndsAsMade, EndsAsOpened, EndsExactly, EndsPlaying, Err, ForSome, HasWritten, IfOk, IsBrokenOff, IsCheck, IsJudged, IsMaking, IsReading, IsSaid, IsVocabulary, Language, List, MakesOf, NetFault, News, None, Ok, Opened, OpensAs, Option, Plan, PlaysExactly, PlaysOn, ReadOnce, Result, SFault, SaidSo, Saying, SaysNoNetwork, SaysOfInput, SaysSo, SaysUnplayed, Some, Unsaid, UsageFault, [], all_of, ap, arith, asked_said, back_ends, checked_said, codes, cond, ending_of, ends_said, fine, get_or, gives_got, inl, input_end, inr, is_own, json_of, length, long_one, made_said, network_of, network_of_items, not_refused, ok_or, okay, one_language, only_long, opens_once, over_ends, read_own, refl, refuses_end, saying, silently, solve_ends, standing_on, subst, sym, take, target_refused, too_many, transport, true, untold, whole_of, ℕ, ⊎_elim, ⊎_map, ◌++◌, ◌∙◌, ◌∷◌, ◌≡◌, ◌⊎◌, MatchResult}
+use Rattle.acq_cli.proofs.Prelude.{AllFault, Asks, AsksTruly, Candidate, Command, ConfirmsExactly, DiskOf, Does, Ending, EndsAsMade, EndsAsOpened, EndsExactly, EndsPlaying, Err, ForSome, HasWritten, IfOk, IsBrokenOff, IsCheck, IsJudged, IsMaking, IsReading, IsSaid, IsVocabulary, Language, List, MakesOf, NetFault, News, None, Ok, Opened, OpensAs, Option, Plan, PlaysExactly, PlaysOn, ReadOnce, Result, SFault, SaidSo, Saying, SaysNoNetwork, SaysOfInput, SaysOpened, SaysSo, SaysUnplayed, Some, Unsaid, UsageFault, [], all_of, ap, arith, asked_said, back_ends, checked_said, codes, cond, ends_said, false, fine, get_or, gives_got, inl, input_end, inr, is_own, json_of, length, line_turn, long_one, made_said, net_turn, network_of, network_of_items, not_refused, ok_or, okay, one_language, only_long, opens_once, over_ends, read_own, refl, refuses_end, same_session, saying, silently, solve_ends, standing_on, subst, sym, take, target_refused, terms_with, too_many, transport, true, untold, whole_of, ℕ, ⊎_elim, ⊎_map, ◌++◌, ◌∙◌, ◌∷◌, ◌≡◌, ◌⊎◌, MatchResult}
 use Rattle.std.specs.Fmt.{decimal}
 use Rattle.std.proofs.lemmas.Bool.{lt-ltb}
 use Rattle.acq_io.specs.declared.whole.AllFault.TheVariants as long
@@ -19,11 +19,14 @@ use Rattle.session_store.specs.Opening.{JournalNotMade, NotMade}
 use Rattle.session_store.specs.declared.fault.SFault.TheVariants as store
 use Rattle.voc_read.specs.declared.fault.VocFault.TheVariants as vocs
 use Rattle.acq_loop.specs.declared.ending.Ending.TheVariants as ending
-use Rattle.acq_said.proofs.Exactly.{run_ends}
+use Rattle.acq_said.proofs.Exactly.{RunsOn, run_ends}
 use Rattle.acq_said.proofs.SaidOver.{broken_own}
 use Rattle.acq_said.proofs.Spoken.{IsCheckOf, RefusesBy, told_of_bytes}
 use Rattle.acq_said.specs.declared.ask.Ask.{Ask}
 use Rattle.acq_said.specs.declared.ask.Ask.TheVariants as ask
+use Rattle.acq_cli.specs.Closed.{EndsAsRun}
+use Rattle.acq_cli.specs.Commands.{RunsExactly}
+use Rattle.acq_cli.proofs.Closed.{closed_none, demos_exactly, ends_as_run, target_left, tries_exactly}
 
 -- ---- `new`: there is one making
 
@@ -171,38 +174,52 @@ unbroken end calm ends = ⊎_elim (λ broken. absurd (calm broken)) (λ holds. h
 
 module _ {D : Type 0} (disk : DiskOf D) (once : ReadOnce) (left written left' written' : Option (List ℕ)) (old new : D) (end : Ending) where
   -- by what the input is, where no answers stand
-  abbrev EndsBy : Result (List Candidate) NetFault → Type 0
-  EndsBy read = MatchResult read (λ target. (how : Drove) × (ending_of how ≡ Ok end)) (λ f. end ≡ ending.TargetRefused f)
+  abbrev EndsBy : (budget : ℕ) → Opened → Result (List Candidate) NetFault → Type 0
+  EndsBy budget o read = MatchResult read (λ target. EndsAsRun (net_turn target false) o.lang (terms_with o.plan budget) o.events [] end) (λ f. end ≡ ending.TargetRefused f)
 
   -- where it didn't come to a run
-  unplayed_ends : (bytes file : List ℕ) → left ≡ Some bytes → (said : Result Saying Unsaid) → HasWritten said written written' (okay end) → (opening : Result Opened SFault) → OpensAs file opening → SaysUnplayed left left' opening said →
-      IsBrokenOff end ⊎ (Opens file opening × EndsPlaying bytes opening end)
-  unplayed_ends bytes file from said has (Err f) opens (refuses, unread) = ⊎_map (λ broken. broken) (λ is. ((is.0, opens), is.1)) (refuses_end f said written written' end refuses has)
-  unplayed_ends bytes file from said has (Ok o) opens (inl (some, is, unread)) = inr (opens, inl (some, ends_said (stale_said (length (standing_on o.lang o.events))) said written written' end is has))
-  unplayed_ends bytes file from said has (Ok o) opens (inr (fresh, says)) =
+  unplayed_ends : (budget : ℕ) (bytes file : List ℕ) → left ≡ Some bytes → (said : Result Saying Unsaid) → HasWritten said written written' (okay end) → (opening : Result Opened SFault) → OpensAs file opening → SaysUnplayed left left' opening said →
+      IsBrokenOff end ⊎ (Opens file opening × EndsPlaying budget bytes opening end)
+  unplayed_ends budget bytes file from said has (Err f) opens (refuses, unread) = ⊎_map (λ broken. broken) (λ is. ((is.0, opens), is.1)) (refuses_end f said written written' end refuses has)
+  unplayed_ends budget bytes file from said has (Ok o) opens (inl (some, is, unread)) = inr (opens, inl (some, ends_said (stale_said (length (standing_on o.lang o.events))) said written written' end is has))
+  unplayed_ends budget bytes file from said has (Ok o) opens (inr (fresh, says)) =
       ⊎_map (λ broken. broken)
       (λ untaken.
       let none = none_of o.lang bytes said untaken in
-      (opens, inr (fresh, subst EndsBy (sym none.1) (ends_said (target_refused none.0) said written written' end none.2 has))))
+      (opens, inr (fresh, subst (EndsBy budget o) (sym none.1) (ends_said (target_refused none.0) said written written' end none.2 has))))
       (input_end 4194304 (SaysNoNetwork o.lang) left left' written written' said end bytes from says has)
 
-  play_ends : (budget : ℕ) → PlaysOn disk budget left written left' written' old new (okay end) → ForSome left (λ bytes. ForSome (disk.content old) (λ file. IsBrokenOff end ⊎ PlaysExactly bytes file end))
-  play_ends budget plays = λ bytes from file told. ⊎_map (λ broken. broken) (λ so. record { opening = so.0; there = so.1; only = λ other also. opens_once once file other so.0 also so.1; is = so.2 }) (go bytes from file told plays)
+  play_ends : (IsBrokenOff end → ⊥) → (budget : ℕ) → PlaysOn disk budget left written left' written' old new (okay end) → ForSome left (λ bytes. ForSome (disk.content old) (λ file. IsBrokenOff end ⊎ PlaysExactly budget bytes file end))
+  play_ends calm budget plays = λ bytes from file told. ⊎_map (λ broken. broken) (λ so. record { opening = so.0; there = so.1; only = λ other also. opens_once once file other so.0 also so.1; is = so.2 }) (go bytes from file told plays)
     where
-      go : (bytes : List ℕ) → left ≡ Some bytes → (file : List ℕ) → disk.content old ≡ Some file → PlaysOn disk budget left written left' written' old new (okay end) → IsBrokenOff end ⊎ ((opening : Result Opened SFault) × Opens file opening × EndsPlaying bytes opening end)
-      go bytes from file told (inl (said, over, has)) = ⊎_map (λ broken. broken) (λ so. (over.opening, so.0, so.1)) (unplayed_ends bytes file from said has over.opening (over.opens file told) over.says)
+      go : (bytes : List ℕ) → left ≡ Some bytes → (file : List ℕ) → disk.content old ≡ Some file → PlaysOn disk budget left written left' written' old new (okay end) → IsBrokenOff end ⊎ ((opening : Result Opened SFault) × Opens file opening × EndsPlaying budget bytes opening end)
+      go bytes from file told (inl (said, over, has)) = ⊎_map (λ broken. broken) (λ so. (over.opening, so.0, so.1)) (unplayed_ends budget bytes file from said has over.opening (over.opens file told) over.says)
       go bytes from file told (inr played) =
           let on = played.on in
           let whole : bytes ≡ played.reads.bytes = whole_of 4194304 bytes played.reads.bytes (gives_got (all_of 4194304) left left' (fine played.reads.bytes) bytes played.reads.gives from) in
-          inr (Ok on.of, on.opens file told, inr (played.fresh, subst EndsBy (sym (ap (network_of on.of.lang) whole ∙ played.reads.is)) (on.tries.how, on.tries.is)))
+          let ran = ends_as_run (net_turn played.target false) on.of.lang (terms_with on.of.plan budget) on.of.events on.later left' written left' written' end calm on.tries [] (target_left on.of.lang left left' played.target bytes played.reads from) in
+          inr (Ok on.of, on.opens file told, inr (played.fresh, subst (EndsBy budget on.of) (sym (ap (network_of on.of.lang) whole ∙ played.reads.is)) ran))
+
+  -- where a journal isn't opened, none is there to go on from
+  runs_exactly : (IsBrokenOff end → ⊥) → (budget : ℕ) → RunsOn disk budget left written left' written' old new (okay end) → ForSome (disk.content old) (λ file. RunsExactly budget left file end)
+  runs_exactly calm budget runs = λ file told.
+      record { refused = unbroken end calm (run_ends disk once budget left written left' written' old new (okay end) runs file told); goes_on = λ bytes from o held. go file told bytes from o held runs }
+    where
+      Ends : List ℕ → Opened → Type 0
+      Ends bytes o = EndsAsRun line_turn o.lang (terms_with o.plan budget) o.events bytes end
+
+      go : (file : List ℕ) → disk.content old ≡ Some file → (bytes : List ℕ) → left ≡ Some bytes → (o : Opened) → SaysOpened file o → RunsOn disk budget left written left' written' old new (okay end) → Ends bytes o
+      go file told bytes from o held (inl (said, over, has)) = absurd (closed_none once written written' end calm file o over.says.0 said (subst (OpensAs file) over.says.1 (over.opens file told)) held over.says.2 has)
+      go file told bytes from o held (inr on) =
+          subst (Ends bytes) (sym (same_session file o on.of held (on.opens file told))) (ends_as_run line_turn on.of.lang (terms_with on.of.plan budget) on.of.events on.later left written left' written' end calm on.tries bytes from)
 
   asked_ends : (a : Ask) → SaysSo (Asks disk a old new) written written' (okay end) → ForSome (disk.content old) (λ file. IsBrokenOff end ⊎ EndsAsOpened (asked_said a) file end)
   asked_ends a does = over_ends disk (opens_once once) (asked_said a) (AsksTruly a) written written' old new (okay end) does
 
   pub ends_exactly : (IsBrokenOff end → ⊥) → (asked : Result Command UsageFault) → Does disk asked left written left' written' old new (okay end) → IfOk asked (λ c. EndsExactly c left (disk.content old) end)
   ends_exactly calm (Ok (command.New plan)) (said, news, has) = λ bytes from file told. unbroken end calm (new_ends disk plan left written left' written' old new end said has news bytes from file told)
-  ends_exactly calm (Ok (command.Run budget)) does = λ file told. unbroken end calm (run_ends disk once budget left written left' written' old new (okay end) does file told)
-  ends_exactly calm (Ok (command.Play budget)) does = λ bytes from file told. unbroken end calm (play_ends budget does bytes from file told)
+  ends_exactly calm (Ok (command.Run budget)) does = runs_exactly calm budget does
+  ends_exactly calm (Ok (command.Play budget)) does = λ bytes from file told. unbroken end calm (play_ends calm budget does bytes from file told)
   ends_exactly calm (Ok command.Show) does = λ file told. unbroken end calm (asked_ends ask.Show does file told)
   ends_exactly calm (Ok command.Back) does = λ file told. unbroken end calm (back_ends disk written written' old new (opens_once once) (okay end) does file told)
   ends_exactly calm (Ok (command.Reduce budget)) does = λ file told. unbroken end calm (asked_ends (ask.Reduce budget) does file told)
@@ -210,6 +227,6 @@ module _ {D : Type 0} (disk : DiskOf D) (once : ReadOnce) (left written left' wr
   ends_exactly calm (Ok command.Model) does = λ bytes from file told. unbroken end calm (solve_ends disk (opens_once once) left written left' written' old new (okay end) does bytes from file told)
   ends_exactly calm (Ok (command.Certify budget)) does = λ file told. unbroken end calm (asked_ends (ask.Certify budget) does file told)
   ends_exactly calm (Ok command.Check) (said, says, has) = λ bytes from. unbroken end calm (confirm_ends left written left' written' end said says has bytes from)
-  ends_exactly calm (Ok (command.Try plan budget)) does = tt
-  ends_exactly calm (Ok (command.Demo number budget)) does = tt
+  ends_exactly calm (Ok (command.Try plan budget)) does = tries_exactly (terms_with plan budget) left written left' written' end calm does
+  ends_exactly calm (Ok (command.Demo number budget)) does = demos_exactly number budget written written' end does
   ends_exactly calm (Err fault) does = tt

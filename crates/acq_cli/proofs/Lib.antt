@@ -1,6 +1,8 @@
 mod Prelude
 pub mod Causes
 pub mod Asked
+pub mod OneRun
+pub mod Closed
 pub mod Exactly
 pub mod Targets
 pub mod Demoing
@@ -8,6 +10,5 @@ pub mod Answering
 pub mod Completing
 pub mod Enough
 pub mod Room
-pub mod OneRun
 pub mod Headline
 pub mod Speaking

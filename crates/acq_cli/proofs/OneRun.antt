@@ -1,6 +1,7 @@
 -- One run, and one text.
 use Rattle.acq_cli.proofs.Prelude.{AllFault, Assignment, Err, Event, Gathered, IsRefusal, IsTextOfRun, IsVocabulary, Language, List, Next, None, Ok, Option, Puts, Ran, Reply, Result, Runs, Said, Some, TakenBack, Terms, Turned, Turns, VocFault, [], after_text, answer_event, ap, fine, first_line_of, heard_on, inl, inr, line_turn, next_on, not_refused, number_on, one_language, option_map, put_on, ran, refl, refusal_of_vocabulary, refusal_text, same_fine, subst, suc, sym, transport, turned_on, whole_text, zero, ℕ, ◌++◌, ◌∙◌, ◌∷◌, ◌≡◌}
 use Rattle.assign.specs.declared.events.Event.TheVariants as event
+use Rattle.acq_cli.specs.Closed.{IsTrying, Tried}
 use Rattle.acq_cli.specs.OneText.{RunIsOne, TextIsOne}
 
 -- ---- one run
@@ -46,6 +47,18 @@ not_both : (first : Result (List ℕ) AllFault) (fault : VocFault) (line : List 
 not_both first fault line lang is vocabulary refused =
     let told : refusal_of_vocabulary line ≡ Some fault = subst (IsRefusal fault) is refused in
     let none = not_refused line lang vocabulary in cc
+
+-- an input is one thing to `try`
+pub one_trying : (terms : Terms) (first : Gathered) (one other : Result Tried VocFault) → IsTrying terms first one → IsTrying terms first other → one ≡ other
+one_trying terms first (Ok a) (Ok b) (line, got, read, runs) (again, gained, also, goes) =
+    let same : again ≡ line = same_fine again line (sym gained ∙ got) in
+    let lang : b.lang ≡ a.lang = one_language line b.lang a.lang (transport (λ i. IsVocabulary (same i) b.lang) also) read in
+    let run : a.run ≡ b.run = run_once line_turn a.lang terms [] first.rest a.run b.run runs (transport (λ i. Runs line_turn (lang i) terms [] first.rest b.run) goes) in
+    let tried : a ≡ b = (λ i. record { lang = sym lang i; run = run i }) in
+    ap (λ (x : Tried). let r : Result Tried VocFault = Ok x in r) tried
+one_trying terms first (Ok a) (Err f) (line, got, read, runs) refused = absurd (not_both first.got f line a.lang got read refused)
+one_trying terms first (Err f) (Ok b) refused (line, got, read, runs) = absurd (not_both first.got f line b.lang got read refused)
+one_trying terms first (Err f) (Err g) refused also = ap (λ (x : VocFault). let r : Result Tried VocFault = Err x in r) (same_fault first.got f g refused also)
 
 two_runs : (terms : Terms) (first : Gathered) (text other : List ℕ) → IsTextOfRun terms first text → IsTextOfRun terms first other → text ≡ other
 two_runs terms first text other one two =

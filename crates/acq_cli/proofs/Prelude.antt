@@ -68,12 +68,12 @@ pub use Rattle.voc_read.proofs.OneReading.{one_language}
 pub use Rattle.voc_read.proofs.Refused.{not_refused}
 pub use Rattle.voc_read.specs.Vocabulary.{refusal_of_vocabulary}
 pub use Rattle.voc_read.specs.declared.fault.VocFault.{VocFault}
-pub use Rattle.acq_cli.specs.Prelude.{Acquires, Adds, AddsFront, All, AllFault, Answer, AsksTruly, Candidate, Closing, Collapsed, Command, ConfirmsExactly, Converged, DiskOf, Drove, Ending, Event, ForSome, Gives, RunGoesOn, HasFound, HasSameSolutions, SaysOpened, Idle, IfOk, IsAnswer, IsConverged, IsGenerated, IsLanguage, IsNetwork, IsSaid, IsVocabulary, Language, NetFault, OnErr, Opened, Plan, Put, Quacq, Ran, SaysRefusal, Runs, SFault, Said, Saying, SaysOfInput, SaysOver, SaysSo, Scopes, Solves, Terms, Turns, Undecided, Unsaid, UsageFault, agrees, asked_said, candidates, codes, ended_as, ending_line, first_line_of, flat_map, kept, learned_after, learned_in, line_turn, most_answers, net_may_say, net_turn, saying, standing_on, target_of, terms_with, usage_text, variable_count}
+pub use Rattle.acq_cli.specs.Prelude.{Acquires, Adds, AddsFront, All, AllFault, Answer, AsksTruly, Candidate, Closing, Collapsed, Command, ConfirmsExactly, Converged, DiskOf, Drove, Ending, Event, ForSome, Gives, RunGoesOn, HasFound, HasSameSolutions, SaysOpened, Idle, IfOk, IsAnswer, IsConverged, IsCovered, IsGenerated, IsLanguage, IsNetwork, IsSaid, IsVocabulary, Language, NetFault, OnErr, Opened, Plan, Put, Quacq, Ran, SaysRefusal, Runs, SFault, Said, Saying, SaysOfInput, SaysOver, SaysSo, Scopes, Solves, Terms, Turns, Undecided, Unsaid, UsageFault, agrees, asked_said, bound, candidates, closing_text, codes, ended_as, ending_line, first_line_of, flat_map, kept, learned_after, learned_in, line_turn, most_answers, net_may_say, net_turn, saying, standing_on, target_of, terms_with, usage_text, variable_count}
 pub use Rattle.acq_cli.specs.Commands.{EndsExactly}
 pub use Rattle.acq_cli.specs.Completing.{Completes, HasRecordsLeft, IsAffordable, IsAnswerLine, IsEnough}
 pub use Rattle.acq_cli.specs.Demoing.{ClosesQuietly, Demos, HasDriven, IsDemo, SaysSum, demo_text, summary_text}
 pub use Rattle.acq_cli.specs.Doing.{Asks, Does, Spoke}
-pub use Rattle.acq_cli.specs.Headline.{FindsNetwork, FindsNone, IsOfJournal, IsSessionOf}
+pub use Rattle.acq_cli.specs.Headline.{FindsNetwork, FindsNone, IsOfJournal, IsOfNumber, IsSessionOf, LeavesOpen}
 pub use Rattle.acq_cli.specs.Laws.{BudgetIsEnough, GeneratedIsShort, RoomIsLeft}
 pub use Rattle.acq_cli.specs.Playing.{EndsPlaying, IsAnsweredBy, PlaysExactly, PlaysOn, ReadsTarget, SaysNoNetwork, SaysUnplayed, target_refused}
 pub use Rattle.acq_cli.specs.Words.{IsCommandOf, command_in}

@@ -51,4 +51,11 @@ Completes (command.Play budget) left content end =
     ForSome left (λ bytes. ForSome content (λ file. (o : Opened) (target : List Candidate) → SaysOpened file o → HasRecordsLeft o.lang o.events → standing_on o.lang o.events ≡ [] → network_of o.lang bytes ≡ Ok target →
     IsAffordable (net_turn target false) o.lang (terms_with o.plan budget) o.events [] → (m : ℕ) × (end ≡ ending.Converged m)))
 Completes (command.Demo number budget) left content end = 88573 ≤ budget → (m : ℕ) × (end ≡ ending.Converged m)
-Completes c left content end = EndsExactly c left content end
+Completes (command.New plan) left content end = EndsExactly (command.New plan) left content end
+Completes command.Show left content end = EndsExactly command.Show left content end
+Completes command.Back left content end = EndsExactly command.Back left content end
+Completes (command.Reduce budget) left content end = EndsExactly (command.Reduce budget) left content end
+Completes command.Cnf left content end = EndsExactly command.Cnf left content end
+Completes command.Model left content end = EndsExactly command.Model left content end
+Completes (command.Certify budget) left content end = EndsExactly (command.Certify budget) left content end
+Completes command.Check left content end = EndsExactly command.Check left content end

@@ -1,5 +1,5 @@
 -- What `demo` has done.
-use Rattle.std.specs.Prelude.{◌++◌, ◌+◌, ◌∷◌, ◌≡◌, ◌⊎◌}
+use Rattle.std.specs.Prelude.{◌++◌, ◌∷◌, ◌≡◌, ◌⊎◌}
 use Rattle.acq_cli.specs.Prelude.{Adds, AddsFront, Candidate, Closing, Converged, Drove, Ending, Err, Event, HasFound, IfOk, IsGenerated, IsSaid, Language, List, MatchResult, Option, Put, Quacq, Ran, Result, Runs, Saying, Terms, Undecided, Unsaid, [], candidates, codes, decimal, ending_line, learned_after, length, net_turn, saying, standing_on, target_of, terms_with, true, variable_count, ℕ}
 use Rattle.acq_said.specs.declared.said.Unsaid.TheVariants as unsaid
 use Rattle.acq_cli.specs.Playing.{IsAnsweredBy}

@@ -1,5 +1,6 @@
 pub mod Prelude
 pub mod Words
+pub mod Closed
 pub mod Playing
 pub mod Demoing
 pub mod Doing

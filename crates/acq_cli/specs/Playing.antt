@@ -1,8 +1,9 @@
 -- What `play` has done.
-use Rattle.std.specs.Prelude.{◌++◌, ◌+◌, ◌∷◌, ◌≡◌, ◌≢◌, ◌≤◌, ◌⊎◌}
-use Rattle.acq_cli.specs.Prelude.{AllFault, Answer, Candidate, DiskOf, Drove, Ending, Err, Gives, RunGoesOn, HasSameSolutions, IfOk, IsNetwork, IsSaid, IsTrue, Language, List, MatchResult, NetFault, Ok, Opened, Opens, Option, Put, SaysRefusal, Result, SFault, Saying, SaysOfInput, SaysOver, SaysSo, Terms, Unsaid, [], agrees, all_of, codes, decimal, ending_of, false, learned_after, length, net_fault_text, net_may_say, net_turn, network_of, saying, standing_on, terms_with, ℕ}
+use Rattle.std.specs.Prelude.{◌++◌, ◌∷◌, ◌≡◌, ◌≢◌, ◌≤◌, ◌⊎◌}
+use Rattle.acq_cli.specs.Prelude.{AllFault, Answer, Candidate, DiskOf, Ending, Err, Gives, RunGoesOn, HasSameSolutions, IfOk, IsNetwork, IsSaid, IsTrue, Language, List, MatchResult, NetFault, Ok, Opened, Opens, Option, Put, SaysRefusal, Result, SFault, Saying, SaysOfInput, SaysOver, SaysSo, Terms, Unsaid, [], agrees, all_of, codes, decimal, false, learned_after, length, net_fault_text, net_may_say, net_turn, network_of, saying, standing_on, terms_with, ℕ}
 use Rattle.network.specs.declared.fault.NetFault.TheVariants as net
 use Rattle.acq_loop.specs.declared.ending.Ending.TheVariants as ending
+use Rattle.acq_cli.specs.Closed.{EndsAsRun}
 
 -- ---- The target
 
@@ -57,20 +58,20 @@ module _ {D : Type 0} (disk : DiskOf D) where
   PlaysOn budget left written left' written' old new got =
       SaysSo (SaysOver disk (SaysUnplayed left left') (λ o. Unit {0}) old new) written written' got ⊎ IsPlayed budget left written left' written' old new got
 
--- ---- Exactly when it refuses
+-- ---- Exactly how it ends
 
 -- A journal is refused for what its bytes say, answers are told where some stand, and a target is refused where none do, for what the
--- input's bytes say. Else it ends as a run does.
-abbrev pub EndsPlaying : (bytes : List ℕ) → Result Opened SFault → Ending → Type 0
-EndsPlaying bytes (Err f) end = end ≡ ending.JournalRefused f
-EndsPlaying bytes (Ok o) end =
+-- input's bytes say. Else it ends as the run that goes on from there, in which the target gives each answer.
+abbrev pub EndsPlaying : (budget : ℕ) → (bytes : List ℕ) → Result Opened SFault → Ending → Type 0
+EndsPlaying budget bytes (Err f) end = end ≡ ending.JournalRefused f
+EndsPlaying budget bytes (Ok o) end =
     let t = standing_on o.lang o.events in
     ((1 ≤ length t) × (end ≡ ending.NotFresh (length t)))
-    ⊎ ((t ≡ []) × MatchResult (network_of o.lang bytes) (λ target. (how : Drove) × (ending_of how ≡ Ok end)) (λ f. end ≡ ending.TargetRefused f))
+    ⊎ ((t ≡ []) × MatchResult (network_of o.lang bytes) (λ target. EndsAsRun (net_turn target false) o.lang (terms_with o.plan budget) o.events [] end) (λ f. end ≡ ending.TargetRefused f))
 
 -- of what the file opens with, which is nothing else
-pub record PlaysExactly (bytes file : List ℕ) (end : Ending) : Type 0 where
+pub record PlaysExactly (budget : ℕ) (bytes file : List ℕ) (end : Ending) : Type 0 where
   pub opening : Result Opened SFault
   pub there : Opens file opening
   pub only : (other : Result Opened SFault) → Opens file other → other ≡ opening
-  pub is : EndsPlaying bytes opening end
+  pub is : EndsPlaying budget bytes opening end

@@ -1,23 +1,24 @@
 -- The names from outside that these definitions use, passed on from one place. Declares nothing.
 pub use Rattle.acq_loop.specs.Prelude.{All, NoneAgrees, Said, TakesSome, WalkEnd, flat_map, kept, plain_size}
-pub use Rattle.acq_said.specs.Prelude.{Adds, AddsFront, AllFault, Answer, At, Bool, Candidate, Closing, Converged, DiskOf, Drove, Ending, Err, Event, ForSome, Gives, HasSameSolutions, SaysOpened, Idle, IfOk, IsConverged, IsNetwork, IsTrue, IsVocabulary, Language, List, MatchResult, Ok, OnErr, Opened, Opens, Option, Plan, Put, Quacq, Ran, RefusesOpening, Result, Runs, SFault, Scopes, Some, Terms, Turns, [], agrees, all_of, candidates, codes, decimal, ending_line, ending_of, false, first_line_of, learned_in, length, line_turn, network_text, standing_on, state_after, terms_with, true, variable_count, ℕ}
+pub use Rattle.acq_said.specs.Prelude.{Adds, AddsFront, AllFault, Answer, Assignment, At, Bool, Candidate, Closing, Converged, DiskOf, Drove, Ending, Err, Event, ForSome, Gathered, Gives, HasSameSolutions, SaysOpened, Idle, IfOk, IsConverged, IsCovered, IsNetwork, IsTrue, IsVocabulary, Language, List, MatchResult, Ok, OnErr, Opened, Opens, Option, Plan, Put, Quacq, Ran, RefusesOpening, Result, Runs, SFault, Scopes, Some, Terms, Told, Turns, VocFault, [], agrees, all_of, candidates, codes, decimal, ending_line, ending_of, false, first_line_of, learned_in, length, line_turn, network_text, standing_on, state_after, terms_with, true, variable_count, ℕ}
 pub use Rattle.acq_io.specs.Lines.{LacksNewline, newline}
-pub use Rattle.acq_loop.specs.Driven.{HasFound}
+pub use Rattle.acq_loop.specs.Added.{IsAdded}
+pub use Rattle.acq_loop.specs.Driven.{HasFound, IsLeftOpen}
 pub use Rattle.acq_loop.specs.Program.{ended_as}
-pub use Rattle.acq_loop.specs.Run.{Collapsed, Undecided}
-pub use Rattle.acq_loop.specs.Texts.{learned_after, usage_text}
+pub use Rattle.acq_loop.specs.Run.{Collapsed, JournalFull, LineTooLong, Suspended, Undecided, Unreadable}
+pub use Rattle.acq_loop.specs.Texts.{closing_text, learned_after, usage_text}
 pub use Rattle.acq_said.specs.Asks.{AsksTruly, asked_said}
 pub use Rattle.acq_said.specs.Confirming.{ConfirmsExactly, IsCheck, checked_said}
 pub use Rattle.acq_said.specs.Inputs.{SaysOfInput}
 pub use Rattle.acq_said.specs.Journals.{SaysRefusal}
-pub use Rattle.acq_said.specs.Making.{IsMaking, News, made_said}
+pub use Rattle.acq_said.specs.Making.{IsMaking, News, made_said, voc_refused}
 pub use Rattle.acq_said.specs.Over.{EndsAsOpened, EndsAsSaid, SaysOver}
 pub use Rattle.acq_said.specs.Running.{RunGoesOn}
 pub use Rattle.acq_said.specs.Said.{HasWritten, IsSaid, SaysSo}
 pub use Rattle.acq_said.specs.Saying.{Saying, saying}
 pub use Rattle.acq_said.specs.Solving.{Solves, solved_said}
 pub use Rattle.acq_said.specs.TakingBack.{HasTakenBack, back_said}
-pub use Rattle.acq_said.specs.Trying.{Acquires, IsWholeText}
+pub use Rattle.acq_said.specs.Trying.{Acquires, IsRefusal, IsWholeText}
 pub use Rattle.acq_said.specs.declared.ask.Ask.{Ask}
 pub use Rattle.acq_said.specs.declared.said.Unsaid.{Unsaid}
 pub use Rattle.acq_words.specs.Request.{Contents, request_of_words}
@@ -29,7 +30,7 @@ pub use Rattle.language.specs.Language.{IsLanguage}
 pub use Rattle.network.specs.FaultTexts.{net_fault_text}
 pub use Rattle.network.specs.Target.{network_of}
 pub use Rattle.network.specs.declared.fault.NetFault.{NetFault}
-pub use Rattle.session_laws.specs.Bound.{most_answers}
+pub use Rattle.session_laws.specs.Bound.{bound, most_answers}
 pub use Rattle.session_store.specs.Replay.{IsAnswer}
 pub use Rattle.target_oracle.specs.Generator.{IsGenerated, target_of}
 pub use Rattle.target_oracle.specs.NetTurns.{net_may_say, net_turn}

@@ -25,7 +25,7 @@ ghost use Rattle.acq_said.specs.Said.{HasWritten};
 ghost use Rattle.acq_said.specs.Saying.{saying};
 ghost use Rattle.acq_cli.specs.Commands.{EndsExactly};
 ghost use Rattle.acq_cli.specs.Doing.{Does};
-ghost use Rattle.acq_cli.specs.Headline.{FindsNetwork, FindsNone};
+ghost use Rattle.acq_cli.specs.Headline.{FindsNetwork, FindsNone, LeavesOpen};
 ghost use Rattle.acq_cli.specs.Completing.{Completes};
 ghost use Rattle.acq_cli.specs.Words.{IsCommandOf, Spares, command_asked};
 ghost use Rattle.acq_loop.specs.Texts.{refusal_text, usage_text};
@@ -256,7 +256,7 @@ fn perform<R: Threads + Sync, S: Source, K: Sink, D: Disk, G: Gate>(
     gate: &G,
 ) -> Result<Ending, Put>
     ensures does { Does D.Disk (command_asked (map string_bytes words.now)) (S.left input.old) (K.written out.old) (S.left input.new) (K.written out.new) disk.old disk.new result }
-    ensures spares { Spares (command_asked (map string_bytes words.now)) (S.left input.old) (S.left input.new) disk.old disk.new }
+    ensures spares { Spares (command_asked (map string_bytes words.now)) S.left input.old input.new disk.old disk.new }
     ensures causes { TellsCauses (S.faults input.old) (S.faults input.new) (S.late input.old) (S.late input.new) (K.faults out.old) (K.faults out.new) (D.faults disk.old) (D.faults disk.new) (ended_as result) }
 {
     let command = match command_asked(alloc, words) {
@@ -310,12 +310,13 @@ pub fn acquire<R: Threads + Sync, S: Source, K: Sink, D: Disk, G: Gate>(
     gate: &G,
 ) -> Ending
     // where it converges, the learned network agrees with each answer and has the solutions of every network that does; where it
-    // collapses, none agrees
+    // collapses, none agrees; where it is undecided, no search under the budget finds a question, and some are larger than it
     ensures converged { (m : ℕ) → result ≡ Ending.Converged m → FindsNetwork (command_asked (map string_bytes words.now)) (S.left input.old) (D.content disk.old) (K.written out.new) m }
     ensures collapsed { (m : ℕ) → result ≡ Ending.Collapsed m → FindsNone (command_asked (map string_bytes words.now)) (S.left input.old) (D.content disk.old) m }
+    ensures undecided { (m : ℕ) → result ≡ Ending.Undecided m → LeavesOpen (command_asked (map string_bytes words.now)) (S.left input.old) (D.content disk.old) (K.written out.new) m }
     ensures does { (got : _) × (result ≡ ended_as got)
         × Does D.Disk (command_asked (map string_bytes words.now)) (S.left input.old) (K.written out.old) (S.left input.new) (K.written out.new) disk.old disk.new got }
-    ensures spares { Spares (command_asked (map string_bytes words.now)) (S.left input.old) (S.left input.new) disk.old disk.new }
+    ensures spares { Spares (command_asked (map string_bytes words.now)) S.left input.old input.new disk.old disk.new }
     ensures refuses { (fault : UsageFault)
         → (command_asked (map string_bytes words.now) ≡ Err fault → (got : _) × (result ≡ ended_as got) × HasWritten (Ok (saying usage_text (Ending.Usage fault))) (K.written out.old) (K.written out.new) got)
         × (result ≡ Ending.Usage fault → command_asked (map string_bytes words.now) ≡ Err fault) }

@@ -1,4 +1,4 @@
-use Rattle.acq_cli.proofs.Prelude.{List, [], ap, candidates, codes, saying, ℕ, ◌++◌, ◌∙◌, ◌∷◌}
+use Rattle.acq_cli.proofs.Prelude.{List, [], ap, codes, saying, ℕ, ◌++◌, ◌∙◌, ◌∷◌}
 use Rattle.std.specs.Fmt.{decimal}
 use Rattle.acq_loop.specs.declared.ending.Ending.TheVariants as ending
 use Rattle.acq_cli.proofs.demo.made.Goals as goal

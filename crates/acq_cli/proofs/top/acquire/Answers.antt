@@ -44,6 +44,7 @@ returns g c =
     record {
       converged = λ m e. so.found.network m (sym is ∙ e);
       collapsed = λ m e. so.found.none m (sym is ∙ e);
+      undecided = λ m e. so.found.some_open m (sym is ∙ e);
       does = (got, is, does);
       spares = c.perform.ensures.spares;
       refuses = λ fault. (λ e. (got, is, transport (λ i. Does D (e i) left written left' written' c.args.disk.now c.perform.new.disk got) does), λ e. so.found.usage fault (sym is ∙ e));

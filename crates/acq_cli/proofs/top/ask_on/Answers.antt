@@ -1,6 +1,5 @@
-use Rattle.acq_cli.proofs.Prelude.{IsLanguage, Ok, arith, at_turn, begun_part, called_as, failed, inl, inr, keeps_as, keeps_still, knowledge_of, okay, refl, rose_later, rules, said_of, standing_on, subst, sym, terms_with, transport, ℕ, ⊎_elim, ◌∙◌, ◌≡◌, ◌≤◌, ◌⊎◌}
+use Rattle.acq_cli.proofs.Prelude.{IsLanguage, Ok, arith, at_turn, begun_part, called_as, inl, inr, keeps_as, keeps_still, knowledge_of, okay, refl, rose_later, rules, said_of, standing_on, subst, sym, terms_with, transport, ℕ, ⊎_elim, ◌∙◌, ◌≡◌, ◌≤◌, ◌⊎◌}
 use Rattle.acq_io.specs.Streams.{Rose}
-use Rattle.acq_io.specs.declared.streams.Put.TheVariants as puts
 use Rattle.query_gen.specs.Marks.{AreMarksFor}
 use Rattle.acq_loop.specs.declared.driving.Drove.{Drove}
 use Rattle.acq_loop.specs.declared.driving.Drove.TheVariants as drove

@@ -1,4 +1,4 @@
-use Rattle.acq_cli.proofs.Prelude.{AllFault, Err, Global, IsVocabulary, Ok, Result, Some, Vec, acquires_in, ap, breaks_in, breaks_refused, called_as, failed, refl, refusal_of_vocabulary, rules, sym, takes_some_on, transport, ℕ, ◌∙◌, ◌≡◌}
+use Rattle.acq_cli.proofs.Prelude.{AllFault, Err, Global, IsVocabulary, Ok, Result, Some, Vec, acquires_in, ap, breaks_in, breaks_refused, called_as, refl, refusal_of_vocabulary, rules, sym, takes_some_on, transport, ℕ, ◌∙◌, ◌≡◌}
 use Rattle.acq_io.specs.declared.whole.AllFault.TheVariants.{TooLong}
 use Rattle.acq_cli.proofs.top.try_input.Goals as goal
 
