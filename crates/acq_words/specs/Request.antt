@@ -51,27 +51,59 @@ plan_named word =
 
 abbrev pub takes_plan : CommandName → Bool
 takes_plan name.New = true
+takes_plan name.Run = false
 takes_plan name.Try = true
-takes_plan _ = false
+takes_plan name.Play = false
+takes_plan name.Show = false
+takes_plan name.Back = false
+takes_plan name.Demo = false
+takes_plan name.Reduce = false
+takes_plan name.Cnf = false
+takes_plan name.Model = false
+takes_plan name.Certify = false
+takes_plan name.Check = false
 
 abbrev pub takes_budget : CommandName → Bool
+takes_budget name.New = false
 takes_budget name.Run = true
 takes_budget name.Try = true
 takes_budget name.Play = true
+takes_budget name.Show = false
+takes_budget name.Back = false
 takes_budget name.Demo = true
 takes_budget name.Reduce = true
+takes_budget name.Cnf = false
+takes_budget name.Model = false
 takes_budget name.Certify = true
-takes_budget _ = false
+takes_budget name.Check = false
 
 abbrev pub takes_number : CommandName → Bool
+takes_number name.New = false
+takes_number name.Run = false
+takes_number name.Try = false
+takes_number name.Play = false
+takes_number name.Show = false
+takes_number name.Back = false
 takes_number name.Demo = true
-takes_number _ = false
+takes_number name.Reduce = false
+takes_number name.Cnf = false
+takes_number name.Model = false
+takes_number name.Certify = false
+takes_number name.Check = false
 
 abbrev pub needs_memory : CommandName → Bool
+needs_memory name.New = false
+needs_memory name.Run = false
 needs_memory name.Try = true
+needs_memory name.Play = false
+needs_memory name.Show = false
+needs_memory name.Back = false
 needs_memory name.Demo = true
+needs_memory name.Reduce = false
+needs_memory name.Cnf = false
+needs_memory name.Model = false
+needs_memory name.Certify = false
 needs_memory name.Check = true
-needs_memory _ = false
 
 -- the command and the options don't fit: an option is given that the command doesn't take, a number isn't given that it
 -- takes, or the journal is a file where none may be
