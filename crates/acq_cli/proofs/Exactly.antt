@@ -1,6 +1,5 @@
 -- What a command that has ended tells of the bytes of the input and of the file, exactly.
-use Rattle.acq_cli.proofs.Prelude.{AllFault, Asks, AsksTruly, Candidate, Command, ConfirmsExactly, DiskOf, Does, Ending, EndsAsMade, EndsAsOpened, EndsExactly, EndsPlaying, Err, ForSome, HasWritten, IfOk, IsBrokenOff, IsCheck, IsJudged, IsMaking, IsReading, IsSaid, IsVocabulary, Language, List, MakesOf, NetFault, News, None, Ok, Opened, OpensAs, Option, Plan, PlaysExactly, PlaysOn, ReadOnce, Result, SFault, SaidSo, Saying, SaysNoNetwork, SaysOfInput, SaysOpened, SaysSo, SaysUnplayed, Some, Unsaid, UsageFault, [], all_of, ap, arith, asked_said, back_ends, checked_said, codes, cond, ends_said, false, fine, get_or, gives_got, inl, input_end, inr, is_own, json_of, length, line_turn, long_one, made_said, net_turn, network_of, network_of_items, not_refused, ok_or, okay, one_language, only_long, opens_once, over_ends, read_own, refl, refuses_end, same_session, saying, silently, solve_ends, standing_on, subst, sym, take, target_refused, terms_with, too_many, transport, true, untold, whole_of, ℕ, ⊎_elim, ⊎_map, ◌++◌, ◌∙◌, ◌∷◌, ◌≡◌, ◌⊎◌, MatchResult}
-use Rattle.std.specs.Fmt.{decimal}
+use Rattle.acq_cli.proofs.Prelude.{AllFault, Asks, AsksTruly, Candidate, Command, ConfirmsExactly, DiskOf, Does, Ending, EndsAsMade, EndsAsOpened, EndsExactly, EndsPlaying, Err, ForSome, HasWritten, IfOk, IsBrokenOff, IsCheck, IsJudged, IsMaking, IsReading, IsSaid, IsVocabulary, Language, List, MakesOf, NetFault, News, None, Ok, Opened, OpensAs, Option, Plan, PlaysExactly, PlaysOn, ReadOnce, Result, SFault, SaidSo, Saying, SaysNoNetwork, SaysOfInput, SaysOpened, SaysSo, SaysUnplayed, Some, Unsaid, UsageFault, [], all_of, ap, arith, asked_said, back_ends, checked_said, cond, ends_said, false, fine, get_or, gives_got, inl, input_end, inr, is_own, json_of, length, line_turn, long_one, made_said, net_turn, network_of, network_of_items, not_refused, ok_or, okay, one_language, only_long, opens_once, over_ends, read_own, refl, refuses_end, same_session, silently, solve_ends, stale_said, standing_on, subst, sym, take, target_refused, terms_with, too_many, transport, true, untold, whole_of, ℕ, ⊎_elim, ⊎_map, ◌∙◌, ◌≡◌, ◌⊎◌, MatchResult}
 use Rattle.std.proofs.lemmas.Bool.{lt-ltb}
 use Rattle.acq_io.specs.declared.whole.AllFault.TheVariants as long
 use Rattle.acq_words.specs.declared.request.Command.TheVariants as command
@@ -140,10 +139,6 @@ confirm_ends left written left' written' end said says has = λ bytes from. ⊎_
     go bytes (Err why) wrote so = inl (silently why (Err why) written written' end refl wrote)
 
 -- ---- `play`: what the input is
-
--- what is said of answers that stand
-abbrev pub stale_said : ℕ → Saying
-stale_said m = saying (codes "refused not fresh " ++ (decimal m ++ 10 ∷ [])) (ending.NotFresh m)
 
 -- too many bytes are no network
 long_is_none : (l : Language) (bytes : List ℕ) → (all_of 4194304 bytes).got ≡ long_one → network_of l bytes ≡ Err net.TooLong

@@ -10,5 +10,7 @@ pub mod Answering
 pub mod Completing
 pub mod Enough
 pub mod Room
+pub mod SomeText
 pub mod Headline
+pub mod Acknowledged
 pub mod Speaking

@@ -75,6 +75,6 @@ pub use Rattle.acq_cli.specs.Demoing.{ClosesQuietly, Demos, HasDriven, IsDemo, S
 pub use Rattle.acq_cli.specs.Doing.{Asks, Does, Spoke}
 pub use Rattle.acq_cli.specs.Headline.{FindsNetwork, FindsNone, IsOfJournal, IsOfNumber, IsSessionOf, LeavesOpen}
 pub use Rattle.acq_cli.specs.Laws.{BudgetIsEnough, GeneratedIsShort, RoomIsLeft}
-pub use Rattle.acq_cli.specs.Playing.{EndsPlaying, IsAnsweredBy, PlaysExactly, PlaysOn, ReadsTarget, SaysNoNetwork, SaysUnplayed, target_refused}
+pub use Rattle.acq_cli.specs.Playing.{EndsPlaying, IsAnsweredBy, PlaysExactly, PlaysOn, ReadsTarget, SaysNoNetwork, SaysUnplayed, stale_said, target_refused}
 pub use Rattle.acq_cli.specs.Words.{IsCommandOf, command_in}
 unfoldable pub use Rattle.acq_cli.specs.Words.{command_asked}

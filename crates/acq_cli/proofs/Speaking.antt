@@ -1,10 +1,10 @@
 -- How the commands end that say something, where they ask nothing.
-use Rattle.acq_cli.proofs.Prelude.{AllFault, Command, DiskOf, Ending, Err, HasWritten, Language, List, Ok, Opened, Option, Result, SFault, SaidSo, Saying, SaysNoNetwork, SaysSo, SaysUnplayed, Spoke, Unsaid, asked_own, asked_said, back_own, check_own, inl, inr, is_own, length, okay, opening_own, own_said, read_own, refl, refuses_own, so_own, solves_own, standing_on, target_refused, true, ℕ, ◌≡◌}
+use Rattle.acq_cli.proofs.Prelude.{AllFault, Command, DiskOf, Ending, Err, HasWritten, Language, List, Ok, Opened, Option, Result, SFault, SaidSo, Saying, SaysNoNetwork, SaysSo, SaysUnplayed, Spoke, Unsaid, asked_own, asked_said, back_own, check_own, inl, inr, is_own, length, okay, opening_own, own_said, read_own, refl, refuses_own, so_own, solves_own, stale_said, standing_on, target_refused, true, ℕ, ◌≡◌}
 use Rattle.acq_said.proofs.Spoken.{IsCheckOf}
 use Rattle.acq_words.specs.declared.request.Command.TheVariants as command
 use Rattle.acq_said.specs.declared.ask.Ask.TheVariants as ask
 use Rattle.network.specs.declared.fault.NetFault.TheVariants as net
-use Rattle.acq_cli.proofs.Exactly.{new_own, stale_said}
+use Rattle.acq_cli.proofs.Exactly.{new_own}
 
 module _ {D : Type 0} (disk : DiskOf D) (left written left' written' : Option (List ℕ)) (old new : D) (end : Ending) where
   spoke_own : (c : Command) (said : Result Saying Unsaid) → Spoke disk c left left' old new said → HasWritten said written written' (okay end) → is_own end ≡ true

@@ -5,6 +5,7 @@ pub mod Playing
 pub mod Demoing
 pub mod Doing
 pub mod Headline
+pub mod Acknowledged
 pub mod Commands
 pub mod Completing
 pub mod Laws

@@ -11,3 +11,7 @@ RunIsOne =
 -- of the same bytes `try` has one whole text
 abbrev pub TextIsOne : Type 0
 TextIsOne = (terms : Terms) (bytes text other : List ℕ) → IsWholeText terms bytes text → IsWholeText terms bytes other → text ≡ other
+
+-- of each list of bytes it has one
+abbrev pub EachHasAText : Type 0
+EachHasAText = (terms : Terms) (bytes : List ℕ) → (text : List ℕ) × IsWholeText terms bytes text

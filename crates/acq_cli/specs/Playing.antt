@@ -7,6 +7,10 @@ use Rattle.acq_cli.specs.Closed.{EndsAsRun}
 
 -- ---- The target
 
+-- what is said of so many answers that stand
+abbrev pub stale_said : ℕ → Saying
+stale_said m = saying (codes "refused not fresh " ++ (decimal m ++ 10 ∷ [])) (ending.NotFresh m)
+
 -- what is said of a refused target
 abbrev pub target_refused : NetFault → Saying
 target_refused fault = saying (codes "refused target " ++ (net_fault_text fault ++ 10 ∷ [])) (ending.TargetRefused fault)
@@ -28,7 +32,7 @@ pub record ReadsTarget (l : Language) (left left' : Option (List ℕ)) (target :
 abbrev pub SaysUnplayed : (left left' : Option (List ℕ)) → Result Opened SFault → Result Saying Unsaid → Type 0
 SaysUnplayed left left' (Ok o) said =
     let m = length (standing_on o.lang o.events) in
-    ((1 ≤ m) × IsSaid (saying (codes "refused not fresh " ++ (decimal m ++ 10 ∷ [])) (ending.NotFresh m)) said × (left' ≡ left))
+    ((1 ≤ m) × IsSaid (stale_said m) said × (left' ≡ left))
     ⊎ ((standing_on o.lang o.events ≡ []) × SaysOfInput 4194304 (SaysNoNetwork o.lang) left left' said)
 SaysUnplayed left left' (Err fault) said = SaysRefusal fault said × (left' ≡ left)
 

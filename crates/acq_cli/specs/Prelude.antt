@@ -8,9 +8,10 @@ pub use Rattle.acq_loop.specs.Program.{ended_as}
 pub use Rattle.acq_loop.specs.Run.{Collapsed, JournalFull, LineTooLong, Suspended, Undecided, Unreadable}
 pub use Rattle.acq_loop.specs.Texts.{closing_text, learned_after, usage_text}
 pub use Rattle.acq_said.specs.Asks.{AsksTruly, asked_said}
+pub use Rattle.acq_said.specs.Breaks.{BreaksRun}
 pub use Rattle.acq_said.specs.Confirming.{ConfirmsExactly, IsCheck, checked_said}
 pub use Rattle.acq_said.specs.Inputs.{SaysOfInput}
-pub use Rattle.acq_said.specs.Journals.{SaysRefusal}
+pub use Rattle.acq_said.specs.Journals.{SaysRefusal, refused_said}
 pub use Rattle.acq_said.specs.Making.{IsMaking, News, made_said, voc_refused}
 pub use Rattle.acq_said.specs.Over.{EndsAsOpened, EndsAsSaid, SaysOver}
 pub use Rattle.acq_said.specs.Running.{RunGoesOn}
@@ -26,11 +27,13 @@ pub use Rattle.acq_words.specs.declared.request.Command.{Command}
 pub use Rattle.acq_words.specs.declared.request.UsageFault.{UsageFault}
 pub use Rattle.acq_words.specs.declared.request.WordsFault.{WordsFault}
 pub use Rattle.acq_words.specs.declared.request.WordsFault.TheVariants.{Memory, Usage}
+pub use Rattle.disk_model.specs.Moments.{LeavesOnly}
 pub use Rattle.language.specs.Language.{IsLanguage}
 pub use Rattle.network.specs.FaultTexts.{net_fault_text}
 pub use Rattle.network.specs.Target.{network_of}
 pub use Rattle.network.specs.declared.fault.NetFault.{NetFault}
 pub use Rattle.session_laws.specs.Bound.{bound, most_answers}
+pub use Rattle.session_store.specs.Left.{HoldsAtLeast}
 pub use Rattle.session_store.specs.Replay.{IsAnswer}
 pub use Rattle.target_oracle.specs.Generator.{IsGenerated, target_of}
 pub use Rattle.target_oracle.specs.NetTurns.{net_may_say, net_turn}

@@ -1,7 +1,7 @@
 //! Laws of the definitions, as contracts of functions that do nothing.
 
 ghost use Rattle.acq_cli.specs.Laws.{BudgetIsEnough, GeneratedIsShort, RoomIsLeft};
-ghost use Rattle.acq_cli.specs.OneText.{RunIsOne, TextIsOne};
+ghost use Rattle.acq_cli.specs.OneText.{EachHasAText, RunIsOne, TextIsOne};
 
 // ---- What is enough for a session
 
@@ -34,4 +34,9 @@ pub fn run_is_one()
 /// Of the same bytes `try` has one whole text.
 pub fn text_is_one()
     ensures { TextIsOne }
+{}
+
+/// Of each list of bytes `try` has a whole text: a refusal, or that of a run.
+pub fn each_has_a_text()
+    ensures { EachHasAText }
 {}

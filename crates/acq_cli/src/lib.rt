@@ -4,7 +4,8 @@
 //! the input, and what it leaves of the disk, at its end and after a crash at any moment, as far as input, output and disk
 //! tell. What a command says is a function that the floor below states. Here stand which command the words ask for
 //! (`command_asked`), when each ending comes (`EndsExactly`), that a command comes to its own end where it is given enough
-//! (`Completes`), and what three endings are worth (`FindsNetwork`, `FindsNone`, `LeavesOpen`).
+//! (`Completes`), that a crash takes no answer behind which something was written (`Acknowledges`), and what three endings are
+//! worth (`FindsNetwork`, `FindsNone`, `LeavesOpen`).
 //!
 //! The floor above is a `main`. It relies on the clauses of `acquire`, whatever input, output and disk it hands in.
 //!

@@ -26,6 +26,7 @@ ghost use Rattle.acq_said.specs.Saying.{saying};
 ghost use Rattle.acq_cli.specs.Commands.{EndsExactly};
 ghost use Rattle.acq_cli.specs.Doing.{Does};
 ghost use Rattle.acq_cli.specs.Headline.{FindsNetwork, FindsNone, LeavesOpen};
+ghost use Rattle.acq_cli.specs.Acknowledged.{Acknowledges};
 ghost use Rattle.acq_cli.specs.Completing.{Completes};
 ghost use Rattle.acq_cli.specs.Words.{IsCommandOf, Spares, command_asked};
 ghost use Rattle.acq_loop.specs.Texts.{refusal_text, usage_text};
@@ -316,6 +317,9 @@ pub fn acquire<R: Threads + Sync, S: Source, K: Sink, D: Disk, G: Gate>(
     ensures undecided { (m : ℕ) → result ≡ Ending.Undecided m → LeavesOpen (command_asked (map string_bytes words.now)) (S.left input.old) (D.content disk.old) (K.written out.new) m }
     ensures does { (got : _) × (result ≡ ended_as got)
         × Does D.Disk (command_asked (map string_bytes words.now)) (S.left input.old) (K.written out.old) (S.left input.new) (K.written out.new) disk.old disk.new got }
+    // An answer behind whose lines something was written is in each content that a crash may leave at the call's end, and those from
+    // before the call are there at any moment of it. Of a disk that stops at a call, this is said of what was written up to then.
+    ensures acknowledged { Acknowledges D.Disk (command_asked (map string_bytes words.now)) (S.left input.old) (K.written out.old) (S.left input.new) (K.written out.new) disk.old disk.new }
     ensures spares { Spares (command_asked (map string_bytes words.now)) S.left input.old input.new disk.old disk.new }
     ensures refuses { (fault : UsageFault)
         → (command_asked (map string_bytes words.now) ≡ Err fault → (got : _) × (result ≡ ended_as got) × HasWritten (Ok (saying usage_text (Ending.Usage fault))) (K.written out.old) (K.written out.new) got)

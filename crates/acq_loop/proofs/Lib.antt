@@ -4,6 +4,7 @@ pub mod Questions
 pub mod Taking
 pub mod Reached
 pub mod Running
+pub mod Stretches
 pub mod Turning
 pub mod Standings
 pub mod Serving

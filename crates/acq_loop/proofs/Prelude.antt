@@ -35,16 +35,16 @@ pub use Rattle.session_store.specs.Kept.{IsAddable, IsTried}
 pub use Rattle.target_oracle.specs.Tells.{IsTurnOf}
 pub use Rattle.target_oracle.specs.Turns.{Ended, Turned}
 pub use Rattle.acq_loop.specs.Prelude.{Adds, AddsFront, Answer, AreMadeFor, AreMarksFor, AsksFirst, Assignment, At, Candidate, Choosing, Course, DiskOf, Event, Halving, HasCalled, Idle, IsCandidate, IsCovered, IsLawfulAfter, IsNetwork, IsQuestion, IsSettled, IsUndecided, KeepOf, Language, MarksHold, Multi, Over, Overlong, Plan, Quacq, Remembered, Reply, Said, Scopes, State, Stopped, Stray, TakenBack, TakesSome, Tells, Told, Turns, Unread, WalkEnd, Walking, agrees, answer_event, candidates, has_scope, is_among, is_open, is_spent, kept, network_in, next_query, numbers, open_question, outcome_of_candidate, scope_question, standing, standing_on, state_after, variable_count}
-pub use Rattle.acq_loop.specs.Added.{IsAdded, IsTaught, MayAdd, MayEnd}
+pub use Rattle.acq_loop.specs.Added.{IsAdded, IsTaught, MayAdd, MayEnd, MaySayNext}
 pub use Rattle.acq_loop.specs.Closings.{closing_of, ending_of}
 pub use Rattle.acq_loop.specs.Driven.{Drives, HasEnded, HasFound, IsCollapsed, IsDone, IsLeftOpen, IsOwned, IsPending, Loses, Point, Remembers, StepsTo, TellsOpen, next_lines}
 pub use Rattle.acq_loop.specs.Due.{EventKept, IsDue, IsOneMore, NextIs, ended_by}
 pub use Rattle.acq_loop.specs.Heard.{Forgets, HearsReply, MayKeep, end_on_fault, event_on, heard_of}
 pub use Rattle.acq_loop.specs.Loop.{EndsAs, EndsUnasked, HasTurned, TellsCandidates, is_unasked}
 pub use Rattle.acq_loop.specs.Points.{point_of, terms_with}
-pub use Rattle.acq_loop.specs.Run.{Closing, Collapsed, Converged, Ends, JournalFull, LineTooLong, Next, Puts, Ran, Runs, Suspended, Undecided, Unreadable, after_text, answer, ended, event_heard, heard_on, idle_next, is_full, next_after, next_at, next_in, next_on, number_on, put_on, searched, unless_full}
-unfoldable pub use Rattle.acq_loop.specs.Run.{ran}
-pub use Rattle.acq_loop.specs.Turn.{Between, ByTurns, IsTurn, SaysNext, between_turns}
+pub use Rattle.acq_loop.specs.Run.{Closing, Collapsed, Converged, Ends, JournalFull, LineTooLong, Next, Puts, Ran, Runs, Suspended, Undecided, Unreadable, after_text, answer, ended, event_heard, heard_on, idle_next, is_full, next_after, next_at, next_in, next_on, number_on, put_on, searched, Stretch, stretch, stretch_after, stretch_on, unless_full}
+unfoldable pub use Rattle.acq_loop.specs.Run.{ran, stretch_of}
+pub use Rattle.acq_loop.specs.Turn.{IsTurn, SaysNext, between_turns}
 pub use Rattle.acq_loop.specs.declared.driving.Drove.{Drove}
 pub use Rattle.acq_loop.specs.declared.driving.Entry.{Entry}
 pub use Rattle.acq_loop.specs.declared.terms.Terms.{Terms}

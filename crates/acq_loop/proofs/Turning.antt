@@ -2,7 +2,8 @@
 use Rattle.acq_loop.proofs.Prelude.{◌≡◌, ℕ, List, [], ◌∷◌, ◌++◌, ap, sym, ◌∙◌, refl, Option, Some, None, append_assoc, IfSome, ForSome, append-nil, AddsFront, adds_none, adds_then, Assignment, Event, Language, IsLanguage, IsQuestion, Turns, Reply, AsksFirst, IsTurnOf, closing_of, Closing, Puts, Ends, next_on, number_on, after_text, ended, event_heard, SaysNext, Terms, Point, StepsTo, next_lines, Loses, Drives, Drove}
 use Rattle.acq_loop.proofs.Short.{RanTo, CutOff, MayFollow}
 use Rattle.target_oracle.proofs.Fronts.{front_longer, front_none, front_then}
-use Rattle.acq_loop.proofs.Running.{text_after, runs_heard, EndsSo, runs_closed, runs_end, IsWithin, puts_next, RunLaws, turn_exists}
+use Rattle.acq_loop.proofs.Stretches.{stretch_none, stretch_one, stretch_then}
+use Rattle.acq_loop.proofs.Running.{EndsSo, runs_closed, runs_end, IsWithin, puts_next, RunLaws, turn_exists}
 
 -- ---- many turns
 
@@ -13,7 +14,7 @@ module _ (turns : Turns) (l : Language) (terms : Terms) where
     done = [];
     left = left;
     written = adds_none a.written;
-    begins = λ run runs. runs;
+    so_far = stretch_none turns l terms a.events bytes;
   }
 
   pub steps_on : (a b c : Point) → StepsTo turns l terms a b → StepsTo turns l terms b c → StepsTo turns l terms a c
@@ -25,7 +26,7 @@ module _ (turns : Turns) (l : Language) (terms : Terms) where
         done = f.done ++ s.done;
         left = s.left;
         written = adds_then a.written b.written c.written f.done s.done f.written s.written;
-        begins = λ run runs. rw (text_after f.done s.done run) at (f.begins (after_text s.done run) (s.begins run runs));
+        so_far = stretch_then turns l terms a.events b.events c.events bytes f.done f.rest s.done s.rest f.so_far s.so_far;
       }
 
   steps_ran : (closing : Closing) (a b c : Point) → StepsTo turns l terms a b → RanTo turns l terms closing b c → RanTo turns l terms closing a c
@@ -34,7 +35,7 @@ module _ (turns : Turns) (l : Language) (terms : Terms) where
       let s = second f.rest f.left in
       record {
         run = after_text f.done s.run;
-        runs = f.begins s.run s.runs;
+        runs = f.so_far.begins s.run s.runs;
         closing = s.closing;
         events = s.events;
         left = s.left;
@@ -47,7 +48,7 @@ module _ (turns : Turns) (l : Language) (terms : Terms) where
       let s = second f.rest f.left in
       record {
         run = after_text f.done s.run;
-        runs = f.begins s.run s.runs;
+        runs = f.so_far.begins s.run s.runs;
         text = front_then a.written b.written c.written f.done s.run.text f.written s.text;
         later = s.later;
         events = s.events;
@@ -55,7 +56,7 @@ module _ (turns : Turns) (l : Language) (terms : Terms) where
         done = f.done ++ s.done;
         middle = s.middle;
         before = adds_then a.written b.written s.middle f.done s.done f.written s.before;
-        begins = λ run runs. rw (text_after f.done s.done run) at (f.begins (after_text s.done run) (s.begins run runs));
+        so_far = stretch_then turns l terms a.events b.events c.events bytes f.done f.rest s.done s.rest f.so_far s.so_far;
         lines = s.lines;
         asked = s.asked;
       }
@@ -73,7 +74,7 @@ module _ (turns : Turns) (l : Language) (terms : Terms) where
         record {
           rest = s.rest;
           done = f.done ++ s.done;
-          begins = λ run runs. rw (text_after f.done s.done run) at (f.begins (after_text s.done run) (s.begins run runs));
+          so_far = stretch_then turns l terms a.events b.events c.events bytes f.done f.rest s.done s.rest f.so_far s.so_far;
           heard = s.heard;
           left = s.left;
           written = rw (append_assoc f.done s.done text) (adds_then a.written b.written c.written f.done (s.done ++ text) f.written s.written);
@@ -134,7 +135,7 @@ module _ (turns : Turns) (l : Language) (terms : Terms) (q : Assignment) (a b : 
         done = turned.text;
         left = t.rest;
         written = t.text;
-        begins = λ run runs. runs_heard turns l terms a.events bytes q e run due (ap (event_heard q) t.heard ∙ gives) (rw added at runs);
+        so_far = stretch_one turns l terms a.events b.events bytes q e due (ap (event_heard q) t.heard ∙ gives) added;
       }
 
   pub ran_closed : (reply : Reply) (closing : Closing) → b.events ≡ a.events → EndsSo reply closing a.events q → ToldSo turns l q a b reply → RanTo turns l terms closing a b
@@ -164,7 +165,7 @@ module _ (turns : Turns) (l : Language) (terms : Terms) (q : Assignment) (a b : 
         done = [];
         middle = a.written;
         before = adds_none a.written;
-        begins = λ run runs. rw same at runs;
+        so_far = rw same (stretch_none turns l terms a.events bytes);
         lines = rw (same, due) f;
         asked = rw (same, due) (rw left at asked);
       }
@@ -181,7 +182,7 @@ module _ (turns : Turns) (l : Language) (terms : Terms) (q : Assignment) (a b : 
         record {
           rest = bytes;
           done = [];
-          begins = λ run runs. rw same at runs;
+          so_far = rw same (stretch_none turns l terms a.events bytes);
           heard = ap (event_heard q) here.heard ∙ gives;
           left = here.rest;
           written = here.text;

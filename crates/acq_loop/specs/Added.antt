@@ -1,10 +1,12 @@
 -- What a teacher has said: the events that were added, and how it ended.
 use Rattle.std.specs.Prelude.{◌≡◌, ◌⊎◌, ◌++◌}
-use Rattle.acq_loop.specs.Prelude.{List, All, Result, Ok, Put, Assignment, Answer, Event, Plan, Language, IsQuestion, event_for, HavePlaces, told_of_answer, Told}
+use Rattle.acq_loop.specs.Prelude.{List, All, Some, Result, Ok, Put, Assignment, Answer, Event, Plan, Language, IsQuestion, event_for, HavePlaces, told_of_answer, Told}
 use Rattle.assign.specs.declared.events.Event.TheVariants as event
+use Rattle.acq_loop.specs.Run.{Puts, next_after}
 use Rattle.acq_loop.specs.declared.ending.Ending.{Ending}
 use Rattle.target_oracle.specs.declared.teacher.Told.TheVariants as told
 use Rattle.acq_loop.specs.declared.ending.Ending.TheVariants as ending
+use Rattle.acq_loop.specs.declared.terms.Terms.{Terms}
 
 -- An event that may be added: that of an answer that may be given to its question, which has empty options behind its own, or a
 -- take-back that may be said to a question.
@@ -19,6 +21,10 @@ pub record IsAdded (l : Language) (plan : Plan) (may : Assignment → Told → T
   pub is : after ≡ before ++ more
   pub each : All (MayAdd l may) more
   pub places : HavePlaces l plan before → HavePlaces l plan after
+
+-- this question comes next after these answers, and that may be said to it
+abbrev pub MaySayNext : Language → Terms → List Answer → (Assignment → Told → Type 0) → Assignment → Told → Type 0
+MaySayNext l terms t may q told = (next_after l terms t ≡ Some (Puts q)) × may q told
 
 -- Where it ended by what was said to a question, that may be said.
 abbrev pub MayEnd : (Assignment → Told → Type 0) → Result Ending Put → Type 0

@@ -3,7 +3,7 @@ use Rattle.std.specs.Prelude.{◌≡◌, ◌≢◌, ◌⊎◌, ◌↔◌, ◌<�
 use Rattle.acq_loop.specs.Prelude.{ℕ, Bool, IsTrue, List, [], length, filter, All, Option, Some, None, IfSome, ForSome, Adds, AddsFront, Assignment, Answer, standing, Event, Scopes, Candidate, Language, variable_count, candidates, agrees, has_scope, numbers, log_up, bound, greatest_arity, HasSameSolutions, IsCandidate, IsImplied, IsQuestion, IsNetwork, IsCovered, IsConverged, NoneAgrees, kept, standing_on, plain_size, Spent, outcome_of_candidate, is_among, is_spent, Remembered, MarksHold, is_open, IsUndecided, State, Idle, Over, At, state_after, WalkEnd, network_in, answer_event, Turns, AsksFirst}
 use Rattle.assign.specs.declared.events.Event.TheVariants as event
 use Rattle.acq_loop.specs.Closings.{closing_of, told_number}
-use Rattle.acq_loop.specs.Run.{Closing, Converged, Collapsed, Undecided, Next, Puts, Ends, next_after, next_on, number_on, Ran, Runs, after_text, event_heard}
+use Rattle.acq_loop.specs.Run.{Closing, Converged, Collapsed, Undecided, Next, Puts, Ends, next_after, next_on, number_on, Ran, Runs, after_text, event_heard, stretch, stretch_of}
 use Rattle.acq_loop.specs.Texts.{open_candidates}
 use Rattle.acq_loop.specs.declared.terms.Terms.{Terms}
 use Rattle.acq_loop.specs.declared.driving.Drove.{Drove}
@@ -15,13 +15,21 @@ pub record Point : Type 0 where
   pub left : Option (List ℕ)
   pub written : Option (List ℕ)
 
+-- Turns lead from these events to those behind them. What they wrote and what they left of the bytes follows from the events that came,
+-- and what they wrote begins each run that goes on from there.
+pub record IsStretch (turns : Turns) (l : Language) (terms : Terms) (bytes done rest : List ℕ) (before after : List Event) : Type 0 where
+  pub more : List Event
+  pub grown : after ≡ before ++ more
+  pub is : stretch_of turns l terms before bytes more ≡ Some (stretch done rest)
+  pub begins : (run : Ran) → Runs turns l terms after rest run → Runs turns l terms before bytes (after_text done run)
+
 -- what was written so far begins each run that goes on from there
 pub record BeginsRuns (turns : Turns) (l : Language) (terms : Terms) (bytes : List ℕ) (old new : Point) : Type 0 where
   pub rest : List ℕ
   pub done : List ℕ
   pub left : new.left ≡ Some rest
   pub written : Adds old.written new.written done
-  pub begins : (run : Ran) → Runs turns l terms new.events rest run → Runs turns l terms old.events bytes (after_text done run)
+  pub so_far : IsStretch turns l terms bytes done rest old.events new.events
 
 -- where the source tells
 abbrev pub StepsTo : Turns → Language → Terms → Point → Point → Type 0
@@ -55,7 +63,7 @@ pub record IsRunCutShort (turns : Turns) (l : Language) (terms : Terms) (bytes :
   pub done : List ℕ
   pub middle : Option (List ℕ)
   pub before : Adds old.written middle done
-  pub begins : (run : Ran) → Runs turns l terms new.events rest run → Runs turns l terms old.events bytes (after_text done run)
+  pub so_far : IsStretch turns l terms bytes done rest old.events new.events
   pub lines : AddsFront middle new.written (next_lines turns l new.events rest (next_on l terms new.events))
   -- before any of them was taken, what the question's turn writes to no bytes stood there: its line
   pub asked : AsksFirst (Some rest) middle new.left new.written (next_lines turns l new.events [] (next_on l terms new.events))
@@ -64,7 +72,7 @@ pub record IsRunCutShort (turns : Turns) (l : Language) (terms : Terms) (bytes :
 pub record IsUnkept (turns : Turns) (l : Language) (terms : Terms) (question : Assignment) (lost : Event) (bytes : List ℕ) (old new : Point) : Type 0 where
   pub rest : List ℕ
   pub done : List ℕ
-  pub begins : (run : Ran) → Runs turns l terms new.events rest run → Runs turns l terms old.events bytes (after_text done run)
+  pub so_far : IsStretch turns l terms bytes done rest old.events new.events
   pub heard : event_heard question (turns l (number_on l new.events) question rest).heard.reply ≡ Some lost
   pub left : new.left ≡ Some (turns l (number_on l new.events) question rest).heard.rest
   pub written : Adds old.written new.written (done ++ (turns l (number_on l new.events) question rest).text)

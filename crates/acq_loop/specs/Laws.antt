@@ -1,8 +1,10 @@
--- Laws of how the loop ends, over the definitions alone.
-use Rattle.std.specs.Prelude.{◌≡◌}
-use Rattle.acq_loop.specs.Prelude.{IsTrue, Language, standing_on, Turns}
+-- Laws of runs and of how the loop ends, over the definitions alone.
+use Rattle.std.specs.Prelude.{◌≡◌, ◌<◌}
+use Rattle.acq_loop.specs.Prelude.{Event, HavePlaces, IsTrue, Language, List, length, standing_on, Turns, ℕ}
+use Rattle.language.specs.Language.{IsLanguage}
 use Rattle.acq_loop.specs.Driven.{Point, Drives}
 use Rattle.acq_loop.specs.Loop.{is_unasked}
+use Rattle.acq_loop.specs.Run.{Ran, Runs}
 use Rattle.acq_loop.specs.declared.terms.Terms.{Terms}
 use Rattle.acq_loop.specs.declared.driving.Drove.{Drove}
 use Rattle.acq_loop.specs.declared.driving.Drove.TheVariants as drove
@@ -14,3 +16,9 @@ pub record EndingsExclude : Type 0 where
       standing_on l d.events ≡ standing_on l b.events → IsTrue (is_unasked how) → other ≡ how
   pub full : (turns others : Turns) (l : Language) (terms : Terms) (a b c d : Point) (how other : Drove) → Drives turns l terms a b how → Drives others l terms c d other →
       d.events ≡ b.events → how ≡ drove.JournalFull → other ≡ drove.JournalFull
+
+-- Whatever the bytes, there is a run from events that have their places, where these are no more than a journal takes.
+abbrev pub EachHasARun : Type 0
+EachHasARun =
+    (turns : Turns) (l : Language) (terms : Terms) (events : List Event) (bytes : List ℕ) → IsLanguage l → HavePlaces l terms.plan events → length events < 1000000 →
+    (run : Ran) × Runs turns l terms events bytes run

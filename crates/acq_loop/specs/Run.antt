@@ -113,3 +113,30 @@ ran turns l terms (suc count) events bytes =
 pub record Runs (turns : Turns) (l : Language) (terms : Terms) (events : List Event) (bytes : List ℕ) (run : Ran) : Type 0 where
   pub count : ℕ
   pub is : ran turns l terms count events bytes ≡ Some run
+
+-- ---- some turns of a run
+
+-- what they have written, and the bytes that they left
+pub record Stretch : Type 0 where
+  pub text : List ℕ
+  pub rest : List ℕ
+
+abbrev pub stretch : List ℕ → List ℕ → Stretch
+stretch text rest = record { text = text; rest = rest }
+
+-- with this text before it
+abbrev pub stretch_after : List ℕ → Stretch → Stretch
+stretch_after text s = record s { text = text ++ s.text }
+
+abbrev pub stretch_on : (Assignment → Option Stretch) → Option Next → Option Stretch
+stretch_on put None = None
+stretch_on put (Some (Ends closing)) = None
+stretch_on put (Some (Puts q)) = put q
+
+-- the turns by which these events come one after the other, from those before and these bytes on; none where no question comes for one
+unfoldable pub stretch_of : Turns → Language → Terms → (events : List Event) → List ℕ → (more : List Event) → Option Stretch
+stretch_of turns l terms events bytes [] = Some (stretch [] bytes)
+stretch_of turns l terms events bytes (e ∷ more) =
+    stretch_on
+    (λ q. let turned = turns l (number_on l events) q bytes in option_map (stretch_after turned.text) (stretch_of turns l terms (events ++ e ∷ []) turned.heard.rest more))
+    (next_on l terms events)

@@ -1,6 +1,6 @@
--- One turn of the loop, and turns one after another.
-use Rattle.std.specs.Prelude.{◌≡◌, ◌∷◌}
-use Rattle.acq_loop.specs.Prelude.{List, [], ℕ, Bool, IsFalse, Option, ForSome, AddsFront, Assignment, Event, DiskOf, Language, AreMadeFor, Place, LosesNone, KeepOf, TeachesOn, Turns, Told}
+-- One turn of the loop.
+use Rattle.std.specs.Prelude.{◌≡◌}
+use Rattle.acq_loop.specs.Prelude.{List, ℕ, Bool, IsFalse, Option, ForSome, AddsFront, Assignment, Event, DiskOf, Language, AreMadeFor, Place, LosesNone, KeepOf, TeachesOn, Turns, Told}
 use Rattle.acq_loop.specs.Driven.{next_lines}
 use Rattle.acq_loop.specs.Run.{next_on}
 use Rattle.acq_loop.specs.declared.terms.Terms.{Terms}
@@ -28,14 +28,6 @@ module _ {K D : Type 0} (keep : KeepOf K D) (disk : DiskOf D) where
   pub record IsTurn (turns : Turns) (l : Language) (terms : Terms) (old new : Between K D) : Type 0 where
     pub acknowledged : LosesNone keep disk old.keeper old.on new.on
     pub says_next : SaysNext turns l terms (keep.record_of old.keeper) old.left old.written new.written
-
-  -- Turns one after another lead from the one to the other. What is between_turns them is listed from the last to the first.
-  abbrev pub AreTurns : Turns → Language → Terms → Between K D → List (Between K D) → Between K D → Type 0
-  AreTurns turns l terms old [] new = new ≡ old
-  AreTurns turns l terms old (mid ∷ more) new = AreTurns turns l terms old more mid × IsTurn turns l terms mid new
-
-  abbrev pub ByTurns : Turns → Language → Terms → Between K D → Between K D → Type 0
-  ByTurns turns l terms old new = (middles : List (Between K D)) × AreTurns turns l terms old middles new
 
 -- ---- what serves another turn
 

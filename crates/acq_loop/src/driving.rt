@@ -18,11 +18,11 @@ ghost use Rattle.session_store.specs.Keeps.{Keeps, IsKeeping, IsSameSession, Onl
 ghost use Rattle.target_oracle.specs.Teaching.{TeachesOn};
 ghost use Rattle.acq_loop.specs.Closings.{closing_of, ending_of};
 ghost use Rattle.acq_loop.specs.Driven.{IsOwned, Loses, Remembers};
-ghost use Rattle.acq_loop.specs.Added.{IsTaught, MayEnd};
+ghost use Rattle.acq_loop.specs.Added.{IsTaught, MayEnd, MaySayNext};
 ghost use Rattle.acq_loop.specs.Due.{IsDue, EventKept};
 ghost use Rattle.acq_loop.specs.Heard.{heard_of, event_on, MayKeep, Forgets, HearsReply, end_on_fault};
 ghost use Rattle.acq_loop.specs.Points.{point_of, terms_with};
-ghost use Rattle.acq_loop.specs.Turn.{ByTurns, IsTurn, ServesOn, between_turns};
+ghost use Rattle.acq_loop.specs.Turn.{IsTurn, ServesOn, between_turns};
 ghost use Rattle.acq_loop.specs.Loop.{EndsAs, EndsUnasked, HasReadAndWritten, HasTurned, IsAtStart, IsReadyToTurn};
 
 use crate::next::{Upcoming, next_of};
@@ -231,7 +231,7 @@ pub fn take_turn<
         (point_of (P.record_of keep.new) (S.left source.new) (K.written sink.new)) screen.new) }
     ensures same { IsSameSession P.Keep keep.old keep.new }
     ensures taught { IsTaught (P.lang keep.old) (P.plan keep.old) (T.may_say teacher.old (P.lang keep.old)) (P.record_of keep.old) (P.record_of keep.new)
-        (IfSome result (λ how. MayEnd (T.may_say teacher.old (P.lang keep.old)) (ending_of how))) }
+        (IfSome result (λ how. MayEnd (MaySayNext (P.lang keep.old) (terms_with (P.plan keep.old) budget) (standing_on (P.lang keep.old) (P.record_of keep.new)) (T.may_say teacher.old (P.lang keep.old))) (ending_of how))) }
     ensures keeps { Keeps P.Keep D.Disk (result ≡ Some Drove.DiskFault)
         (Loses (T.turn teacher.old) (P.lang keep.old) (terms_with (P.plan keep.old) budget)
         (point_of (P.record_of keep.old) (S.left source.old) (K.written sink.old))
@@ -292,7 +292,7 @@ pub fn drive<R: Threads + Sync, S: Source, K: Sink, D: Disk, T: Teacher<S, K>, P
         → IsWalked (P.lang keep.old) (standing_on (P.lang keep.old) (P.record_of keep.new)) (network_in state) e }
     ensures same { IsSameSession P.Keep keep.old keep.new }
     ensures taught { IsTaught (P.lang keep.old) (P.plan keep.old) (T.may_say teacher.old (P.lang keep.old)) (P.record_of keep.old) (P.record_of keep.new)
-        (MayEnd (T.may_say teacher.old (P.lang keep.old)) (ending_of result)) }
+        (MayEnd (MaySayNext (P.lang keep.old) (terms_with (P.plan keep.old) budget) (standing_on (P.lang keep.old) (P.record_of keep.new)) (T.may_say teacher.old (P.lang keep.old))) (ending_of result)) }
     // Where nothing is written, the disk isn't touched. Else a crash at any moment leaves the events from before the call and a
     // front of those of this run, and after it all of them, but for the last one where the disk failed. That one is of the reply
     // to the question that came next.
@@ -305,9 +305,6 @@ pub fn drive<R: Threads + Sync, S: Source, K: Sink, D: Disk, T: Teacher<S, K>, P
     ensures faults { HasReadAndWritten (S.left source.old) (S.left source.new) (S.faults source.old) (S.faults source.new) (S.late source.old) (S.late source.new) (K.faults sink.old) (K.faults sink.new) (result ≡ Drove.ReadFault) (result ≡ Drove.WriteFault) }
     // however it ends, places and teacher serve another call; where the teacher doesn't read, nothing does
     ensures serves { ServesOn T.turn T.fits T.may_say T.reads (P.lang keep.old) teacher.old teacher.new source.old source.new places.new }
-    // no turn loses an event that was there when it began, or writes more than the lines of the question that came then
-    ensures by_turns { ByTurns P.Keep D.Disk (T.turn teacher.old) (P.lang keep.old) (terms_with (P.plan keep.old) budget)
-        (between_turns keep.old disk.old (S.left source.old) (K.written sink.old)) (between_turns keep.new disk.new (S.left source.new) (K.written sink.new)) }
 {
     let _variables = keep.session().lang().n();
     for _turn in 0..MOST_RECORDS {

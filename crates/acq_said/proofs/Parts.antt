@@ -7,6 +7,7 @@ use Rattle.target_oracle.proofs.Fronts.{front_longer, front_none, front_then}
 use Rattle.voc_read.specs.declared.fault.VocFault.{VocFault}
 use Rattle.acq_said.specs.Trying.{Breaks, HasBrokenOff, IsRefusal, IsTextOfRun, Acquires, ReadsVocabulary}
 use Rattle.acq_loop.proofs.Short.{whole_text}
+use Rattle.acq_loop.proofs.Stretches.{stretch_none}
 use Rattle.acq_said.proofs.Closings.{loops_by, not_loops}
 use Rattle.acq_loop.proofs.Taking.{takes_same}
 use Rattle.acq_said.proofs.Tries.{cut_off}
@@ -46,7 +47,7 @@ begun_part turns l terms start left written lawful within = inl (λ bytes from.
       done = [];
       middle = written;
       before = adds_none written;
-      begins = λ run runs. runs;
+      so_far = stretch_none turns l terms start bytes;
       lines = front_none written written (next_lines turns l start bytes (next_on l terms start)) refl;
       asked = record { takes = (let Left : Option (List ℕ) → Type 0 = λ o. TakesSome o left in subst Left from (takes_same left)); first = inl from };
     })

@@ -1,4 +1,6 @@
 use Rattle.acq_cli.proofs.Prelude.{Candidate, Drives, IfSome, IsAdded, IsOwned, IsLanguage, Language, List, MayEnd, Option, Some, ap, arith, ending_of, events_of, false_is_not_true, lang_of, net_may_say, net_turn, plan_of, point_of, closing_of, standing_on, subst, terms_with, transport, ℕ, ◌∙◌}
+use Rattle.acq_loop.proofs.Added.{ends_more}
+use Rattle.acq_loop.specs.Added.{MaySayNext}
 use Rattle.acq_cli.proofs.Demoing.{driven_by}
 use Rattle.acq_cli.proofs.Targets.{agreeing_added, not_filled}
 use Rattle.acq_cli.proofs.demo.drive_quietly.Goals as goal
@@ -25,7 +27,8 @@ returns-clause-driven g c =
     (transport
     (λ i. Drives (net_turn (c.new-teacher.ensures.network i) (c.new-teacher.ensures.quiet i)) l terms
     (point_of (c.requires.fresh i) ((c.new-source.ensures.tells ∙ ap told_bytes c.new-5.ensures.items) i) (Some c.new-sink.result)) (point_of after (Some c.drive.new.source) (Some c.drive.new.sink)) how) c.drive.ensures.ends.ends)
-    (transport (λ i. MayEnd (net_may_say (c.new-teacher.ensures.network i) l) (ending_of how)) c.drive.ensures.taught.said)
+    (ends_more (net_may_say target l) (MaySayNext l terms (standing_on l after) (net_may_say target l)) (λ q told may. may.1) (ending_of how)
+    (transport (λ i. MayEnd (MaySayNext l terms (standing_on l after) (net_may_say (c.new-teacher.ensures.network i) l)) (ending_of how)) c.drive.ensures.taught.said))
     (λ m is. transport (λ i. IfSome (closing_of (is i)) (IsOwned l terms target (standing_on l after))) (c.drive.ensures.owner target c.requires.target (returns-clause-agreeing g c)))
     (λ is. let rose = c.drive.ensures.faults.write.rose is in omega (arith, rose))
     (λ is. false_is_not_true (c.drive.ensures.keeps.cause is).0)

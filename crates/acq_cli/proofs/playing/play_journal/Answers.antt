@@ -1,5 +1,4 @@
-use Rattle.acq_cli.proofs.Prelude.{Candidate, Err, Event, IfOk, IsAnsweredBy, IsDisk, IsSaid, Language, List, Loses, Ok, OnErr, Plan, ReadsTarget, Result, Saying, SaysNoNetwork, SaysUnplayed, Tries, Unsaid, [], ap, arith, called_as, called_not, false, goes_on_with, inl, inr, net_may_say, net_turn, ok_any, opened_raised, over_opened, over_refused, point_of, question_of, refl, said_as, silent_not, standing_on, sym, takes_some_on, terms_with, transport, voc_of, ◌∙◌, ◌≡◌, ◌≤◌}
-use Rattle.acq_cli.proofs.Exactly.{stale_said}
+use Rattle.acq_cli.proofs.Prelude.{Candidate, Err, Event, IfOk, IsAnsweredBy, IsDisk, IsSaid, Language, List, Loses, Ok, OnErr, Plan, ReadsTarget, Result, Saying, SaysNoNetwork, SaysUnplayed, Tries, Unsaid, [], ap, arith, called_as, called_not, false, goes_on_with, inl, inr, net_may_say, net_turn, ok_any, opened_raised, over_opened, over_refused, point_of, question_of, refl, said_as, silent_not, stale_said, standing_on, sym, takes_some_on, terms_with, transport, voc_of, ◌∙◌, ◌≡◌, ◌≤◌}
 use Rattle.acq_io.proofs.CallLemmas.{called_on}
 use Rattle.session_store.specs.Keeping.{FailsWith}
 use Rattle.session_store.specs.Store.{lang_of, plan_of, events_of}

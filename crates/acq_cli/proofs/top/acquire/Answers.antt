@@ -2,6 +2,7 @@ use Rattle.acq_cli.proofs.Prelude.{Command, Completes, DiskOf, Does, Ending, End
 use Rattle.acq_io.specs.declared.streams.Put.TheVariants as put
 use Rattle.acq_loop.specs.declared.ending.Ending.TheVariants as ending
 use Rattle.acq_said.proofs.SaidOver.{broken_own}
+use Rattle.acq_cli.proofs.Acknowledged.{acknowledges}
 use Rattle.acq_cli.proofs.Completing.{completes}
 use Rattle.acq_cli.proofs.Exactly.{broken_or, ends_exactly}
 use Rattle.acq_cli.proofs.Headline.{Finds, finds, own_finds}
@@ -46,6 +47,7 @@ returns g c =
       collapsed = λ m e. so.found.none m (sym is ∙ e);
       undecided = λ m e. so.found.some_open m (sym is ∙ e);
       does = (got, is, does);
+      acknowledged = acknowledges D c.no_two_readings.ensures g.met.D.Disk.only_now left written left' written' c.args.disk.now c.perform.new.disk asked got does c.perform.ensures.spares.untouched;
       spares = c.perform.ensures.spares;
       refuses = λ fault. (λ e. (got, is, transport (λ i. Does D (e i) left written left' written' c.args.disk.now c.perform.new.disk got) does), λ e. so.found.usage fault (sym is ∙ e));
       causes = rw is causes;

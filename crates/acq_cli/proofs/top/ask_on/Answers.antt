@@ -1,10 +1,11 @@
-use Rattle.acq_cli.proofs.Prelude.{IsLanguage, Ok, arith, at_turn, begun_part, called_as, inl, inr, keeps_as, keeps_still, knowledge_of, okay, refl, rose_later, rules, said_of, standing_on, subst, sym, terms_with, transport, ℕ, ⊎_elim, ◌∙◌, ◌≡◌, ◌≤◌, ◌⊎◌}
+use Rattle.acq_cli.proofs.Prelude.{Answer, IsLanguage, Language, List, Ok, Terms, arith, at_turn, begun_part, called_as, ending_of, inl, inr, keeps_as, keeps_still, knowledge_of, okay, refl, rose_later, rules, said_of, standing_on, subst, sym, terms_with, transport, ℕ, ⊎_elim, ◌∙◌, ◌≡◌, ◌≤◌, ◌⊎◌}
 use Rattle.acq_io.specs.Streams.{Rose}
 use Rattle.query_gen.specs.Marks.{AreMarksFor}
 use Rattle.acq_loop.specs.declared.driving.Drove.{Drove}
 use Rattle.acq_loop.specs.declared.driving.Drove.TheVariants as drove
 use Rattle.acq_loop.specs.declared.ending.Ending.TheVariants as ending
-use Rattle.acq_loop.proofs.Added.{taught_none}
+use Rattle.acq_loop.proofs.Added.{ends_more, taught_none}
+use Rattle.acq_loop.specs.Added.{MaySayNext}
 use Rattle.acq_loop.proofs.Taking.{takes_same}
 use Rattle.acq_cli.proofs.Causes.{called_idle}
 use Rattle.acq_cli.proofs.top.ask_on.Goals as goal
@@ -24,6 +25,9 @@ returns g c =
     let new = c.drive-drove.new.keep in
     let there = c.session-session.ensures in
     let drives = c.drive-drove.ensures in
+    let l : Language = P.lang old in
+    let terms : Terms = terms_with (P.plan old) c.args.budget in
+    let t : List Answer = standing_on l (P.record_of new) in
     let on = said_of P (g.T.Teacher.turn c.args.teacher.now) old new c.args.budget (g.S.Source.left c.args.input.now) (g.K.Sink.written c.args.out.now) (g.S.Source.left c.drive-drove.new.source) (g.K.Sink.written c.drive-drove.new.sink)
     (g.K.Sink.written c.say.new.out) c.session-session.result.now c.drive-drove.new.screen c.drive-drove.result c.say.result (g.T.Teacher.may_say c.args.teacher.now (P.lang old)) drives.same there.stands there.lang there.plan drives.walked drives.ends
     (c.say.ensures.says c.args.budget) (c.say.ensures.part c.args.budget) in
@@ -41,7 +45,7 @@ returns g c =
         };
       };
       no_fault = on.no_fault;
-      taught = record { added = drives.taught.added; said = on.may_end drives.taught.said };
+      taught = record { added = drives.taught.added; said = on.may_end (ends_more (g.T.Teacher.may_say c.args.teacher.now l) (MaySayNext l terms t (g.T.Teacher.may_say c.args.teacher.now l)) (λ q told may. may.1) (ending_of c.drive-drove.result) drives.taught.said) };
       unread = search rules;
       keeps = keeps_as g.D.Disk g.met.D.Disk.counts_now g.met.D.Disk.only_now P (c.drive-drove.result ≡ drove.DiskFault) (c.say.result ≡ Ok ending.DiskFault) _ _ old new c.args.disk.now c.drive-drove.new.disk on.disk_of on.disk_told on.loses drives.keeps;
       same = search rules;

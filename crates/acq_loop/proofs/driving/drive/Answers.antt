@@ -1,4 +1,4 @@
-use Rattle.acq_loop.proofs.Prelude.{◌∷◌, [], length-append, Some, ◌≡◌, ◌∙◌, ◌+◌, length, ap, sym, subst, arith, refl, Event, Language, IsLanguage, standing_on, network_in, Turns, closing_of, ending_of, Point, Drives, Loses, Drove, Terms, keeps_still, keeps_then, keeps_as, point_of, terms_with, no_marks_hold, between_turns}
+use Rattle.acq_loop.proofs.Prelude.{◌∷◌, [], length-append, Some, ◌≡◌, ◌∙◌, ◌+◌, length, ap, sym, subst, arith, refl, Answer, List, MaySayNext, Event, Language, IsLanguage, standing_on, network_in, Turns, closing_of, ending_of, Point, Drives, Loses, Drove, Terms, keeps_still, keeps_then, keeps_as, point_of, terms_with, no_marks_hold}
 use Rattle.acq_loop.specs.declared.driving.Drove.TheVariants as drove
 use Rattle.acq_loop.proofs.Added.{added_none, added_then, ends_more}
 use Rattle.acq_loop.proofs.Entries.{none_some}
@@ -33,7 +33,6 @@ loop-turn-init g c =
       keeps =
           keeps_still D g.met.D.Disk.counts_now g.met.D.Disk.only_now P ⊥ (λ e. ⊥) keep keep c.args.disk.now (λ e. e) refl refl refl refl refl refl c.requires.keeper.live c.requires.keeper.sits
           (λ w. g.met.P.Keep.lasts keep c.args.disk.now w c.requires.keeper.live c.requires.keeper.sits);
-      by_turns = ([], refl);
       more = omega arith;
     }
 
@@ -51,6 +50,7 @@ returns-in-Some g c =
     let before = c.loop-turn.invariant in
     let turn = c.take_turn.ensures in
     let ended = c.in-Some.ensures in
+    let t : List Answer = standing_on l (P.record_of three) in
     let Failed : Type 0 = how ≡ drove.DiskFault in
     let Was : Event → Type 0 = Loses (T.turn c.loop-turn.teacher) (P.lang two) (terms_with (P.plan two) c.args.budget) b d in
     let Lost : Event → Type 0 = Loses turns l terms a d in
@@ -62,7 +62,8 @@ returns-in-Some g c =
       same = record { lang = turn.same.lang ∙ before.same.lang; plan = turn.same.plan ∙ before.same.plan; sound = turn.same.sound };
       taught = record {
         added = added_then l (P.plan one) _ _ _ _ _ (before.serves.teaches.no_more l) before.added (rw (before.same.lang, before.same.plan) at turn.taught.added);
-        said = ends_more _ _ (before.serves.teaches.no_more l) (ending_of how) (rw (before.same.lang, c.in-Some.is) at turn.taught.said);
+        said = ends_more (MaySayNext l terms t (T.may_say c.args.teacher.now l)) (MaySayNext l terms t (T.may_say c.loop-turn.teacher l)) (λ q told may. (may.0, before.serves.teaches.no_more l q told may.1)) (ending_of how)
+            (rw (before.same.lang, before.same.plan, c.in-Some.is) at turn.taught.said);
       };
       keeps =
           keeps_then D g.met.D.Disk.counts_now g.met.D.Disk.only_now P Failed Was Lost one two three c.args.disk.now c.loop-turn.disk c.take_turn.new.disk before.same.plan
@@ -71,7 +72,6 @@ returns-in-Some g c =
           (λ e. ap (λ (x : Drove). Some x) e) (some_same how drove.DiskFault) (λ failed e lost. lost) ended.keeps);
       faults = faults_then before.faults (faults_as _ _ (λ is. some_same how drove.ReadFault (sym c.in-Some.is ∙ is)) (λ is. c.in-Some.is ∙ ap (λ (x : Drove). Some x) is) (λ is. c.in-Some.is ∙ ap (λ (x : Drove). Some x) is) turn.faults);
       serves = serves_then before.serves (rw before.same.lang at turn.serves);
-      by_turns = (between_turns two c.loop-turn.disk b.left b.written ∷ before.by_turns.0, (before.by_turns.1, rw (before.serves.teaches.turn, before.same.lang, before.same.plan) at turn.turn));
     }
 
 pub loop-turn-preserved : goal.loop-turn-preserved
@@ -99,7 +99,6 @@ loop-turn-preserved g c =
       keeps =
           keeps_then D g.met.D.Disk.counts_now g.met.D.Disk.only_now P ⊥ (λ e. ⊥) (λ e. ⊥) one two three c.args.disk.now c.loop-turn.disk c.take_turn.new.disk before.same.plan (λ e lost. lost) before.keeps
           (keeps_as D g.met.D.Disk.counts_now g.met.D.Disk.only_now P Failed ⊥ _ (λ e. ⊥) two three c.loop-turn.disk c.take_turn.new.disk (λ e. absurd e) (λ e. none_some drove.DiskFault (sym c.in_default.is ∙ e)) (λ bad e lost. bad) turn.keeps);
-      by_turns = (between_turns two c.loop-turn.disk b.left b.written ∷ before.by_turns.0, (before.by_turns.1, rw (before.serves.teaches.turn, before.same.lang, before.same.plan) at turn.turn));
       more = omega (arith, grown, before.more);
     }
 

@@ -1,4 +1,4 @@
-use Rattle.acq_loop.proofs.Prelude.{◌≤◌, length, standing_on, Keeps, IsAdded, StepsTo, point_of, terms_with, ByTurns, between_turns}
+use Rattle.acq_loop.proofs.Prelude.{◌≤◌, length, standing_on, Keeps, IsAdded, StepsTo, point_of, terms_with}
 use Rattle.session_store.specs.Keeps.{IsSameSession}
 use Rattle.acq_loop.specs.Loop.{HasReadAndWritten, IsReadyToTurn}
 use Rattle.acq_loop.specs.Turn.{ServesOn}
@@ -17,7 +17,5 @@ invariant-loop-turn g l =
       serves : ServesOn T.turn T.fits T.may_say T.reads lang old.teacher l.teacher old.source l.source l.places;
       added : IsAdded lang (P.plan old.keep) (T.may_say old.teacher lang) (P.record_of old.keep) (P.record_of l.keep);
       keeps : Keeps P g.D.Disk ⊥ (λ e. ⊥) old.keep l.keep old.disk l.disk;
-      by_turns : ByTurns P g.D.Disk (T.turn old.teacher) lang terms
-          (between_turns old.keep old.disk (S.left old.source) (K.written old.sink)) (between_turns l.keep l.disk (S.left l.source) (K.written l.sink));
       more : l._turn ≤ length (P.record_of l.keep);
     }

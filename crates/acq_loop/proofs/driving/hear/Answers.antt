@@ -1,4 +1,4 @@
-use Rattle.acq_loop.proofs.Prelude.{ℕ, ◌≡◌, ◌∙◌, ap, sym, subst, refl, arith, Some, Assignment, Language, knowledge_of, open_in, HearsReply}
+use Rattle.acq_loop.proofs.Prelude.{ℕ, ◌≡◌, ◌∙◌, ap, sym, subst, refl, arith, Assignment, Language, knowledge_of, open_in, HearsReply}
 use Rattle.acq_loop.proofs.Standings.{at_turn, next_fits}
 use Rattle.session_core.proofs.Turning.{same_some}
 use Rattle.acq_loop.proofs.driving.hear.Goals as goal

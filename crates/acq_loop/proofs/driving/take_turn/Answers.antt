@@ -1,4 +1,4 @@
-use Rattle.acq_loop.proofs.Prelude.{◌≡◌, ◌∙◌, ◌+◌, ℕ, true, false, List, length, is_some, ap, sym, subst, refl, Option, Some, Assignment, Event, Language, standing_on, knowledge_of, both_as, keeps_as, keeps_then, loses_none, loses_none_as, Turns, Terms, Loses, EventKept, HearsReply, heard_of, event_on, is_unasked, point_of, terms_with, JournalFull, Drove, Entry}
+use Rattle.acq_loop.proofs.Prelude.{◌≡◌, ◌∙◌, ◌+◌, ℕ, true, false, List, length, is_some, ap, sym, subst, refl, Option, Some, Assignment, Event, Language, standing_on, knowledge_of, both_as, keeps_as, keeps_then, loses_none, loses_none_as, Turns, Terms, MayEnd, MaySayNext, ending_of, Loses, EventKept, HearsReply, heard_of, event_on, is_unasked, point_of, terms_with, JournalFull, Drove, Entry}
 use Rattle.acq_loop.specs.declared.driving.Drove.TheVariants as drove
 use Rattle.acq_loop.specs.declared.driving.Heard.TheVariants as heard
 use Rattle.acq_loop.proofs.Added.{adds, taught_kept, taught_none}
@@ -41,7 +41,7 @@ returns-in-Some g c =
       ready = λ none. absurd (let no : ⊥ = cc in no);
       ends = rw only.events (unasked.ends turns left written);
       same = record { lang = only.lang; plan = only.plan; sound = only.sound };
-      taught = taught_none l (P.plan one) may (P.record_of one) (P.record_of two) only.events (unasked_may may how unasked.unasked);
+      taught = taught_none l (P.plan one) may (P.record_of one) (P.record_of two) only.events (unasked_may (MaySayNext l terms (standing_on l (P.record_of two)) may) how unasked.unasked);
       keeps = only_keeps P D g.met.D.Disk.counts_now g.met.D.Disk.only_now g.met.P.Keep.lasts one two c.args.disk.now only c.requires.keeper _ _ (no_fault how drove.DiskFault unasked.unasked refl);
       faults = faults_still left _ _ _ _ _ (no_fault how drove.ReadFault unasked.unasked refl) (no_fault how drove.WriteFault unasked.unasked refl);
       serves = serves_still c.args.teacher.now c.args.source.now c.put_next.new.places c.put_next.ensures.places;
@@ -151,7 +151,7 @@ returns-in-Keep g c =
       same = record { lang = c.keep_event.ensures.same.lang ∙ only.lang; plan = c.keep_event.ensures.same.plan ∙ only.plan; sound = c.keep_event.ensures.same.sound };
       taught = record {
         added = adds run_laws l at.lawful terms may events after q e end at.puts at.fits follows kept (word_may_add l word _ entry may q is at.fits hears.says);
-        said = taught_kept may e events after end kept;
+        said = taught_kept (MaySayNext l terms (standing_on l after) may) e events after end kept;
       };
       keeps =
           keeps_then D g.met.D.Disk.counts_now g.met.D.Disk.only_now P Failed Lost Lost one two three c.args.disk.now c.args.disk.now c.keep_event.new.disk only.plan (λ x lost. lost)
@@ -191,12 +191,13 @@ returns-in-End g c =
     let end : Drove = c.in-End.end in
     let hears : HearsReply turns (g.T.Teacher.may_say c.args.teacher.now) l q (length (standing_on l events)) left written left' written' (heard.End end) = rw (asked.language, asked.number) at (c.in-End.ensures.hears q asked.is_open) in
     let is : heard_of hears.word (length (standing_on l events)) ≡ heard.End end = sym hears.is in
+    let Said : List Event → Type 0 = λ es. MayEnd (MaySayNext l terms (standing_on l es) may) (ending_of end) in
     record {
       again = λ none. absurd (let no : ⊥ = cc in no);
       ready = λ none. absurd (let no : ⊥ = cc in no);
       ends = rw only.events (word_ends l terms events q at turns left written left' written' hears.word end c.put_next.new.screen c.put_next.ensures.screen is hears.asks hears.tells);
       same = record { lang = only.lang; plan = only.plan; sound = only.sound };
-      taught = taught_none l (P.plan one) may events (P.record_of two) only.events (word_may_end hears.word _ end may q is hears.says);
+      taught = taught_none l (P.plan one) may events (P.record_of two) only.events (subst Said (sym only.events) (word_may_end hears.word _ end (MaySayNext l terms (standing_on l events) may) q is (at.puts, hears.says)));
       keeps = only_keeps P D g.met.D.Disk.counts_now g.met.D.Disk.only_now g.met.P.Keep.lasts one two c.args.disk.now only c.requires.keeper _ _ (word_not_disk hears.word _ end is);
       faults = faults_as _ _ (some_end end drove.ReadFault) (end_heard end drove.ReadFault) (end_heard end drove.WriteFault) c.in-End.ensures.faults;
       serves = record { teaches = c.hear.ensures.teacher; unread = c.hear.ensures.unread; equipped = c.put_next.ensures.places };
