@@ -1,0 +1,319 @@
+#!/usr/bin/env python3
+"""Each wrong body is noticed by a row of a table or by one of the checks, or no run can show it.
+
+usage: checks/wrong_bodies.py [--write] [--every] [--room FOLDER] [--jobs N] [NAME ..]
+       checks/wrong_bodies.py --plants [--room FOLDER] [--jobs N] CRATE ..
+
+A wrong body is an edit of crates/*/must-fail, which the prover refuses too, or of
+checks/wrong_bodies/CRATE; NAME chooses those of a crate, or one, as CRATE/SENTENCE. They are
+compiled together into each program with a table, without proof, each behind a switch that is read
+at the start. Every row has to hold with the right bodies; then the program is run with each wrong
+one up to the first row that doesn't hold. What no table notices goes through the other checks on
+the program itself.
+
+checks/wrong_bodies/noticed.tsv has a line for each body: the table and its first row that doesn't
+hold, or the check that fails, or `no run` and the reason why none shows it. Each body is run where
+its line says. Those that no run shows are put on together and go through every table and check,
+and one by one where anything comes of that. The edits of checks/wrong_bodies/same/CRATE write a
+body otherwise and mean the same, so nothing may notice them.
+
+It fails where a line isn't as it comes, lacks, or is about no edit, and where an edit doesn't fit
+the sources or compile. --write writes lines that lack or don't come anew. With --every no line is
+believed: each body goes through the tables in turn, and then the checks, until one notices it.
+With --room the programs are kept in a folder, and used again where no source and no body has
+changed, as after a row was added. Where a build of the kit calls its tools in another way than is
+known here, nothing is tried, and the last line says so.
+
+With --plants the bodies are those that `rt plant` writes for all functions of these crates, also
+where it would not ask the prover. Those that no table notices are listed: one that means another
+thing than the right one wants a row, and is worth an edit then.
+"""
+
+from __future__ import annotations
+
+import argparse
+import os
+import shutil
+import sys
+import tempfile
+import time
+from concurrent.futures import ThreadPoolExecutor
+
+HERE = os.path.dirname(os.path.realpath(__file__))
+sys.dont_write_bytecode = True
+sys.path.insert(0, f"{HERE}/wrong_bodies_parts")
+
+# pylint: disable=wrong-import-position
+from edits import BadEdit, Edit, Sources, find_edits, number, read_bodies, switch_of, together
+from plants import find_plants
+from programs import OtherKit, Program, Table, ask, build, check, run
+
+STORED = f"{HERE}/wrong_bodies/noticed.tsv"
+HEAD = ("# What notices each wrong body: a table and its first row that doesn't hold, a check and "
+        "its words, or `no run` and why none shows it.\n")
+TABLES = ("language_trials", "edge_trials", "store_trials", "program_rows", "answer_trials")
+PROGRAM = "acquire"
+# in the order in which they are tried: those that see much in little time first
+CHECKS = {"walks.py": "100", "owners.py": "200", "certs.py": "250", "journals.py": "",
+          "backs.py": "", "models.py": "", "tables.py": "", "kills.py": "30", "demos.py": "60",
+          "faults.py": "", "memory.py": ""}
+SLOW = ("memory.py",)       # where a line names it, and for a body without a line, alone
+NO_RUN = "no run"
+Line = tuple[str, str]      # what notices a body, and the row, the check's words, or the reason
+
+
+def read_lines() -> dict[str, Line]:
+    """What is stored, by the name of the edit."""
+    found = {}
+    with open(STORED, encoding="utf-8") as file:
+        for line in file:
+            if not line.startswith("#"):
+                name, by, what = line.rstrip("\n").split("\t")
+                found[name] = (by, what)
+    return found
+
+
+def write_lines(lines: dict[str, Line]) -> None:
+    """Stores the lines, sorted by name, so that a change shows as a difference of few lines."""
+    with open(STORED, "w", encoding="utf-8") as file:
+        file.write(HEAD)
+        for name, (by, what) in sorted(lines.items()):
+            file.write(f"{name}\t{by}\t{what}\n")
+
+
+def is_unshown(edit: Edit, lines: dict[str, Line]) -> bool:
+    """Whether nothing may notice it."""
+    return edit.same or lines.get(edit.name, ("",))[0] == NO_RUN
+
+
+def gather(names: list[str], faults: dict[str, str]) -> list[Edit]:
+    """The edits that are chosen, with their bodies. One that doesn't fit is a fault."""
+    edits: dict[str, Edit] = {}
+    for edit in find_edits():
+        if names and edit.name not in names and edit.crate not in names:
+            continue
+        try:
+            if edit.name in edits:
+                raise BadEdit("its name stands twice")
+            read_bodies(edit)
+            edits[edit.name] = edit
+        except BadEdit as fault:
+            faults[edit.name] = f"a bad edit: {fault}"
+    return list(edits.values())
+
+
+class Bench:
+    """The programs with the wrong bodies in them, and what comes of runs."""
+
+    def __init__(self, room: str, jobs: int):
+        self.room, self.pool = room, ThreadPoolExecutor(jobs)
+        self.programs: dict[str, Program] = {}
+        self.tables = {name: Table(name) for name in TABLES}
+        self.seconds: dict[str, int] = {}   # that a run of a table may take of a processor
+
+    def compile(self, names: list[str], edits: list[Edit], faults: dict[str, str]) -> list[Edit]:
+        """Builds these programs. Edits that the compiler refuses are faults, and none of what is
+        given back."""
+        # the last ones take longest
+        names = names[::-1]
+        asked = self.pool.map(lambda name: ask(name, f"{self.room}/{name}"), names)
+        left = dict(zip(names, asked))
+        while left:
+            sources = Sources(f"{self.room}/sources", edits)
+            said = self.pool.map(lambda program: build(program, sources), left.values())
+            refused: dict[str, str] = {}
+            for name, text in list(zip(left, said)):
+                blamed = sources.blamed(text)
+                if not text:
+                    self.programs[name] = left.pop(name)
+                elif not blamed and ": error" in text:
+                    raise SystemExit(f"wrong_bodies: {name} doesn't compile: {text[:600]}")
+                elif not blamed:
+                    raise OtherKit(f"{name} isn't built: {text.strip()[-300:]}")
+                refused.update(blamed)
+            for name, why in refused.items():
+                faults[name] = f"a bad edit: it doesn't compile: {why}"
+            edits = [edit for edit in edits if edit.name not in refused]
+        return edits
+
+    def first_row(self, name: str, edits: list[Edit]) -> tuple[str, str]:
+        """The first row of a table that doesn't hold with these bodies, and what came instead."""
+        program, seconds = self.programs[name], self.seconds.get(name, 600)
+        row, came, used = run(program, self.tables[name], switch_of(edits), seconds)
+        if not edits:
+            self.seconds[name] = 5 + int(4 * used)
+        return row, came
+
+    def fails(self, name: str, edits: list[Edit]) -> bool:
+        """Whether one of the checks fails with these bodies."""
+        return check(self.programs[PROGRAM], [name, *CHECKS[name].split()], switch_of(edits))
+
+    def links(self, name: str, edits: list[Edit]) -> bool:
+        """Whether a program is built and has the crate of one of these bodies."""
+        return name in self.programs and any(
+            edit.crate in self.programs[name].linked for edit in edits)
+
+    def right_faults(self, checks: bool) -> dict[str, str]:
+        """What doesn't hold with the right bodies, by the tables, and by the checks too, which
+        the gate itself runs elsewhere."""
+        tables = [name for name in self.programs if name != PROGRAM]
+        rows = self.pool.map(lambda name: self.first_row(name, []), tables)
+        found = {name: f"with the right bodies `{row}` doesn't hold: {came[:300]}"
+                 for name, (row, came) in zip(tables, rows) if row}
+        names = CHECKS if checks and PROGRAM in self.programs else {}
+        failed = self.pool.map(lambda name: self.fails(name, []), names)
+        found.update({name: "it fails with the right bodies"
+                      for name, one in zip(names, failed) if one})
+        return found
+
+    def notices(self, edits: list[Edit], slow: bool = False) -> Line | None:
+        """What notices these bodies first: the tables in turn, then the checks."""
+        for name in TABLES:
+            if self.links(name, edits) and (row := self.first_row(name, edits)[0]):
+                return name, row
+        for name, words in CHECKS.items():
+            if name in SLOW and not slow:
+                continue
+            if self.links(PROGRAM, edits) and self.fails(name, edits):
+                return name, words
+        return None
+
+    def differs(self, edit: Edit, line: Line) -> str:
+        """How what comes differs from the line of a body that something notices, or nothing."""
+        by, what = line
+        if by in self.tables:
+            if not self.links(by, [edit]):
+                return f"{by} doesn't link its crate"
+            row, came = self.first_row(by, [edit])
+            if not row:
+                return f"every row of {by} holds"
+            if row != what:
+                return f"{by}: `{row}` notices it first, and not `{what}`: {came[:200]}"
+            return ""
+        if CHECKS.get(by) != what:
+            return f"there is no check {by} {what}".rstrip()
+        return "" if self.fails(by, [edit]) else f"{by} passes with it"
+
+
+def judge_by_lines(bench: Bench, edits: list[Edit], lines: dict[str, Line]) -> dict[str, str]:
+    """What is wrong with the lines of these edits, by name."""
+    wrong = {edit.name: "it has no line" for edit in edits
+             if not edit.same and edit.name not in lines}
+    shown = [edit for edit in edits if edit.name not in wrong and not is_unshown(edit, lines)]
+    said = bench.pool.map(lambda edit: bench.differs(edit, lines[edit.name]), shown)
+    wrong.update({edit.name: why for edit, why in zip(shown, said) if why})
+    groups = [group for same in (True, False) for group in together(
+        [edit for edit in edits if is_unshown(edit, lines) and edit.same == same])]
+    noted = bench.pool.map(bench.notices, groups)
+    alone = [edit for group, line in zip(groups, noted) if line for edit in group]
+    for edit, line in zip(alone, bench.pool.map(lambda edit: bench.notices([edit]), alone)):
+        if line:
+            wrong[edit.name] = f"nothing should notice it, and {' '.join(line).strip()} does"
+    return wrong
+
+
+def judge_anew(bench: Bench, edits: list[Edit], lines: dict[str, Line]) -> dict[str, str]:
+    """Puts what notices each body into the lines, and gives what is wrong then, by name: one that
+    nothing notices wants a reason, and one that has a reason, or means the same, nothing that
+    notices it."""
+    def one(edit: Edit) -> Line | None:
+        line = bench.notices([edit], True)
+        print(f"{edit.name}: {' '.join(line).strip() if line else 'not noticed'}", flush=True)
+        return line
+
+    wrong = {}
+    for edit, line in zip(edits, bench.pool.map(one, edits)):
+        if line and is_unshown(edit, lines):
+            wrong[edit.name] = f"nothing should notice it, and {' '.join(line).strip()} does"
+        elif line:
+            lines[edit.name] = line
+        elif not is_unshown(edit, lines):
+            lines.pop(edit.name, None)
+            wrong[edit.name] = "nothing notices it, and no reason is given"
+    return wrong
+
+
+def programs_for(edits: list[Edit], lines: dict[str, Line], anew: bool) -> list[str]:
+    """The programs in which these edits are run."""
+    by = {NO_RUN if edit.same else lines.get(edit.name, ("",))[0] for edit in edits}
+    if anew or NO_RUN in by:
+        return [*TABLES, PROGRAM]
+    return [name for name in TABLES if name in by] + [PROGRAM] * any(it in CHECKS for it in by)
+
+
+def judge(said: argparse.Namespace, room: str) -> tuple[int, dict[str, str]]:
+    """Looks at all that is chosen: how many edits there are, and what is wrong, by name."""
+    faults: dict[str, str] = {}
+    edits, lines = gather(said.names, faults), read_lines()
+    count = len(edits) + len(faults)
+    number(edits)
+    lacks = any(not edit.same and edit.name not in lines for edit in edits)
+    bench = Bench(room, said.jobs)
+    names = programs_for(edits, lines, said.every or said.write and lacks)
+    edits = bench.compile(names, edits, faults)
+    right = bench.right_faults(said.every or said.write)
+    if right:
+        return count, {**faults, **right}
+    wrong = {} if said.every else judge_by_lines(bench, edits, lines)
+    if said.every or said.write:
+        wrong = judge_anew(bench, [it for it in edits if said.every or it.name in wrong], lines)
+    known = {edit.name for edit in find_edits() if not edit.same}
+    if said.write:
+        write_lines({name: line for name, line in lines.items() if name in known})
+    elif not said.names:
+        wrong.update({name: "it has a line, and is no edit" for name in set(lines) - known})
+    return count, {**faults, **wrong}
+
+
+def tell_plants(said: argparse.Namespace, room: str) -> None:
+    """Lists the plants of some crates that no table notices, and counts all."""
+    edits = [edit for crate in said.names for edit in find_plants(crate)]
+    number(edits)
+    refused: dict[str, str] = {}
+    bench = Bench(room, said.jobs)
+    edits = bench.compile([*TABLES], edits, refused)
+    if faults := bench.right_faults(False):
+        raise SystemExit("\n".join(f"wrong_bodies: {it}: {why}" for it, why in faults.items()))
+    count = 0
+    for edit, line in zip(edits, bench.pool.map(lambda edit: bench.notices([edit]), edits)):
+        if not line:
+            count += 1
+            print(edit.name, flush=True)
+    print(f"wrong_bodies: {len(edits)} plants, of which no table notices {count}; "
+          f"{len(refused)} that don't compile")
+
+
+def main() -> int:
+    """Status 0 where each body is noticed as its line says."""
+    words = argparse.ArgumentParser(
+        description=__doc__, formatter_class=argparse.RawDescriptionHelpFormatter)
+    words.add_argument("--write", action="store_true")
+    words.add_argument("--every", action="store_true")
+    words.add_argument("--plants", action="store_true")
+    words.add_argument("--room")
+    words.add_argument("--jobs", type=int, default=os.cpu_count() or 1)
+    words.add_argument("names", nargs="*")
+    said = words.parse_args()
+    begun = time.monotonic()
+    room = os.path.abspath(said.room) if said.room else tempfile.mkdtemp()
+    try:
+        if said.plants:
+            tell_plants(said, room)
+            return 0
+        count, faults = judge(said, room)
+    except OtherKit as fault:
+        print(f"wrong_bodies: passed over: {fault}")
+        print(f"wrong_bodies: 0 passed, 0 failed, {len(find_edits())} passed over")
+        return 0
+    finally:
+        if not said.room:
+            shutil.rmtree(room)
+    for name, why in sorted(faults.items()):
+        print(f"wrong_bodies: {name}: {why}")
+    print(f"wrong_bodies: {count} bodies, {time.monotonic() - begun:.0f} s")
+    print(f"wrong_bodies: {count - len(faults)} passed, {len(faults)} failed")
+    return 1 if faults or not count else 0
+
+
+if __name__ == "__main__":
+    sys.exit(main())
