@@ -1,17 +1,21 @@
 #!/usr/bin/env python3
-"""A word of the specifications has one meaning, and a lemma one home.
+"""A word of the specifications has one meaning, and a lemma one home; the checker of certificates stands apart from the learner.
 
 usage: checks/homes.py
 
 - A word that the specifications of one crate define isn't defined by those of another one too. SAME and OWN have the exceptions,
   each with its reason; ten words at most may mean different things.
 - A statement isn't proved in two crates, whatever its variables are called.
+- Below cert_check stand the crates of SHARED alone: no set of possible candidates, no search and no session. So a fault of the learner
+  isn't one of the checker too.
 """
 
 import glob
 import os
 import re
 from collections import defaultdict
+
+from imports import crates_below
 
 TOP = os.path.realpath(os.path.join(os.path.dirname(os.path.abspath(__file__)), ".."))
 # Words that mean the same wherever they stand, and why they have no home of their own.
@@ -33,6 +37,8 @@ OWN = {
     "values_of": "the values of what it is applied to: an assignment, a variable, a table",
     "widened": "an assignment gets more variables, a relation more tuples",
 }
+# What the checker of certificates has in common with the learner: what a vocabulary says, and how text is read.
+SHARED = {"shared_lemmas", "assign", "line_text", "rel_table", "rel_formula", "language", "voc_read"}
 NAME = r"[A-Za-z_][\w'\-]*"
 DEFINED = re.compile(rf"(?: *(?:abbrev|unfoldable) pub|(?: *pub (?:record|data))|pub) ({NAME})(?= ).*:")
 STATED = re.compile(rf"(?:pub )?({NAME}) : (.*)")
@@ -85,6 +91,11 @@ def statements():
     return found
 
 
+def below_checker():
+    """The crates below the checker of certificates that aren't among those that it may share with the learner."""
+    return sorted(crates_below()["cert_check"] - SHARED - {"cert_check"})
+
+
 def main():
     failed = 0
     several = {word: crates for word, crates in words().items() if len(crates) > 1}
@@ -103,9 +114,13 @@ def main():
         if len({crate for crate, _ in places}) > 1:
             print("homes: proved in two crates: " + ", ".join(sorted(place for _, place in places)))
             twice += 1
+    learners = below_checker()
+    if learners:
+        print(f"homes: below cert_check stands {', '.join(learners)}, and a checker shares no search, kept set or session with the learner")
     print(f"homes: {len(several)} words in several crates, {len(OWN)} of them with several meanings; {twice} lemmas in two crates")
-    print(f"homes: {2 - bool(failed) - bool(twice)} passed, {bool(failed) + bool(twice)} failed")
-    return 1 if failed or twice else 0
+    faults = bool(failed) + bool(twice) + bool(learners)
+    print(f"homes: {3 - faults} passed, {faults} failed")
+    return 1 if faults else 0
 
 
 raise SystemExit(main())

@@ -1,84 +1,106 @@
 -- What one answer more tells of all candidates.
-use Rattle.cert_check.proofs.Prelude.{◌≡◌, ℕ, zero, suc, ◌+◌, ◌-◌, ◌<◌, ◌≤◌, ◌^◌, Bool, true, false, cond, not, ◌&&◌, ◌||◌, List, [], ◌∷◌, length, take, get_or, Option, Some, None, refl, sym, ◌∙◌, ap, subst, arith, inl, inr, ◌⊎◌, get_or-set_same, get_or-set_other, ◌↔◌, ◌==◌, All, Contains, IfSome, bit_or, slice_set, slice_index_or, unwrap_or, filter, list_any, and_from, and_parts, both_ways, cases_eq, eq-eqb, false_from_ne_true, not-true, length-set, bit_at-zero, All-contains, list_any_at, list_any_more, list_all-from_AllPass, has, is_same, is_within, is_one, is_one-or, Assignment, covers, variables_of, Answer, Candidate, Language, IsLanguage, IsCandidate, candidates, number_of, place_on, relations_on, scope_at, scope_number, scope_of, violates, is_struck, numbered, covered_within, same_scope, filter_all, any_number, is_spared, AreSpared, IsSparedOn, is_no_about, unstruck, list_same, same_list}
-use Rattle.bias_store.specs.Accepting.{accepting_on}
-use Rattle.bias_store.proofs.Bits.{accepting_bit}
-use Rattle.bias_store.proofs.Picked.{bare, covered}
+use Rattle.cert_check.proofs.Prelude.{◌≡◌, ℕ, ◌+◌, ◌-◌, ◌<◌, ◌≤◌, ◌^◌, Bool, true, false, cond, not, ◌&&◌, ◌||◌, List, [], ◌∷◌, length, take, get_or, Option, Some, None, refl, sym, ◌∙◌, ap, subst, arith, inl, inr, ◌⊎◌, get_or-set_same, get_or-set_other, ◌==◌, All, IfSome, bit_or, slice_set, slice_index_or, unwrap_or, list_any, and_from, and_parts, both_ways, cases_eq, eq-eqb, false_from_ne_true, length-set, bit_at-zero, list_any_at, list_any_more, list_all-from_AllPass, has, is_same, is_within, is_one, is_one-or, Assignment, covers, variables_of, Answer, Candidate, Language, IsLanguage, IsCandidate, place_on, relations_on, scope_at, scope_number, scope_of, violates, is_struck, covered_within, same_scope, any_number, is_spared, AreSpared, IsSparedOn, is_no_about, AreUnstruck, HaveLost, option_map_or, list_same, same_list}
 use Rattle.cert_check.proofs.Finding.{all_fail}
-use Rattle.std.proofs.lemmas.List.Elements.{filter_agree}
-use Rattle.shared_lemmas.proofs.Lists.{filter_and}
 use Rattle.assign.specs.Sets.{ones_of}
 use Rattle.assign.proofs.Ones.{has-ones_of, ones_of-first}
-
--- ---- what a filter keeps
-
-all_pass : {X : Type 0} (p : X → Bool) (xs : List X) → All (λ x. p x ≡ true) (filter p xs)
-all_pass p [] = λ k d low. absurd (omega arith)
-all_pass p (x ∷ xs) = go (p x) refl (all_pass p xs)
-  where
-    go : (b : Bool) → p x ≡ b → All (λ x. p x ≡ true) (filter p xs) → All (λ x. p x ≡ true) (cond b (x ∷ filter p xs) (filter p xs))
-    go true on rest = with_first
-      where
-        with_first : All (λ x. p x ≡ true) (x ∷ filter p xs)
-        with_first zero d low = on
-        with_first (suc k) d low = rest k d (omega arith)
-    go false off rest = rest
-
-still_there : {X : Type 0} (p : X → Bool) (xs : List X) (x : X) (k : ℕ) → k < length xs → get_or xs k x ≡ x → p x ≡ true → Contains (filter p xs) x
-still_there p [] x k low at passes = absurd (omega arith)
-still_there p (y ∷ ys) x zero low at passes = go (p y) (ap p at ∙ passes)
-  where
-    go : (b : Bool) → b ≡ true → Contains (cond b (y ∷ filter p ys) (filter p ys)) x
-    go true on = (0, omega arith, at)
-    go false on = absurd (both_ways _ refl on)
-still_there p (y ∷ ys) x (suc k) low at passes = go (p y) (still_there p ys x k (omega arith) at passes)
-  where
-    go : (b : Bool) → Contains (filter p ys) x → Contains (cond b (y ∷ filter p ys) (filter p ys)) x
-    go true rest = (suc rest.0, (let h = rest.1 in omega (arith, h)), rest.2)
-    go false rest = rest
+use Rattle.assign.proofs.Masks.{is_one-and}
+use Rattle.std.specs.Int.{bit_at}
+use Rattle.std.specs.Prelude.{bit_and}
 
 -- ---- the candidates that no yes violates
 
-module _ (l : Language) (t : List Answer) where
-  pub none_struck : (members : List Candidate) → members ≡ candidates l → members ≡ unstruck l (take 0 t)
-  none_struck members all = all ∙ sym (filter_all (λ c. not (is_struck l [] c)) (candidates l) (λ k d low. refl))
+all_ones : (mask r : ℕ) → mask ≡ 2 ^ 64 - 1 → r < 64 → is_one mask r ≡ true
+all_ones mask r is low = sym (has-ones_of mask r low) ∙ ap (λ m. has (ones_of m) r) is ∙ ap (λ xs. has xs r) (ones_of-first 64 (omega arith)) ∙ any_number (λ x. x == r) 64 r low (eq-eqb r r refl)
 
-  module _ (i : ℕ) (a : Answer) (low : i < length t) (at : a ≡ get_or t i a) where
-    -- one answer more
-    struck_more : (c : Candidate) → is_struck l (take (i + 1) t) c ≡ (is_struck l (take i t) c || (a.yes && violates l c a.question))
-    struck_more c = list_any_more (λ (b : Answer). b.yes && violates l c b.question) t i a low ∙ ap (λ (b : Answer). is_struck l (take i t) c || (b.yes && violates l c b.question)) (sym at)
+pub none_struck : (l : Language) (t : List Answer) (list : List ℕ) → IsLanguage l → length list ≡ length l.scopes → ((s : ℕ) → s < length list → slice_index_or list s 0 ≡ 2 ^ 64 - 1) → AreUnstruck l (take 0 t) list
+none_struck l t list lawful long all = record {
+  long = long;
+  few = lawful.few_relations;
+  each = λ s r low small. all_ones (slice_index_or list s 0) r (all s (omega (arith, low, long))) (let few = lawful.few_relations s low in omega (arith, small, few));
+}
 
-    pub yes_strikes : (before after : List Candidate) → a.yes ≡ true → before ≡ unstruck l (take i t) → after ≡ filter (λ c. not (violates l c a.question)) before → after ≡ unstruck l (take (i + 1) t)
-    yes_strikes before after said was now =
-        now ∙ ap (filter (λ c. not (violates l c a.question))) was
-        ∙ sym (filter_and (λ c. not (is_struck l (take i t) c)) (λ c. not (violates l c a.question)) (candidates l))
-        ∙ filter_agree _ (λ c. not (is_struck l (take (i + 1) t) c)) (λ c. go (is_struck l (take i t) c) (violates l c a.question) ∙ ap (λ b. not (is_struck l (take i t) c || (b && violates l c a.question))) (sym said) ∙ ap not (sym (struck_more c))) (candidates l)
-      where
-        go : (b v : Bool) → (not b && not v) ≡ not (b || (true && v))
-        go true v = refl
-        go false v = refl
+module _ (l : Language) (q : Assignment) where
+  pub lost_none : (before : List ℕ) → HaveLost l q 0 before before
+  lost_none before = record { long = refl; each = λ s r low known small. absurd (omega (arith, low)); rest = λ s from. refl }
 
-    pub no_strikes : (before : List Candidate) → a.yes ≡ false → before ≡ unstruck l (take i t) → before ≡ unstruck l (take (i + 1) t)
-    no_strikes before denied was =
-        was ∙ filter_agree _ (λ c. not (is_struck l (take (i + 1) t) c)) (λ c. go (is_struck l (take i t) c) ∙ ap (λ b. not (is_struck l (take i t) c || (b && violates l c a.question))) (sym denied) ∙ ap not (sym (struck_more c))) (candidates l)
-      where
-        go : (b : Bool) → not b ≡ not (b || false)
-        go true = refl
-        go false = refl
-
-  pub struck_is : (c : Candidate) (members : List Candidate) (b : Bool) → members ≡ unstruck l t → IsCandidate l c → (b ≡ true ↔ Contains members c) → not b ≡ is_struck l t c
-  struck_is c members b all is kept = go (is_struck l t c) refl b kept
+  -- one scope more
+  pub lost_more : (n mask : ℕ) (before now : List ℕ) → n < length before → ((r : ℕ) → r < length (relations_on l n) → is_one mask r ≡ not (violates l (record { scope = n; rel = r }) q)) →
+      HaveLost l q n before now → HaveLost l q (n + 1) before (slice_set now n (bit_and (slice_index_or now n 0) mask))
+  lost_more n mask before now low is lost = record {
+    long = length-set now n _ ∙ lost.long;
+    each = λ s r below known small. each s r below known small (cases_eq s n);
+    rest = λ s from. get_or-set_other now n s _ 0 (λ same. (let h : ⊥ = omega (arith, same, from) in h)) ∙ lost.rest s (omega (arith, from));
+  }
     where
-      passes : Contains members c → not (is_struck l t c) ≡ true
-      passes there = All-contains (λ d. not (is_struck l t d) ≡ true) members c (subst (All (λ d. not (is_struck l t d) ≡ true)) (sym all) (all_pass (λ d. not (is_struck l t d)) (candidates l))) there
+      inside : n < length now
+      inside = let same = lost.long in omega (arith, low, same)
 
-      there : not (is_struck l t c) ≡ true → Contains members c
-      there free = subst (λ (xs : List Candidate). Contains xs c) (sym all) (still_there (λ d. not (is_struck l t d)) (candidates l) c (number_of l c) ((numbered l).below c is) ((numbered l).there c c is) free)
+      each : (s r : ℕ) → s < n + 1 → s < length l.scopes → r < length (relations_on l s) → (s ≡ n) ⊎ (s ≡ n → ⊥) →
+          is_one (slice_index_or (slice_set now n (bit_and (slice_index_or now n 0) mask)) s 0) r ≡ (is_one (slice_index_or before s 0) r && not (violates l (record { scope = s; rel = r }) q))
+      each s r below known small (inl same) =
+          ap (λ k. is_one (slice_index_or (slice_set now n (bit_and (slice_index_or now n 0) mask)) k 0) r) same
+          ∙ ap (λ m. is_one m r) (get_or-set_same now n _ 0 inside)
+          ∙ is_one-and (slice_index_or now n 0) mask r
+          ∙ ap (λ m. is_one m r && is_one mask r) (lost.rest n (omega arith))
+          ∙ ap (λ b. is_one (slice_index_or before n 0) r && b) (is r (subst (λ k. r < length (relations_on l k)) same small))
+          ∙ ap (λ k. is_one (slice_index_or before k 0) r && not (violates l (record { scope = k; rel = r }) q)) (sym same)
+      each s r below known small (inr other) = ap (λ m. is_one m r) (get_or-set_other now n s _ 0 other) ∙ lost.each s r (omega (arith, below, other)) known small
 
-      go : (x : Bool) → is_struck l t c ≡ x → (b : Bool) → (b ≡ true ↔ Contains members c) → not b ≡ is_struck l t c
-      go true e true kept = absurd (both_ways (is_struck l t c) (not-true _ (passes (kept.0 refl))) e)
-      go true e false kept = sym e
-      go false e true kept = sym e
-      go false e false kept = absurd (both_ways false refl (kept.1 (there (ap not e))))
+  -- and one on which nothing was left
+  pub lost_nothing : (n : ℕ) (before now : List ℕ) → slice_index_or now n 0 ≡ 0 → HaveLost l q n before now → HaveLost l q (n + 1) before now
+  lost_nothing n before now none lost = record {
+    long = lost.long;
+    each = λ s r below known small. each s r below known small (cases_eq s n);
+    rest = λ s from. lost.rest s (omega (arith, from));
+  }
+    where
+      no_bit : (r : ℕ) → is_one 0 r ≡ false
+      no_bit r = ap (λ x. x == 1) (bit_at-zero r)
+
+      each : (s r : ℕ) → s < n + 1 → s < length l.scopes → r < length (relations_on l s) → (s ≡ n) ⊎ (s ≡ n → ⊥) →
+          is_one (slice_index_or now s 0) r ≡ (is_one (slice_index_or before s 0) r && not (violates l (record { scope = s; rel = r }) q))
+      each s r below known small (inl same) =
+          let now_none : slice_index_or now s 0 ≡ 0 = ap (λ k. slice_index_or now k 0) same ∙ none in
+          let before_none : slice_index_or before s 0 ≡ 0 = sym (lost.rest s (omega (arith, same))) ∙ now_none in
+          ap (λ m. is_one m r) now_none ∙ no_bit r
+          ∙ sym (ap (λ m. is_one m r && not (violates l (record { scope = s; rel = r }) q)) before_none ∙ ap (λ b. b && not (violates l (record { scope = s; rel = r }) q)) (no_bit r))
+      each s r below known small (inr other) = lost.each s r (omega (arith, below, other)) known small
+
+module _ (l : Language) (t : List Answer) (i : ℕ) (a : Answer) (low : i < length t) (at : a ≡ get_or t i a) where
+  -- one answer more
+  struck_more : (c : Candidate) → is_struck l (take (i + 1) t) c ≡ (is_struck l (take i t) c || (a.yes && violates l c a.question))
+  struck_more c = list_any_more (λ (b : Answer). b.yes && violates l c b.question) t i a low ∙ ap (λ (b : Answer). is_struck l (take i t) c || (b.yes && violates l c b.question)) (sym at)
+
+  pub yes_strikes : (before after : List ℕ) → a.yes ≡ true → AreUnstruck l (take i t) before → HaveLost l a.question (length before) before after → AreUnstruck l (take (i + 1) t) after
+  yes_strikes before after said are lost = record {
+    long = lost.long ∙ are.long;
+    few = are.few;
+    each = λ s r known small.
+        lost.each s r (let long = are.long in omega (arith, known, long)) known small
+        ∙ ap (λ b. b && not (violates l (record { scope = s; rel = r }) a.question)) (are.each s r known small)
+        ∙ go (is_struck l (take i t) (record { scope = s; rel = r })) (violates l (record { scope = s; rel = r }) a.question)
+        ∙ ap (λ b. not (is_struck l (take i t) (record { scope = s; rel = r }) || (b && violates l (record { scope = s; rel = r }) a.question))) (sym said)
+        ∙ ap not (sym (struck_more (record { scope = s; rel = r })));
+  }
+    where
+      go : (b v : Bool) → (not b && not v) ≡ not (b || (true && v))
+      go true v = refl
+      go false v = refl
+
+  pub no_strikes : (list : List ℕ) → a.yes ≡ false → AreUnstruck l (take i t) list → AreUnstruck l (take (i + 1) t) list
+  no_strikes list denied are = record {
+    long = are.long;
+    few = are.few;
+    each = λ s r known small.
+        are.each s r known small
+        ∙ go (is_struck l (take i t) (record { scope = s; rel = r }))
+        ∙ ap (λ b. not (is_struck l (take i t) (record { scope = s; rel = r }) || (b && violates l (record { scope = s; rel = r }) a.question))) (sym denied)
+        ∙ ap not (sym (struck_more (record { scope = s; rel = r })));
+  }
+    where
+      go : (b : Bool) → not b ≡ not (b || false)
+      go true = refl
+      go false = refl
 
 -- ---- the scope that a no is about exactly
 
@@ -195,21 +217,35 @@ module _ (l : Language) (t : List Answer) (list : List (Option ℕ)) (c : Candid
   pub none_tells : slice_index_or list c.scope None ≡ None → false ≡ is_spared l t c
   none_tells there = sym (nothing_spared l c.scope c.rel t (subst (IsSparedOn l t c.scope) there (are.each c.scope is.scope)))
 
+-- what is left on a candidate's scope tells whether no yes violates it
+pub left_tells : (l : Language) (t : List Answer) (list : List ℕ) (c : Candidate) (mask : ℕ) → AreUnstruck l t list → IsCandidate l c → slice_index_or list c.scope 0 ≡ mask → is_one mask c.rel ≡ not (is_struck l t c)
+left_tells l t list c mask are is there = ap (λ m. is_one m c.rel) (sym there) ∙ are.each c.scope c.rel is.scope is.rel
+
 -- ---- the relations on a scope that a question doesn't violate
 
-all_ones : (mask r : ℕ) → mask ≡ 2 ^ 64 - 1 → r < 64 → is_one mask r ≡ true
-all_ones mask r is low = sym (has-ones_of mask r low) ∙ ap (λ m. has (ones_of m) r) is ∙ ap (λ xs. has xs r) (ones_of-first 64 (omega arith)) ∙ any_number (λ x. x == r) 64 r low (eq-eqb r r refl)
+pick : (b : Bool) (x : ℕ) (p : ℕ → Bool) → not (b && not (p x)) ≡ option_map_or p (cond b (Some x) None) true
+pick true x p = twice (p x)
+  where
+    twice : (b : Bool) → not (not b) ≡ b
+    twice true = refl
+    twice false = refl
+pick false x p = refl
 
-module _ (l : Language) (s : ℕ) (q : Assignment) (mask : ℕ) (few : length (relations_on l s) ≤ 64) where
-  pub unviolated_bare : None ≡ place_on l s q → mask ≡ 2 ^ 64 - 1 → (r : ℕ) → r < length (relations_on l s) → is_one mask r ≡ not (violates l (record { scope = s; rel = r }) q)
-  unviolated_bare none all r low = all_ones mask r all (omega (arith, low, few)) ∙ sym (ap not (bare l s q none r))
+-- those that accept the tuple that it gives the scope, and all where it gives none
+not_violated : (l : Language) (s : ℕ) (q : Assignment) (r : ℕ) →
+    not (violates l (record { scope = s; rel = r }) q) ≡ option_map_or (λ at. slice_index_or (slice_index_or (relations_on l s) r []) at false) (place_on l s q) true
+not_violated l s q r = pick (covers q (scope_at l s)) _ (λ at. slice_index_or (slice_index_or (relations_on l s) r []) at false)
 
-  pub unviolated_at : (place : ℕ) → Some place ≡ place_on l s q → ones_of mask ≡ accepting_on l s place → (r : ℕ) → r < length (relations_on l s) → is_one mask r ≡ not (violates l (record { scope = s; rel = r }) q)
-  unviolated_at place at is r low = accepting_bit l s place mask r (omega (arith, low, few)) is ∙ sym (twice _) ∙ sym (ap not (covered l s q place r at))
-    where
-      twice : (b : Bool) → not (not b) ≡ b
-      twice true = refl
-      twice false = refl
+module _ (l : Language) (s : ℕ) (q : Assignment) (mask : ℕ) where
+  pub unviolated_bare : length (relations_on l s) ≤ 64 → None ≡ place_on l s q → mask ≡ 2 ^ 64 - 1 → (r : ℕ) → r < length (relations_on l s) → is_one mask r ≡ not (violates l (record { scope = s; rel = r }) q)
+  unviolated_bare few none all r low =
+      all_ones mask r all (omega (arith, low, few))
+      ∙ ap (λ o. option_map_or (λ at. slice_index_or (slice_index_or (relations_on l s) r []) at false) o true) none ∙ sym (not_violated l s q r)
+
+  pub unviolated_at : (at : ℕ) → Some at ≡ place_on l s q → ((r : ℕ) → (bit_at mask r == 1) ≡ slice_index_or (slice_index_or (relations_on l s) r []) at false) → (r : ℕ) → r < length (relations_on l s) →
+      is_one mask r ≡ not (violates l (record { scope = s; rel = r }) q)
+  unviolated_at at there is r low =
+      is r ∙ ap (λ o. option_map_or (λ p. slice_index_or (slice_index_or (relations_on l s) r []) p false) o true) there ∙ sym (not_violated l s q r)
 
 -- ---- a scope that isn't covered
 
@@ -218,12 +254,3 @@ open_holds l lawful c is q apart = false_from_ne_true _ (λ bad. both_ways _ apa
   where
     small : All (λ v. v < 128) (scope_of l c)
     small k d h = (let low = (lawful.scopes c.scope [] is.scope).known k d h in let most = lawful.few_variables in omega arith)
-
--- ---- the candidates that are kept
-
-pub kept_is : (l : Language) (t : List Answer) (c : Candidate) (members : List Candidate) (b x : Bool) → members ≡ unstruck l t → IsCandidate l c → (b ≡ true ↔ Contains members c) → (b && not x) ≡ (not (is_struck l t c) && not x)
-kept_is l t c members b x all is kept = ap (λ y. y && not x) (twice b ∙ ap not (struck_is l t c members b all is kept))
-  where
-    twice : (b : Bool) → b ≡ not (not b)
-    twice true = refl
-    twice false = refl

@@ -1,5 +1,5 @@
 -- The lines of items and of listed candidates are read as those.
-use Rattle.cert_check.proofs.Prelude.{◌≡◌, ℕ, ◌+◌, ◌<◌, ◌≤◌, ◌^◌, ◌&&◌, false, cond, List, [], ◌∷◌, ◌++◌, length, map, Some, refl, sym, ◌∙◌, ap, arith, append_assoc, inl, inr, All, ◌==◌, codes, decimal, flat_map, option_map, option_and_then, bytes_eq, All-nil, All-cons, All-head, All-tail, Candidate, Language, IsLanguage, IsCandidate, candidates, relations_on, count_few, Token, Branch, Holds, Item, Refutation, decimal_below, item_in, token_in, tokens_in, listed_of, item_listed_in, item_line, listed_line, token_text, IsNodeOver, Lacks, lacks_by, lacks_both, lacks_first, cut_found, spaced, spaced_lacks, words_joined, decimal_lacks, below_read, from_read}
+use Rattle.cert_check.proofs.Prelude.{◌≡◌, ℕ, ◌<◌, ◌≤◌, ◌^◌, ◌&&◌, false, cond, List, [], ◌∷◌, ◌++◌, length, map, Some, refl, sym, ◌∙◌, ap, arith, append_assoc, inl, inr, All, ◌==◌, codes, decimal, flat_map, option_map, option_and_then, bytes_eq, All-nil, All-cons, All-head, All-tail, Candidate, Language, IsLanguage, IsCandidate, candidates, relations_on, count_few, Token, Branch, Holds, Item, Refutation, decimal_below, item_in, token_in, tokens_in, listed_of, item_listed_in, item_line, listed_line, token_text, IsNodeOver, Lacks, lacks_by, lacks_both, lacks_first, cut_found, spaced, spaced_lacks, words_joined, decimal_lacks, below_read, from_read}
 use Rattle.cert_check.proofs.LinesBack.{Says}
 
 -- ---- Items

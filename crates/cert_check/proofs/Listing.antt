@@ -1,5 +1,5 @@
 -- The candidates that are listed, and the first of them whose tree is too long.
-use Rattle.cert_check.proofs.Prelude.{◌≡◌, ℕ, zero, suc, ◌+◌, ◌<◌, ◌≤◌, Bool, true, false, cond, not, ◌&&◌, List, [], ◌∷◌, ◌++◌, length, take, get_or, map, Option, Some, None, Err, refl, sym, ◌∙◌, ap, arith, inl, inr, ◌⊎◌, All, IsTrue, find, codes, filter, flat_map, append-nil, length-map, take_all, All-head, All-tail, filter_more, flat_map-map, and_parts, both_ways, not-true, Answer, Candidate, Language, IsCandidate, IsImplied, number_of, IsCovered, is_struck, has_scope, MakeFault, Long, Sheet, IsFirstLong, is_long, fitting_text, made_within, refutation_of, AddsPiece, count_line, listed_line, implied_section}
+use Rattle.cert_check.proofs.Prelude.{◌≡◌, ℕ, zero, suc, ◌+◌, ◌<◌, ◌≤◌, Bool, true, false, cond, not, ◌&&◌, List, [], ◌∷◌, ◌++◌, length, take, get_or, map, Some, None, refl, sym, ◌∙◌, ap, arith, inl, inr, ◌⊎◌, All, IsTrue, find, codes, filter, flat_map, append-nil, length-map, take_all, All-head, All-tail, filter_more, flat_map-map, and_parts, both_ways, not-true, Answer, Candidate, Language, IsCandidate, IsImplied, number_of, IsCovered, is_struck, has_scope, Sheet, is_long, fitting_text, made_within, refutation_of, AddsPiece, count_line, listed_line, implied_section}
 use Rattle.std.specs.Prelude.{option_map}
 use Rattle.cert_check.proofs.Sheets.{adds_as}
 

@@ -1,5 +1,5 @@
 -- The certificate that is made is good.
-use Rattle.cert_check.proofs.Prelude.{◌≡◌, ℕ, zero, suc, ◌-◌, ◌<◌, ◌≤◌, Bool, true, false, ◌&&◌, List, [], ◌∷◌, ◌++◌, length, map, Option, Some, None, refl, sym, ◌∙◌, ap, subst, arith, inl, inr, ◌⊎◌, append_assoc, length-append, ◌==◌, All, IsTrue, position, slice_index_or, flat_map, option_map_or, append-nil, All-head, All-tail, All-nil, All-append, All-push, All-map, All-filter, filter_passes, position-Some, slice_get-get_or, and_from, not_from_false, lt-ltb, eq-eqb, numbers, Answer, Candidate, Language, IsLanguage, IsCandidate, IsImplied, variable_count, values_of, relations_on, candidates_on, candidates, number_of, violates, IsCovered, is_struck, has_scope, kept, order_of, assignment_of, satisfies, numbered, all_below, any-filter, any-map, any_candidate, Token, Branch, Holds, Item, Refutation, is_earned, has_refutation, IsGood, refutation_of, is_lawful_node, children, are_trees, refutes, node_of, node_at, tree_from, tree_of}
+use Rattle.cert_check.proofs.Prelude.{◌≡◌, ℕ, zero, suc, ◌-◌, ◌<◌, ◌≤◌, Bool, true, false, ◌&&◌, List, [], ◌∷◌, ◌++◌, length, map, Option, Some, None, refl, sym, ◌∙◌, ap, subst, arith, inl, inr, ◌⊎◌, append_assoc, length-append, ◌==◌, All, IsTrue, position, slice_index_or, flat_map, option_map_or, append-nil, All-head, All-tail, All-nil, All-push, All-map, All-filter, filter_passes, position-Some, slice_get-get_or, and_from, not_from_false, lt-ltb, eq-eqb, Answer, Candidate, Language, IsLanguage, IsCandidate, IsImplied, variable_count, values_of, candidates, number_of, violates, IsCovered, is_struck, has_scope, kept, order_of, assignment_of, satisfies, numbered, any-filter, any-map, any_candidate, Token, Branch, Holds, Item, Refutation, is_earned, has_refutation, IsGood, refutation_of, is_lawful_node, children, are_trees, refutes, node_of, node_at, tree_from, tree_of}
 use Rattle.cert_check.proofs.Listing.{is_kept, implied_if_kept}
 use Rattle.cert_check.proofs.Trees.{branch_has_room, no_children}
 use Rattle.cert_check.proofs.Within.{IsNext, IsRanged, all_next, ranged_none, ranged_longer}

@@ -24,7 +24,6 @@ pub use Rattle.assign.specs.Events.{Answer}
 pub use Rattle.assign.specs.SetLemmas.{is_one, is_one-or}
 pub use Rattle.assign.specs.Sets.{has, is_same, is_within, numbers}
 pub use Rattle.assign.proofs.Masks.{list_same, same_list}
-pub use Rattle.bias_store.specs.KeptSet.{IsMadeFor, KeptSet}
 pub use Rattle.language.proofs.Accepts.{accepted_at}
 pub use Rattle.language.proofs.Beside.{beside_none, tuple_fits, value_of_assigned}
 pub use Rattle.language.proofs.Counting.{count, count_few, count_more, length-candidates_on, numbered}
@@ -63,7 +62,7 @@ pub use Rattle.cert_check.specs.ReadingLaws.{EachCertificateIsReadOrRefused, NoT
 pub use Rattle.cert_check.specs.Refuting.{children, is_lawful_node, refutes, violates_item}
 unfoldable pub use Rattle.cert_check.specs.Refuting.{are_trees}
 pub use Rattle.cert_check.specs.Sheets.{AddsPiece, IsSheetOf, IsTextSoFar}
-pub use Rattle.cert_check.specs.Told.{AreSpared, IsSparedOn, IsToldBy, is_no_about, unstruck}
+pub use Rattle.cert_check.specs.Told.{AreSpared, AreUnstruck, HaveLost, IsSparedOn, IsToldBy, is_no_about}
 pub use Rattle.cert_check.specs.Trees.{branches, is_branch, node_at, node_of, tree_of}
 unfoldable pub use Rattle.cert_check.specs.Trees.{tree_from}
 pub use Rattle.cert_check.specs.Walking.{IsPrefixAt, ahead, last_behind, later}

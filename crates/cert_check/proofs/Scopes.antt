@@ -1,6 +1,5 @@
 -- A network has no more candidates than there are scopes.
-use Rattle.cert_check.proofs.Prelude.{◌≡◌, ℕ, suc, ◌<◌, ◌≤◌, ◌^◌, Bool, true, false, cond, ◌||◌, ◌&&◌, not, List, [], ◌∷◌, length, refl, sym, ◌∙◌, arith, ◌==◌, All, AllPairs, slice_index_or, filter, length-range_with_len, and_from, both_ways, not_from_false, eqb-true, eq-eqb, false_from_ne_true, numbers, has, Candidate, Language, IsLanguage, IsNetwork, any_weaker, any-filter, any_number}
-use Rattle.shared_lemmas.proofs.Lists.{fewer_kept}
+use Rattle.cert_check.proofs.Prelude.{◌≡◌, ◌<◌, ◌^◌, List, length, refl, arith, ◌==◌, AllPairs, slice_index_or, length-range_with_len, eq-eqb, numbers, Candidate, Language, IsLanguage, IsNetwork, any_number}
 use Rattle.language.proofs.FewScopes.{as_many}
 
 pub few_items : (l : Language) (network : List Candidate) → IsLanguage l → IsNetwork l network → AllPairs (λ c d. (c.scope ≡ d.scope) → ⊥) network → length network < 2 ^ 32

@@ -1,5 +1,5 @@
 -- Text that is written piece by piece.
-use Rattle.cert_check.proofs.Prelude.{OnOk, Result, Ok, Err, ◌≡◌, ℕ, ◌+◌, ◌<◌, ◌≤◌, Bool, true, false, List, [], ◌∷◌, ◌++◌, length, take, get_or, sym, ◌∙◌, ap, subst, arith, append_assoc, length-append, nat_lt, flat_map, append-nil, take_more, take_all, length-range_with_len, get_or-range_with_len, flat_map-append, ltb-true, ltb-false, numbers, MOST_CERTIFICATE, IsTextSoFar, IsSheetOf, AddsPiece, Sheet}
+use Rattle.cert_check.proofs.Prelude.{OnOk, Result, Ok, Err, ◌≡◌, ℕ, ◌+◌, ◌<◌, ◌≤◌, List, [], ◌∷◌, ◌++◌, length, take, get_or, sym, ◌∙◌, ap, subst, arith, append_assoc, flat_map, append-nil, take_more, take_all, length-range_with_len, get_or-range_with_len, flat_map-append, numbers, IsSheetOf, AddsPiece, Sheet}
 
 -- ---- one piece after another
 

@@ -1,10 +1,11 @@
 -- No flaw is found exactly where the certificate is good.
-use Rattle.cert_check.proofs.Prelude.{◌≡◌, ℕ, ◌+◌, ◌<◌, Bool, true, false, not, ◌&&◌, List, [], ◌∷◌, length, take, Option, Some, None, refl, sym, ◌∙◌, ap, subst, arith, inl, inr, ◌⊎◌, All, Any, AllPairs, IsTrue, position, slice_index_or, ◌==◌, ◌↔◌, option_or, flat_map, get_or-take, length-take, All-head, All-tail, All-nil, All-append, All-map, Any-from_list_any, list_any-from_Any, list_any_at, list_all-from_AllPass, AllPass-from_list_all, length-range_with_len, get_or-range_with_len, both_ways, not-true, not-false, and_parts, and_from, and_left, and_right, not_from_true, not_from_false, false_from_ne_true, eqb-true, eq-eqb, ne_eqb, numbers, is_same, variables_of, Answer, Candidate, Language, IsCandidate, candidates, candidates_on, relations_on, number_of, scope_of, violates, accepts, is_struck, has_scope, IsNoOn, numbered, all_below, Yes, Refutation, has_refutation, IsGood, is_other, repeats_scope, is_no_on, has_own_no, has_other, is_spared, is_rival, is_uncovered, is_unearned, flaw_before_list, first_flaw, verdict_of, list_same, same_list}
+use Rattle.cert_check.proofs.Prelude.{◌≡◌, ℕ, ◌+◌, ◌<◌, Bool, true, false, not, ◌&&◌, List, [], length, take, Option, Some, None, refl, sym, ◌∙◌, ap, subst, arith, inl, inr, ◌⊎◌, All, Any, AllPairs, IsTrue, position, slice_index_or, ◌==◌, ◌↔◌, option_or, get_or-take, length-take, Any-from_list_any, list_any-from_Any, list_any_at, list_all-from_AllPass, AllPass-from_list_all, length-range_with_len, get_or-range_with_len, both_ways, not-true, not-false, and_parts, and_from, and_left, and_right, not_from_true, not_from_false, false_from_ne_true, eqb-true, eq-eqb, ne_eqb, numbers, is_same, variables_of, Answer, Candidate, Language, IsCandidate, candidates, number_of, scope_of, violates, accepts, is_struck, has_scope, IsNoOn, numbered, Yes, Refutation, has_refutation, IsGood, is_other, repeats_scope, is_no_on, has_own_no, has_other, is_spared, is_rival, is_uncovered, is_unearned, flaw_before_list, first_flaw, verdict_of, list_same, same_list}
 use Rattle.std.specs.Prelude.{option_map}
 use Rattle.std.specs.Bool.{beq}
 use Rattle.cert_check.specs.declared.verdict.Flaw.{Flaw}
 use Rattle.cert_check.specs.declared.verdict.Flaw.TheVariants as flaw
 use Rattle.cert_check.specs.declared.verdict.Verdict.{Verdict}
+use Rattle.cert_check.specs.Told.{flaw_told}
 use Rattle.cert_check.proofs.Finding.{none_found, all_fail, no_number, within}
 use Rattle.language.proofs.Members.{all_candidates}
 use Rattle.shared_lemmas.proofs.Read.{map_none, or_none}
@@ -165,3 +166,14 @@ module _ (l : Language) (network : List Candidate) (t : List Answer) (refutation
   -- a verdict that is the stated one
   pub good_at : (found : Verdict) → found ≡ verdict_of (first_flaw l network t refutations) → (found ≡ Yes) ↔ IsGood l network t refutations
   good_at found is = (λ h. yes_is_good.0 (sym is ∙ h), λ good. is ∙ yes_is_good.1 good)
+
+-- ---- the first flaw that what the answers tell shows
+
+pub none_where : (o : Option ℕ) → ((i : ℕ) → o ≡ Some i → ⊥) → o ≡ None
+none_where None h = refl
+none_where (Some i) h = absurd (h i refl)
+
+pub flaw_of_told : (l : Language) (network : List Candidate) (t : List Answer) (refutations : List Refutation) (a b d : Option ℕ) →
+    a ≡ position (λ c. not (has_own_no l t c)) network → b ≡ position (is_rival l network t) (candidates l) → d ≡ position (is_uncovered l network t refutations) (candidates l) →
+    option_or (option_map flaw.NoOwnNo a) (option_or (option_map flaw.Rival b) (option_map flaw.Uncovered d)) ≡ flaw_told l network t refutations
+flaw_of_told l network t refutations a b d e f g = λ j. option_or (option_map flaw.NoOwnNo (e j)) (option_or (option_map flaw.Rival (f j)) (option_map flaw.Uncovered (g j)))

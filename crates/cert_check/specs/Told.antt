@@ -1,10 +1,10 @@
 -- What the answers tell of all candidates, by scope.
-use Rattle.std.specs.Prelude.{ℕ, ◌≡◌, ◌<◌, ◌&&◌, Bool, true, false, not, List, length, position, Option, Some, None, option_map, slice_index_or}
+use Rattle.std.specs.Prelude.{ℕ, ◌≡◌, ◌<◌, ◌≤◌, ◌&&◌, Bool, true, false, not, List, length, position, Option, Some, None, option_map, slice_index_or}
 use Rattle.std.specs.Option.{option_or}
-use Rattle.std.specs.List.{filter, list_any}
+use Rattle.std.specs.List.{list_any}
 use Rattle.assign.specs.SetLemmas.{is_one}
+use Rattle.assign.specs.Assignment.{Assignment}
 use Rattle.assign.specs.Events.{Answer}
-use Rattle.bias_store.specs.KeptSet.{IsMadeFor}
 use Rattle.language.specs.declared.candidates.Candidate.{Candidate}
 use Rattle.language.specs.Language.{Language, candidates, relations_on, violates}
 use Rattle.language.specs.Answers.{is_struck}
@@ -14,9 +14,17 @@ use Rattle.cert_check.specs.Certificate.{Refutation}
 use Rattle.cert_check.specs.Checking.{has_own_no, is_no_on, is_rival, is_uncovered}
 use Rattle.cert_check.specs.declared.told.Told.{Told}
 
--- the candidates that no yes violates
-abbrev pub unstruck : Language → List Answer → List Candidate
-unstruck l t = filter (λ c. not (is_struck l t c)) (candidates l)
+-- for each scope the relations whose candidates no yes violates: bit r is one for relation r
+pub record AreUnstruck (l : Language) (t : List Answer) (list : List ℕ) : Type 0 where
+  pub long : length list ≡ length l.scopes
+  pub few : (s : ℕ) → s < length l.scopes → length (relations_on l s) ≤ 64
+  pub each : (s r : ℕ) → s < length l.scopes → r < length (relations_on l s) → is_one (slice_index_or list s 0) r ≡ not (is_struck l t (record { scope = s; rel = r }))
+
+-- the first n scopes have lost the relations whose candidates the question violates, and the others are as they were
+pub record HaveLost (l : Language) (q : Assignment) (n : ℕ) (before now : List ℕ) : Type 0 where
+  pub long : length now ≡ length before
+  pub each : (s r : ℕ) → s < n → s < length l.scopes → r < length (relations_on l s) → is_one (slice_index_or now s 0) r ≡ (is_one (slice_index_or before s 0) r && not (violates l (record { scope = s; rel = r }) q))
+  pub rest : (s : ℕ) → n ≤ s → slice_index_or now s 0 ≡ slice_index_or before s 0
 
 -- whether an answer is a no about exactly the scope of this number
 abbrev pub is_no_about : Language → ℕ → Answer → Bool
@@ -36,8 +44,7 @@ pub record AreSpared (l : Language) (t : List Answer) (list : List (Option ℕ))
 
 -- what the answers tell
 pub record IsToldBy (l : Language) (t : List Answer) (told : Told) : Type 0 where
-  pub made : IsMadeFor l told.unstruck
-  pub unstruck : told.unstruck.members ≡ unstruck l t
+  pub unstruck : AreUnstruck l t told.unstruck.items
   pub spared : AreSpared l t told.spared.items
 
 -- the flaws of the kinds that a told scope or candidate has, and the first of them

@@ -1,4 +1,5 @@
-//! A certificate of convergence that a stranger can check, with code that shares no search and no session with the learner.
+//! A certificate of convergence that a stranger can check, with code that shares no search, no kept set and no session with the
+//! learner.
 //!
 //! A certificate has a language, answers, a network, and for each candidate that isn't excluded by an answer the tokens of a
 //! tree that refutes it. A certificate that is good (`IsGood`) shows that the answers converge on the network (`laws`).

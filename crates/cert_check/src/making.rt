@@ -11,7 +11,7 @@ ghost use Rattle.cert_check.specs.ByVariable.{by_variable};
 ghost use Rattle.cert_check.specs.Making.{IsFirstLong, Makes, is_long, certificate_made, refutation_of};
 ghost use Rattle.cert_check.specs.Reading.{MOST_ANSWERS};
 ghost use Rattle.cert_check.specs.Sheets.{AddsPiece};
-ghost use Rattle.cert_check.specs.Told.{unstruck};
+ghost use Rattle.cert_check.specs.Told.{AreUnstruck};
 ghost use Rattle.cert_check.specs.Written.{answers_section, count_line, entry_line, implied_section, item_line, listed_line, network_section, numbered_value, numbered_values, reply_text, vocabulary_section};
 
 use crate::by_variable::ByVariable;
@@ -19,20 +19,19 @@ use crate::entry::Entry;
 use crate::fault::MakeFault;
 use crate::sheet::Sheet;
 use crate::telling::has_scope;
-use crate::told::unstruck;
+use crate::told::{is_unstruck, unstruck};
 use crate::tree::add_tree;
 use assign::Partial;
-use bias_store::Kept;
 use language::{Candidate, Language, Memory};
 use std::alloc::{AllocError, Global};
 
 // ---- What is listed
 
 /// Whether no yes excludes the candidate and nothing is learned on its scope.
-fn is_kept(left: &Kept, net: &[Candidate], c: Candidate) -> bool
-    ensures { (l : Lang) (t : List Answer) → left.now.members ≡ unstruck l t → IsCandidate l c → result ≡ (not (is_struck l t c) && not (has_scope net.now c.scope)) }
+fn is_kept(left: &[u64], net: &[Candidate], c: Candidate) -> bool
+    ensures { (l : Lang) (t : List Answer) → AreUnstruck l t left.now → IsCandidate l c → result ≡ (not (is_struck l t c) && not (has_scope net.now c.scope)) }
 {
-    left.is_kept(c) && !has_scope(net, c.scope)
+    is_unstruck(left, c) && !has_scope(net, c.scope)
 }
 
 /// Those candidates, in the order of their numbers. The network implies each of them.

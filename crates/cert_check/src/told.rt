@@ -1,18 +1,15 @@
 //! What the answers tell of all candidates, in one pass over them.
 
 ghost use Rattle.std.specs.Prelude.{◌≡◌, ◌<◌, ℕ, true, List, All, IfOk, IfSome, Some, length, not};
-ghost use Rattle.std.specs.List.{filter};
 ghost use Rattle.assign.specs.SetLemmas.{is_one};
 ghost use Rattle.assign.specs.Events.{Answer};
-ghost use Rattle.bias_store.specs.KeptSet.{IsMadeFor};
-ghost use Rattle.language.specs.Language.{IsCandidate, IsLanguage, IsQuestion, candidates, relations_on, violates, Language as Lang};
+ghost use Rattle.language.specs.Language.{IsCandidate, IsLanguage, IsQuestion, relations_on, violates, Language as Lang};
 ghost use Rattle.language.specs.Answers.{is_struck};
 ghost use Rattle.cert_check.specs.Checking.{has_own_no, is_spared};
-ghost use Rattle.cert_check.specs.Told.{AreSpared, IsToldBy, is_no_about, unstruck};
+ghost use Rattle.cert_check.specs.Told.{AreSpared, AreUnstruck, HaveLost, IsToldBy, is_no_about};
 
 use crate::entry::Entry;
 use assign::Partial;
-use bias_store::Kept;
 use language::{Candidate, Language, Memory, ScopeId};
 use std::alloc::Global;
 
@@ -22,25 +19,65 @@ const MOST_IN_SCOPE: u8 = 4;
 /// What the answers tell, by scope.
 #[derive(Drop)]
 pub(crate) struct Told {
-    /// The candidates that no yes violates.
-    unstruck: Kept,
+    /// For each scope the relations whose candidates no yes violates: bit r is one for relation r.
+    unstruck: Vec<u64>,
     /// For each scope that a no is about exactly the relations that accept the tuple of such a no: bit r is one for relation r.
     spared: Vec<Option<u64>>,
 }
 
-/// The candidates that no yes violates.
-pub(crate) fn unstruck(alloc: Global, lang: &Language, answers: &[Entry]) -> Result<Kept, Memory>
-    requires { All (λ a. IsQuestion lang.now a.question) answers.now }
-    ensures is { IfOk result (λ kept. kept.members ≡ unstruck lang.now answers.now) }
-    ensures made { IfOk result (λ kept. IsMadeFor lang.now kept) }
+/// The relations on a scope that the question doesn't violate: bit r is one for relation r.
+fn unviolated(lang: &Language, s: ScopeId, q: &Partial) -> u64
+    requires lawful { IsLanguage lang.now }
+    requires scope { s < length lang.now.scopes }
+    requires question { IsQuestion lang.now q.now }
+    ensures { (r : ℕ) → r < length (relations_on lang.now s) → is_one result r ≡ not (violates lang.now (record { scope = s; rel = r }) q.now) }
 {
-    let mut kept = Kept::of(alloc, lang)?;
-    for entry in answers {
-        if entry.yes {
-            kept.strike(lang, &entry.question);
+    match lang.place_on(s, q) {
+        None => u64::MAX,
+        Some(place) => lang.accepting(s, place),
+    }
+}
+
+/// Takes away on each scope the relations that the question violates.
+fn strike(left: &mut [u64], lang: &Language, q: &Partial)
+    requires lawful { IsLanguage lang.now }
+    requires question { IsQuestion lang.now q.now }
+    requires scopes { length left.old ≡ length lang.now.scopes }
+    ensures { HaveLost lang.now q.now (length left.old) left.old left.new }
+{
+    for s in 0..left.len() {
+        if left[s] != 0 {
+            left[s] &= unviolated(lang, s as ScopeId, q);
         }
     }
-    Ok(kept)
+}
+
+/// For each scope the relations whose candidates no yes violates.
+pub(crate) fn unstruck(
+    alloc: Global,
+    lang: &Language,
+    answers: &[Entry],
+) -> Result<Vec<u64>, Memory>
+    requires { All (λ a. IsQuestion lang.now a.question) answers.now }
+    ensures { IfOk result (λ list. AreUnstruck lang.now answers.now list.items) }
+{
+    let mut list = vec![in alloc; u64::MAX; lang.scopes() as usize]?;
+    for entry in answers {
+        if entry.yes {
+            strike(&mut list, lang, &entry.question);
+        }
+    }
+    Ok(list)
+}
+
+/// Whether no yes violates the candidate, by what is left on each scope.
+pub(crate) fn is_unstruck(left: &[u64], c: Candidate) -> bool
+    ensures { (l : Lang) (t : List Answer) → AreUnstruck l t left.now → IsCandidate l c → result ≡ not (is_struck l t c) }
+{
+    match left.get(usize::from(c.scope)) {
+        Some(relations) => c.rel < 64 && (*relations >> c.rel) & 1 == 1,
+        None => false,
+    }
 }
 
 /// The scope that the answer is a no about exactly, if there is one.
@@ -60,34 +97,15 @@ fn own_scope(lang: &Language, entry: &Entry) -> Option<ScopeId>
     lang.scope_of(vars)
 }
 
-/// The relations on a scope that the question doesn't violate: bit r is one for relation r.
-fn unviolated(lang: &Language, kept: &Kept, s: ScopeId, q: &Partial) -> u64
-    requires made { IsMadeFor lang.now kept.now }
-    requires scope { s < length lang.now.scopes }
-    requires question { IsQuestion lang.now q.now }
-    ensures { (r : ℕ) → r < length (relations_on lang.now s) → is_one result r ≡ not (violates lang.now (record { scope = s; rel = r }) q.now) }
-{
-    match lang.place_on(s, q) {
-        None => u64::MAX,
-        Some(place) => kept.accepting(lang, s, place),
-    }
-}
-
 /// For each scope that a no is about exactly the relations that accept the tuple of such a no.
-fn spared(
-    alloc: Global,
-    lang: &Language,
-    kept: &Kept,
-    answers: &[Entry],
-) -> Result<Vec<Option<u64>>, Memory>
-    requires made { IsMadeFor lang.now kept.now }
-    requires questions { All (λ a. IsQuestion lang.now a.question) answers.now }
+fn spared(alloc: Global, lang: &Language, answers: &[Entry]) -> Result<Vec<Option<u64>>, Memory>
+    requires { All (λ a. IsQuestion lang.now a.question) answers.now }
     ensures { IfOk result (λ list. AreSpared lang.now answers.now list.items) }
 {
     let mut list = vec![in alloc; None; lang.scopes() as usize]?;
     for entry in answers {
         if let Some(s) = own_scope(lang, entry) {
-            let accepting = unviolated(lang, kept, s, &entry.question);
+            let accepting = unviolated(lang, s, &entry.question);
             let before = list[usize::from(s)].unwrap_or(0);
             list[usize::from(s)] = Some(before | accepting);
         }
@@ -102,7 +120,7 @@ impl Told {
         ensures { IfOk result (λ told. IsToldBy lang.now answers.now told) }
     {
         let unstruck = unstruck(alloc, lang, answers)?;
-        let spared = spared(alloc, lang, &unstruck, answers)?;
+        let spared = spared(alloc, lang, answers)?;
         Ok(Told { unstruck, spared })
     }
 
@@ -110,7 +128,7 @@ impl Told {
     pub(crate) fn is_struck(&self, c: Candidate) -> bool
         ensures { (l : Lang) (t : List Answer) → IsToldBy l t self.now → IsCandidate l c → result ≡ is_struck l t c }
     {
-        !self.unstruck.is_kept(c)
+        !is_unstruck(&self.unstruck, c)
     }
 
     /// Whether a no is about exactly the candidate's scope.
