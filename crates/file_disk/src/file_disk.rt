@@ -1,0 +1,129 @@
+//! A named file as a disk.
+
+ghost use Rattle.std.specs.Prelude.{◌≡◌, ◌≤◌, ◌≢◌, ◌+◌, ◌-◌, ◌^◌, ◌++◌, min, max, Some, None, IfOk, OnOk, length, take, drop};
+ghost use Rattle.std.specs.Option.{ForSome, ForNone};
+ghost use Rattle.disk_model.specs.Disk.{Torn, IsWritten, Follows, Only, AddsNothing, Elapses, AreCalls, Rose, HasCause};
+
+use crate::NamedFile;
+use disk_model::{Disk, Failed};
+
+/// A file as a disk. A write fails, and writes nothing, where the file hasn't the length any more that was last seen: then another
+/// program has written to it, or cut it.
+#[derive(Drop)]
+pub struct FileDisk<F> {
+    file: F,
+    /// Its length when it was last asked for or written. None before that.
+    seen: Option<u64>,
+    /// How often a call failed.
+    faults: u64,
+}
+
+impl<F: NamedFile> FileDisk<F> {
+    /// The file as a disk that hasn't failed yet.
+    pub fn new(file: F) -> Self
+        ensures file { result.file ≡ file }
+        ensures no_faults { result.faults ≡ 0 }
+    {
+        FileDisk {
+            file,
+            seen: None,
+            faults: 0,
+        }
+    }
+
+    /// The file's length, where it tells one and none was seen before, or the same. Else None.
+    fn length_as_seen(&self) -> Option<u64> {
+        let length = self.file.length().ok()?;
+        match self.seen {
+            Some(seen) if seen != length => None,
+            _ => Some(length),
+        }
+    }
+
+    /// Counts a fault.
+    fn fault(&mut self) -> Failed
+        ensures rose { Rose self.old.faults self.new.faults }
+        ensures later { self.old.faults ≤ self.new.faults }
+        ensures file { self.new.file ≡ self.old.file }
+    {
+        self.faults = self.faults.saturating_add(1);
+        Failed
+    }
+}
+
+impl<F: NamedFile> Disk for FileDisk<F> {
+    ghost content = { λ d. F.content d.file };
+
+    ghost may_leave = { λ d. F.may_leave d.file };
+
+    ghost moment = { λ d. F.moment d.file };
+
+    ghost left_since = { λ d. F.left_since d.file };
+
+    // calls aren't counted
+    ghost calls = { λ d. 2 ^ 64 - 1 };
+
+    ghost faults = { λ d. d.faults };
+
+    ghost reads_true = { λ d. F.reads_true d.file };
+
+    ghost counts_now = { λ d. F.counts_now d.file };
+
+    ghost only_now = { λ d. F.only_now d.file };
+
+    fn len(&mut self) -> Result<u64, Failed> {
+        match self.file.length() {
+            Ok(length) => {
+                self.seen = Some(length);
+                Ok(length)
+            }
+            Err(Failed) => Err(self.fault()),
+        }
+    }
+
+    fn read(&mut self, at: u64, buf: &mut [u8]) -> Result<usize, Failed> {
+        match read_whole(&self.file, at, buf) {
+            Ok(count) => Ok(count),
+            Err(Failed) => Err(self.fault()),
+        }
+    }
+
+    fn write_at(&mut self, at: u64, bytes: &[u8]) -> Result<(), Failed> {
+        let Some(length) = self.length_as_seen() else {
+            return Err(self.fault());
+        };
+        match self.file.write_all(at, bytes) {
+            Ok(()) => {
+                self.seen = Some(length.max(at.saturating_add(bytes.len() as u64)));
+                Ok(())
+            }
+            Err(Failed) => Err(self.fault()),
+        }
+    }
+
+    fn sync(&mut self) -> Result<(), Failed> {
+        match self.file.sync() {
+            Ok(()) => Ok(()),
+            Err(Failed) => Err(self.fault()),
+        }
+    }
+}
+
+/// Reads until the buffer is full or the file ends.
+fn read_whole<F: NamedFile>(file: &F, at: u64, buf: &mut [u8]) -> Result<usize, Failed>
+    ensures told { ForSome (F.content file.now) (λ bytes. IfOk result (λ n. (n ≡ min (length buf.old) (length bytes - at)) × (buf.new ≡ take n (drop at bytes) ++ drop n buf.old))) }
+    ensures fits { IfOk result (λ n. n ≤ length buf.old) }
+{
+    let mut done = 0;
+    while done < buf.len() {
+        let Some(place) = at.checked_add(done as u64) else {
+            return Err(Failed);
+        };
+        let count = file.read_some(place, &mut buf[done..])?;
+        if count == 0 {
+            break;
+        }
+        done += count;
+    }
+    Ok(done)
+}
