@@ -1,100 +1,58 @@
-//! A named file as a disk. It tells nothing: no contract can say what a file holds.
+//! A named file of the system. It tells nothing: no contract can say what a file holds.
 //!
-//! The model of a disk speaks of the file alone. That a new file is found again after a power failure is this adapter's
-//! care: with a write at the file's beginning it has the folder written too.
+//! What makes a disk of it stands in `file_disk`, over any file. The model of a disk speaks of the file alone. That a new file is
+//! found again after a power failure is this adapter's care: with a write at the file's beginning it has the folder written too.
 
-ghost use Rattle.std.specs.Prelude.{◌≡◌, ◌≤◌, ◌+◌, ◌^◌, ◌-◌, min, None, IfSome, length};
-ghost use Rattle.disk_model.specs.Disk.{Rose, HasCause};
+ghost use Rattle.std.specs.Prelude.{None, IfOk, length, ◌≤◌};
 
 use crate::journal_file::JournalFile;
-use disk_model::{Disk, Failed};
+use disk_model::Failed;
+use file_disk::NamedFile;
 use std::fs::File;
 use std::io::ErrorKind;
 use std::path::Path;
 use std::rt::Files;
 
-/// A named file. It is opened at the first call that finds it, and made at the first write. Until then it has no bytes.
+/// A file by its name. It is kept open from the first write or sync on that finds it, and made at the first write.
 #[derive(Drop)]
-pub struct FileDisk<'a, R: Files<File = File>> {
+pub struct SystemFile<'a, R: Files<File = File>> {
     rt: &'a R,
     name: &'a str,
     file: Option<JournalFile>,
-    /// How often a call failed.
-    faults: u64,
 }
 
-impl<'a, R: Files<File = File>> FileDisk<'a, R> {
+impl<'a, R: Files<File = File>> SystemFile<'a, R> {
     /// The file of this name, which isn't looked for yet.
-    pub fn new(rt: &'a R, name: &'a str) -> Self
-        ensures no_faults { ⟦<FileDisk<'a, R> as Disk>⟧.faults result ≡ 0 }
-    {
-        FileDisk {
+    pub fn new(rt: &'a R, name: &'a str) -> Self {
+        SystemFile {
             rt,
             name,
             file: None,
-            faults: 0,
         }
-    }
-
-    /// Counts a fault.
-    fn fault(&mut self) -> Failed
-        ensures rose { Rose self.old.faults self.new.faults }
-        ensures later { self.old.faults ≤ self.new.faults }
-    {
-        self.faults = self.faults.saturating_add(1);
-        Failed
     }
 
     /// Opens the file, if it isn't open. That it is missing is no fault, unless it is to be made.
-    fn find(&mut self, make: bool) -> Result<(), Failed>
-        ensures { HasCause self.old.faults self.new.faults result }
-    {
-        if self.file.is_some() {
-            return Ok(());
-        }
-        match JournalFile::open(self.rt, self.name, make) {
-            Ok(file) => {
-                self.file = file;
-                Ok(())
-            }
-            Err(Failed) => Err(self.fault()),
-        }
-    }
-
-    /// Writes all of these bytes. A session begins at the file's beginning, and its file may be new then, so its folder is
-    /// written too.
-    fn write_whole(&mut self, at: u64, bytes: &[u8]) -> Result<(), Failed>
-        ensures { HasCause self.old.faults self.new.faults result }
-    {
-        self.find(true)?;
-        let Some(file) = &self.file else {
-            return Err(self.fault());
-        };
-        if file.write_all(self.rt, self.name, at, bytes).is_err() {
-            return Err(self.fault());
-        }
-        if at == 0 {
-            return self.sync_folder();
+    fn find(&mut self, make: bool) -> Result<(), Failed> {
+        if self.file.is_none() {
+            self.file = JournalFile::open(self.rt, self.name, make)?;
         }
         Ok(())
     }
 
     /// Has the file's entry in its folder written, where the system offers that. A folder that may be written in and not read
     /// can't be synced, and on some file systems none can: that is no fault.
-    fn sync_folder(&mut self) -> Result<(), Failed>
-        ensures { HasCause self.old.faults self.new.faults result }
-    {
+    fn sync_folder(&self) -> Result<(), Failed> {
         let folder = match File::open(self.rt, folder_of(self.name)) {
             Ok(folder) => folder,
             Err(e) if e.kind() == ErrorKind::PermissionDenied => return Ok(()),
-            Err(_) => return Err(self.fault()),
+            Err(_) => return Err(Failed),
         };
         match folder.sync_all() {
             Ok(()) => Ok(()),
             Err(e) if matches!(e.kind(), ErrorKind::InvalidInput | ErrorKind::Unsupported) => Ok(
                 (),
             ),
-            Err(_) => Err(self.fault()),
+            Err(_) => Err(Failed),
         }
     }
 }
@@ -107,59 +65,59 @@ fn folder_of(name: &str) -> &str {
     }
 }
 
-impl<'a, R: Files<File = File>> Disk for FileDisk<'a, R> {
-    ghost content = { λ d. None };
+impl<'a, R: Files<File = File>> NamedFile for SystemFile<'a, R> {
+    ghost content = { λ f. None };
 
-    ghost may_leave = { λ d c. Unit {0} };
+    ghost may_leave = { λ f c. Unit {0} };
 
-    ghost moment = { λ d. 0 };
+    ghost moment = { λ f. 0 };
 
-    ghost left_since = { λ d t c. Unit {0} };
+    ghost left_since = { λ f t c. Unit {0} };
 
-    ghost calls = { λ d. 2 ^ 64 - 1 };
+    ghost reads_true = { λ f x told. tt };
 
-    ghost faults = { λ d. d.faults };
+    ghost counts_now = { λ f t c le left. tt };
 
-    ghost reads_true = { λ d x told. tt };
+    ghost only_now = { λ f c left. tt };
 
-    ghost counts_now = { λ d t c le left. tt };
-
-    ghost only_now = { λ d c left. tt };
-
-    fn len(&mut self) -> Result<u64, Failed> {
-        self.find(false)?;
-        let Some(file) = &self.file else {
-            return Ok(0);
-        };
-        match file.length(self.rt, self.name) {
-            Ok(length) => Ok(length),
-            Err(Failed) => Err(self.fault()),
+    fn length(&self) -> Result<u64, Failed> {
+        match &self.file {
+            Some(file) => file.length(self.rt, self.name),
+            None => match JournalFile::open(self.rt, self.name, false)? {
+                Some(file) => file.length(self.rt, self.name),
+                None => Ok(0),
+            },
         }
     }
 
-    fn read(&mut self, at: u64, buf: &mut [u8]) -> Result<usize, Failed> {
-        self.find(false)?;
-        let Some(file) = &self.file else {
-            return Ok(0);
-        };
-        match file.read_all(at, buf) {
-            Ok(count) => Ok(count),
-            Err(Failed) => Err(self.fault()),
+    fn read_some(&self, at: u64, buf: &mut [u8]) -> Result<usize, Failed> {
+        match &self.file {
+            Some(file) => file.read_some(at, buf),
+            None => match JournalFile::open(self.rt, self.name, false)? {
+                Some(file) => file.read_some(at, buf),
+                None => Ok(0),
+            },
         }
     }
 
-    fn write_at(&mut self, at: u64, bytes: &[u8]) -> Result<(), Failed> {
-        self.write_whole(at, bytes)
+    /// A session begins at the file's beginning, and its file may be new then, so its folder is written too.
+    fn write_all(&mut self, at: u64, bytes: &[u8]) -> Result<(), Failed> {
+        self.find(true)?;
+        let Some(file) = &self.file else {
+            return Err(Failed);
+        };
+        file.write_all(at, bytes)?;
+        if at == 0 {
+            return self.sync_folder();
+        }
+        Ok(())
     }
 
     fn sync(&mut self) -> Result<(), Failed> {
         self.find(false)?;
-        let Some(file) = &self.file else {
-            return Ok(());
-        };
-        match file.sync() {
-            Ok(()) => Ok(()),
-            Err(Failed) => Err(self.fault()),
+        match &self.file {
+            Some(file) => file.sync(),
+            None => Ok(()),
         }
     }
 }

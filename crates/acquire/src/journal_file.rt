@@ -79,21 +79,13 @@ impl JournalFile {
         Ok(about.len())
     }
 
-    /// Reads until the buffer is full or the file ends, and again where a signal interrupts the call.
-    pub fn read_all(&self, at: u64, buf: &mut [u8]) -> Result<usize, Failed>
+    /// Reads some bytes from this place on, none at the end, and again where a signal interrupts the call.
+    pub fn read_some(&self, at: u64, buf: &mut [u8]) -> Result<usize, Failed>
         ensures { IfOk result (λ n. n ≤ length buf.old) }
     {
-        let mut done = 0;
         for _turn in 0..u64::MAX {
-            if done >= buf.len() {
-                return Ok(done);
-            }
-            let Some(place) = at.checked_add(done as u64) else {
-                return Err(Failed);
-            };
-            match self.file.read_at(&mut buf[done..], place) {
-                Ok(0) => return Ok(done),
-                Ok(count) => done += count,
+            match self.file.read_at(buf, at) {
+                Ok(count) => return Ok(count),
                 Err(e) if e.kind() == ErrorKind::Interrupted => {}
                 Err(_) => return Err(Failed),
             }
@@ -101,18 +93,8 @@ impl JournalFile {
         Err(Failed)
     }
 
-    /// Writes all of these bytes. It fails and writes none where the file has become shorter than this place, or its name leads
-    /// to it no more.
-    pub fn write_all<R: Files<File = File>>(
-        &self,
-        rt: &R,
-        name: &str,
-        at: u64,
-        bytes: &[u8],
-    ) -> Result<(), Failed> {
-        if self.length(rt, name)? < at {
-            return Err(Failed);
-        }
+    /// Writes all of these bytes.
+    pub fn write_all(&self, at: u64, bytes: &[u8]) -> Result<(), Failed> {
         match self.file.write_all_at(bytes, at) {
             Ok(()) => Ok(()),
             Err(_) => Err(Failed),

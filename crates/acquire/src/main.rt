@@ -5,11 +5,12 @@ mod file;
 mod input;
 mod journal_file;
 
-use crate::file::FileDisk;
+use crate::file::SystemFile;
 use crate::input::Buffered;
 use acq_cli::{Ending, JournalPlace, WordsFault, acquire, read_words};
 use acq_io::{StdSink, StdSource};
 use disk_model::{MemDisk, Room};
+use file_disk::FileDisk;
 use par_screen::FreeGate;
 use std::alloc::Global;
 use std::env;
@@ -44,6 +45,20 @@ fn place_of(alloc: Global, words: &[String]) -> Option<JournalPlace> {
     }
 }
 
+/// Says on standard error what failed, where the ending is a fault of the system, of which the output says nothing. Where that can't
+/// be written either, nobody is told.
+fn tell_fault(rt: &HostRuntime, ending: Ending, journal: &str) {
+    let _ = match ending {
+        Ending::ReadFault => rt.eprintln("acquire: the input can't be read"),
+        Ending::WriteFault => rt.eprintln("acquire: the output can't be written"),
+        Ending::DiskFault => eprintln!(rt;
+            "acquire: {journal} can't be opened, read or written as a journal, or was changed meanwhile"
+        ),
+        Ending::Memory => rt.eprintln("acquire: there isn't enough memory"),
+        _ => Ok(()),
+    };
+}
+
 fn main(rt: HostRuntime) -> ExitCode {
     let Some(words) = words_of(&rt) else {
         return ExitCode::from(Ending::Memory.status());
@@ -54,7 +69,7 @@ fn main(rt: HostRuntime) -> ExitCode {
     let mut input = StdSource::new(Buffered::new(rt.reader()));
     let mut out = StdSink::new(rt.stdout());
     if let JournalPlace::File(name) = &place {
-        let mut disk = FileDisk::new(&rt, name);
+        let mut disk = FileDisk::new(SystemFile::new(&rt, name));
         let ending = acquire(
             &rt,
             rt.alloc(),
@@ -64,6 +79,7 @@ fn main(rt: HostRuntime) -> ExitCode {
             &mut disk,
             &FreeGate,
         );
+        tell_fault(&rt, ending, name);
         return ExitCode::from(ending.status());
     }
     let room = Room {
@@ -83,5 +99,6 @@ fn main(rt: HostRuntime) -> ExitCode {
         &mut disk,
         &FreeGate,
     );
+    tell_fault(&rt, ending, ":memory:");
     ExitCode::from(ending.status())
 }
