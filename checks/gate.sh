@@ -37,7 +37,7 @@ gate() {
 }
 
 # What `acquire` prints, its status, and how many builds it took.
-start() { echo "$(./acquire run 2>"$room/said") $? $(lines_of built)"; }
+start() { echo "$(./acquire j run 2>"$room/said") $? $(lines_of built)"; }
 
 # The status of release.sh, and what it made.
 release() {
@@ -62,7 +62,7 @@ fresh
 report "passed" "0 5 passed, 0 failed" "$(gate) $(cat "$room/printed")"
 report "nothing is said" "" "$(cat "$room/said")"
 rm "$kit/bin/asked"
-report "acquire proves nothing again" "one $here run 6 0" "$(start)"
+report "acquire proves nothing again" "one $here j run 6 0" "$(start)"
 report "rt isn't asked" "" "$(cat "$kit/bin/asked" 2>/dev/null)"
 report "the record" "$(git rev-parse HEAD) $(sha256sum <crates/acquire/out/acquire) first kit 5 passed, 0 failed" "$(tr '\n' ' ' <.ci/out/passed | sed 's/ $//')"
 report "nothing else is left" "passed" "$(ls .ci/out)"
@@ -102,14 +102,14 @@ fresh
 report "broken" "3 1 passed, 1 failed" "$(echo BROKEN >crates/low/src/lib.rt; gate) $(cat "$room/printed")"
 refuses "broken"
 git checkout -q .
-report "mended" "one $here run 6 1" "$(start)"
+report "mended" "one $here j run 6 1" "$(start)"
 refuses "no gate"
 
 fresh
 printf '#!/bin/sh\nexit 4\n' >checks/kills.py
 commit
 report "a check fails" 4 "$(gate)"
-report "its program is proved" "one $here run 6 0" "$(start)"
+report "its program is proved" "one $here j run 6 0" "$(start)"
 refuses "a check fails"
 
 fresh
@@ -123,7 +123,7 @@ fresh
 echo "two" >crates/low/src/lib.rt
 report "a tree that is no commit" 0 "$(gate)"
 report "it is told" 1 "$(grep -c "isn't that of a commit" "$room/said")"
-report "its program is proved" "two $here run 6 0" "$(start)"
+report "its program is proved" "two $here j run 6 0" "$(start)"
 commit
 refuses "a tree that was no commit"
 
@@ -137,19 +137,19 @@ touch_check() { touch checks/kills.py; }
 fresh
 change_during change
 report "changed meanwhile" "0 1" "$(cat "$room/status") $(grep -c "has been touched since the gate began, so acquire" "$room/said")"
-report "changed meanwhile: it is proved" "two $here run 6 1" "$(start)"
+report "changed meanwhile: it is proved" "two $here j run 6 1" "$(start)"
 fresh
 change_during change_back
 report "changed and back meanwhile" "0 1" "$(cat "$room/status") $(grep -c "has been touched since the gate began, so acquire" "$room/said")"
-report "changed and back meanwhile: it is proved" "one $here run 6 1" "$(start)"
+report "changed and back meanwhile: it is proved" "one $here j run 6 1" "$(start)"
 refuses "changed and back meanwhile"
 fresh
 change_during touch_check
 report "a check is touched meanwhile" "0 1" "$(cat "$room/status") $(grep -c "kills.py has been touched .* nothing to release" "$room/said")"
-report "a check is touched meanwhile: the program is proved" "one $here run 6 0" "$(start)"
+report "a check is touched meanwhile: the program is proved" "one $here j run 6 0" "$(start)"
 refuses "a check is touched meanwhile"
 fresh
 change_during touch "$kit/bin/rt"
-report "rt is touched meanwhile: it is proved" "one $here run 6 1" "$(start)"
+report "rt is touched meanwhile: it is proved" "one $here j run 6 1" "$(start)"
 
 finish

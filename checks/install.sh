@@ -17,10 +17,10 @@ mkdir docs
 cp -r "$top/man" "$top/completions" "$top/Makefile" .
 cp "$top/docs/formats.md" docs/
 report "not built" "2 1" "$(install install PREFIX="$room/to"; echo $?) $(grep -c "isn't built yet: .* proves and builds it" "$room/said")"
-./acquire --unproved run >/dev/null 2>&1
+./acquire --unproved j run >/dev/null 2>&1
 report "only an unproved one" 2 "$(install install PREFIX="$room/to"; echo $?)"
 report "nothing is put" "" "$(ls "$room/to" 2>/dev/null)"
-./acquire run >/dev/null 2>&1
+./acquire j run >/dev/null 2>&1
 all="644 share/bash-completion/completions/acquire 644 share/doc/acquire/formats.md 644 share/man/man1/acquire.1 644 share/zsh/site-functions/_acquire "
 report "built" 0 "$(install install PREFIX="$room/to"; echo $?)"
 report "what is put" "755 bin/acquire $all" "$(files "$room/to")"
@@ -42,7 +42,7 @@ report "a prefix that isn't whole" 2 "$(install install PREFIX=to; echo $?)"
 echo two >crates/low/src/lib.rt
 report "changed" 2 "$(install install PREFIX="$room/other"; echo $?)"
 report "nothing is put" "" "$(ls "$room/other" 2>/dev/null)"
-./acquire run >/dev/null 2>&1
+./acquire j run >/dev/null 2>&1
 
 # With desk, which starts the program beside it.
 mkdir -p desk/cases
