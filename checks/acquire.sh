@@ -83,9 +83,9 @@ for words in --version -V "-V j" "--version run"; do
     # shellcheck disable=SC2086
     report "$words" "proved with $(cat "$top/tools/kit") 0" "$(bare ./acquire $words 2>"$room/said" | tail -n 1) $?"
 done
-report "version of a folder" 1 "$(./acquire --version | grep -c "^acquire (its commit isn't known")"
+report "version of a folder" "acquire 1.2.3, of a commit that git can't tell here" "$(./acquire --version | head -n 1)"
 echo "1a2b3c4 of 2026-11-29" >tools/commit
-report "version of an archive" "acquire 1a2b3c4 of 2026-11-29" "$(./acquire --version | head -n 1)"
+report "version of an archive" "acquire 1.2.3, commit 1a2b3c4 of 2026-11-29" "$(./acquire --version | head -n 1)"
 no_words
 wrong_words
 mv "$room/top" "$room/a 'b"
@@ -95,14 +95,19 @@ mv "$room/a 'b" "$room/top"
 report "nothing is built by these" "" "$(ls crates/acquire/out 2>/dev/null)"
 if has git "the version of a commit isn't tried"; then
     git init -q . && git add -A && git -c user.name=a -c user.email=a@b commit -q -m one
-    report "version of a commit" "acquire $(git log -1 --format='%h of %cs')" "$(./acquire --version | head -n 1)"
+    report "version of a commit" "acquire 1.2.3, commit $(git log -1 --format='%h of %cs')" "$(./acquire --version | head -n 1)"
     echo more >>HANDLES
-    report "version with changes" "acquire $(git log -1 --format='%h of %cs'), with changes" "$(./acquire --version | head -n 1)"
+    report "version with changes" "acquire 1.2.3, commit $(git log -1 --format='%h of %cs'), with changes" "$(./acquire --version | head -n 1)"
 fi
 
 fresh
 report "first start" "one $here j run 1" "$printed $(builds)"
 report "it says how long that takes" 1 "$(grep -c "^acquire: the whole takes 29 minutes" "$room/said")"
+printf '#!/bin/sh\nulimit -S -s\n' >"$room/stacks" && chmod +x "$room/stacks"
+# shellcheck disable=SC2016 # (these are the words of the script)
+sed "s|^exec \"\$program\" |exec $room/stacks |" acquire >with_stacks
+report "its stacks" 1024 "$(sh ./with_stacks j run)"
+rm with_stacks
 rm "$kit/bin/asked"
 expect "second start" "one $here j run 6 1"
 report "rt isn't asked" "" "$(cat "$kit/bin/asked" 2>/dev/null)"

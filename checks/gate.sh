@@ -12,10 +12,9 @@ has git "nothing is tried" || exit 0
 # A commit of such a repository, with checks that look at nothing.
 fresh() {
     unbuilt
-    mkdir -p checks .ci docs "$room/made"
+    mkdir -p checks .ci "$room/made"
     cp "$top/.ci/run" .ci/
-    cp -r "$top/man" "$top/completions" "$top/Makefile" "$top/release.sh" "$top/.gitignore" .
-    cp "$top/docs/formats.md" docs/
+    cp -r "$top"/{man,completions,docs,Makefile,release.sh,.gitignore,README.md,LICENSE-MIT,LICENSE-APACHE} .
     for it in "$top"/checks/*; do
         [ -x "$it" ] && [ -f "$it" ] && printf '#!/bin/sh\n' >"checks/${it##*/}"
     done
@@ -66,14 +65,15 @@ report "acquire proves nothing again" "one $here j run 6 0" "$(start)"
 report "rt isn't asked" "" "$(cat "$kit/bin/asked" 2>/dev/null)"
 report "the record" "$(git rev-parse HEAD) $(sha256sum <crates/acquire/out/acquire) first kit 5 passed, 0 failed" "$(tr '\n' ' ' <.ci/out/passed | sed 's/ $//')"
 report "nothing else is left" "passed" "$(ls .ci/out)"
-name=acquire-$(git log -1 --format=%cs)-$(git rev-parse --short HEAD)
+name=acquire-1.2.3-$(git rev-parse --short HEAD)
 report "release" "0 $name.tar.gz" "$(release)"
 mkdir "$room/unpacked" && tar -xzf "$room/made/$name.tar.gz" -C "$room/unpacked"
-report "its program" "$(sha256sum <crates/acquire/out/acquire)" "$(sha256sum <"$room/unpacked/$name/bin/acquire")"
-report "its version" "commit $(git rev-parse HEAD) kit first kit gate 5 passed, 0 failed" "$(head -n 3 "$room/unpacked/$name/VERSION" | tr '\n' ' ' | sed 's/ $//')"
+report "its program" "$(sha256sum <crates/acquire/out/acquire)" "$(sha256sum <"$room/unpacked/$name/lib/acquire/acquire")"
+report "its version" "version 1.2.3 commit $(git rev-parse HEAD) kit first kit gate 5 passed, 0 failed" "$(head -n 4 "$room/unpacked/$name/VERSION" | tr '\n' ' ' | sed 's/ $//')"
 report "its sums" 0 "$(cd "$room/unpacked/$name" && sha256sum --quiet -c SHA256; echo $?)"
-report "its files" "README SHA256 VERSION bin/acquire example/input example/printed share/bash-completion/completions/acquire share/doc/acquire/formats.md share/man/man1/acquire.1 share/zsh/site-functions/_acquire" \
-    "$(cd "$room/unpacked/$name" && find . -type f | sed 's/^..//' | LC_ALL=C sort | tr '\n' ' ' | sed 's/ $//')"
+report "its files" "README SHA256 VERSION bin/acquire example/input example/printed lib/acquire/acquire lib/acquire/help lib/acquire/version share/bash-completion/completions/acquire share/man/man1/acquire.1 share/zsh/site-functions/_acquire" \
+    "$(cd "$room/unpacked/$name" && find . -type f ! -path './share/doc/*' | sed 's/^..//' | LC_ALL=C sort | tr '\n' ' ' | sed 's/ $//')"
+report "its licences" "LICENSE-APACHE LICENSE-MIT" "$(cd "$room/unpacked/$name/share/doc/acquire" && echo LICENSE*)"
 cp "$room/made/$name.tar.gz" "$room/first" && rm "$room"/made/*
 release >"$room/status"
 report "the same twice" 0 "$(cmp "$room/first" "$room/made/$name.tar.gz"; echo $?)"

@@ -82,6 +82,7 @@ unbuilt() {
     cp -r "$top/acquire" "$top/tools" "$room/top/"
     cd "$room/top" || exit 1
     printf 'low: # the lowest\nbeside: low\nacquire: low json\n' >crates.txt
+    echo 1.2.3 >VERSION
     touch HANDLES examples/first/{input,printed} crates/beside/src/lib.rt crates/acquire/src/main.rt crates/low/specs/Lib.antt
     echo one >crates/low/src/lib.rt
     echo first kit >"$kit/bin/kit"
