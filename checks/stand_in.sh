@@ -108,7 +108,7 @@ report() {
 }
 
 # Says what is passed over, where a tool isn't there.
-has() { command -v "$1" >/dev/null || { echo "$what: $1 isn't there, so $2" && false; }; }
+has() { command -v "$1" >/dev/null || { echo "$what: passed over: $1 isn't there, so $2" && false; }; }
 
 lines_of() { if [ -e "$1" ]; then wc -l <"$1"; else echo 0; fi; }
 
