@@ -5,8 +5,8 @@ usage: tools/third_party.py > THIRD-PARTY.md
        tools/third_party.py --texts FOLDER      puts the texts of these licences into FOLDER, for whoever gets the program alone
 
 The libraries are those that crates.txt names for the program and the crates below it, and those that stand below these in the kit. A
-library's licences are read from its folder in the kit; of one that has none there, that is said. checks/documents.py holds the
-page to this where the kit that made it is there.
+library's licences are read from its folder in the kit; of one that has none there, that is said. checks/documents.py holds the page
+to this where the kit that made it is there.
 """
 
 import os
