@@ -28,7 +28,7 @@ sys.dont_write_bytecode = True
 from questions import learn
 from search import cases
 
-USUAL = ["zebra", "60 exams", "128 variables, 300 ne"]
+USUAL = ["zebra", "60 exams", "128 variables, 300 ne, orders"]
 RUNS = 3
 
 

@@ -12,6 +12,7 @@ heading. Beside that:
 - docs/map.md has a row for each crate, in the order of crates.txt, in which each crate stands on those above it;
 - in docs/definitions.md a word stands in the file that its row names;
 - docs/calls.md has each public call with a clause of the crates that the program stands on, and each law, and names no other call;
+- README.md has the figures of the tables of docs/performance.md;
 - THIRD-PARTY.md is what tools/third_party.py makes, where the kit that it names is there.
 
 That a command prints what a page shows under it is seen by checks/examples.sh.
@@ -436,6 +437,37 @@ def call_faults(sources, page):
             yield listed.at_laws, f"no law {law} in the row of {name}"
 
 
+def rows_under(head):
+    """The rows of the table of docs/performance.md with this head, by their first cell."""
+    lines = text_of("docs/performance.md").split(head)[1].split("\n\n")[0].split("\n")[2:]
+    rows = [[cell.strip() for cell in line.strip("|").split("|")] for line in lines]
+    return {row[0]: row[1:] for row in rows}
+
+
+def figure_faults(page):
+    """Whether README.md has the figures of the tables of docs/performance.md."""
+    asked = rows_under("| task | variables, scopes, candidates | `scopes` | `quacq` | `multi` |")
+    of = lambda task, column: asked[task][column].split(" of ")[0]
+    candidates = lambda task: asked[task][0].split(", ")[2]
+    timed = rows_under("| case | variables, scopes, constraints | questions | ending |")
+    done = {case: row for case, row in timed.items() if row[2] == "converged"}
+    others = [int(row[6]) for case, row in done.items() if "Golomb" not in case]
+    ruler = next(int(row[6]) for case, row in done.items() if "Golomb" in case)
+    waits = [float(row[7]) for row in done.values()]
+    memory = [float(row[8].removesuffix(" MB")) for row in done.values()]
+    due = [
+        f"A roster with {candidates('roster')} possible constraints takes {of('roster', 2)} questions.",
+        f"100 exams with {candidates('100 exams')} take {of('100 exams', 2)}, and {of('100 exams', 1)} in plan `scopes`.",
+        f"a question took {min(others)} to {max(others)} us of a processor ({ruler / 1000:.2f} ms on a Golomb ruler)",
+        f"nobody waited for more than {max(waits):.0f} ms, and {min(memory)} to {max(memory)} MB were enough",
+    ]
+    said = " ".join(text_of("README.md").split())
+    number = next(number for number, line in page.lines if line == "## Numbers")
+    for text in due:
+        if text not in said:
+            yield number, f"the tables of docs/performance.md have: {text}"
+
+
 def third_party_faults(page):
     """Whether the page of third parties is the one that the kit's libraries give."""
     try:
@@ -457,7 +489,7 @@ def main():
     parts += [("docs/map.md", lambda page: map_faults(sources, page))]
     parts += [("docs/definitions.md", lambda page: definition_faults(sources, page))]
     parts += [("docs/calls.md", lambda page: call_faults(sources, page))]
-    parts += [("THIRD-PARTY.md", third_party_faults)]
+    parts += [("README.md", figure_faults), ("THIRD-PARTY.md", third_party_faults)]
     failed = 0
     for name, faults in parts:
         found = list(faults(pages[name]))
