@@ -14,7 +14,6 @@ from .faults import ProgramMissing
 # Each complete question starts seven threads, and the C library keeps their stacks for the next one only where they are small. The
 # program needs a fifth of this.
 _STACK_KB = 1024
-_START = f'ulimit -S -s {_STACK_KB} 2>/dev/null; exec "$0" "$@"'
 _PATIENCE = 2.0  # seconds that a run has to end after its input has ended
 
 
@@ -34,8 +33,12 @@ class Reply:
 class Program:
     """The program at a path."""
 
-    def __init__(self, path: str | os.PathLike[str]) -> None:
+    def __init__(self, path: str | os.PathLike[str], stack: int | None = _STACK_KB) -> None:
+        """stack: the soft limit of its stacks in KB, which a shell sets that then becomes the program; None leaves the caller's own."""
         self.path = os.path.abspath(path)
+        self._start = [self.path]
+        if stack is not None:
+            self._start = ["/bin/sh", "-c", f'ulimit -S -s {stack} 2>/dev/null; exec "$0" "$@"', self.path]
 
     @classmethod
     def found(cls, named: str | os.PathLike[str] | None = None) -> Program:
@@ -55,7 +58,7 @@ class Program:
     def call(self, words: Sequence[str], given: bytes = b"") -> Reply:
         """One call with all its input."""
         try:
-            ran = subprocess.run(self._start(words), input=given, stdout=subprocess.PIPE, check=False)
+            ran = subprocess.run([*self._start, *words], input=given, stdout=subprocess.PIPE, check=False)
         except OSError as error:
             raise ProgramMissing(f"{self.path}: {error.strerror}") from None
         return Reply(ran.returncode, ran.stdout.decode(errors="replace"))
@@ -63,13 +66,9 @@ class Program:
     def run(self, words: Sequence[str], keep_open: Sequence[int] = ()) -> Run:
         """A command that asks. The program inherits the descriptors `keep_open`, a lock's for instance."""
         try:
-            return Run(subprocess.Popen(self._start(words), stdin=subprocess.PIPE, stdout=subprocess.PIPE, process_group=0, pass_fds=keep_open))
+            return Run(subprocess.Popen([*self._start, *words], stdin=subprocess.PIPE, stdout=subprocess.PIPE, process_group=0, pass_fds=keep_open))
         except OSError as error:
             raise ProgramMissing(f"{self.path}: {error.strerror}") from None
-
-    def _start(self, words: Sequence[str]) -> list[str]:
-        """The words of a shell that lowers the limit of the stacks and becomes the program."""
-        return ["/bin/sh", "-c", _START, self.path, *words]
 
 
 class Run:
@@ -100,12 +99,12 @@ class Run:
 
     def rest(self) -> list[str]:
         """Ends the input, and all lines that still come."""
-        self._end_input()
+        self.end_input()
         return self._from.read().decode(errors="replace").splitlines()
 
     def close(self) -> int:
         """Ends the input and waits; the exit status. A run that goes on is ended by a signal, which loses no acknowledged answer."""
-        self._end_input()
+        self.end_input()
         for end in (self._process.terminate, self._process.kill):
             try:
                 self._process.wait(_PATIENCE)
@@ -115,7 +114,16 @@ class Run:
         self._from.close()
         return self._process.wait()
 
-    def _end_input(self) -> None:
+    def kill(self) -> tuple[str, int]:
+        """Kills the program; what it wrote and nobody has read, and its status, which is below 0 where it hadn't ended by itself."""
+        self._process.kill()
+        rest = self._from.read().decode(errors="replace")
+        self.end_input()
+        self._from.close()
+        return rest, self._process.wait()
+
+    def end_input(self) -> None:
+        """Ends the program's input; what it says then can still be read."""
         try:
             self._to.close()
         except BrokenPipeError:
