@@ -3,7 +3,7 @@
 #
 # usage: ./release.sh FOLDER
 #
-# FOLDER gets acquire-DATE-COMMIT.tar.gz. .ci/run leaves a record of what it has passed. Where the tree isn't that commit any more, to the
+# FOLDER gets acquire-VERSION-COMMIT.tar.gz. .ci/run leaves a record of what it has passed. Where the tree isn't that commit any more, to the
 # byte, or the program another one than the gate has tried, nothing is made. In the end the file is unpacked in an empty folder, and
 # the program runs the first example there.
 set -u
@@ -34,12 +34,14 @@ case $said in
 *) refuse "the gate's last line says '$said'" ;;
 esac
 
-name=acquire-$(git log -1 --format=%cs)-$(git rev-parse --short HEAD)
+name=acquire-$(cat "$home/VERSION")-$(git rev-parse --short HEAD)
 room=$(mktemp -d) || exit 1
 to=$room/$name
 "$home/tools/install.sh" "$to" / >/dev/null || exit 1
+"$home/tools/third_party.py" --texts "$to/share/doc/acquire/licences" || refuse "the licences of the libraries can't be read in the kit"
 mkdir "$to/example" && cp "$home/examples/first/input" "$home/examples/first/printed" "$to/example/" || exit 1
 cat >"$to/VERSION" <<END
+version $(cat "$home/VERSION")
 commit $commit
 kit $kit
 gate $said
@@ -49,8 +51,9 @@ cat >"$to/README" <<END
 acquire finds the constraints that you have in mind: it shows small examples,
 you answer yes or no, and it prints the constraints that your answers follow.
 
-This is the program alone, for Linux on x86-64 with the GNU C library. It was
-proved and built by $kit
+This is version $(cat "$home/VERSION") for Linux on x86-64, with the GNU C library from 2.34 on (Debian
+12, Ubuntu 22.04). It was proved and built by
+$kit
 from commit $commit.
 The gate's last line was: $said
 
@@ -61,9 +64,13 @@ Run the first example here, and compare with example/printed:
 Check the program, and put it where your system looks for it:
 
     sha256sum -c SHA256
-    cp -r bin share /usr/local/
+    cp -r bin lib share /usr/local/
 
-Then \`man acquire\` has its words and formats, as has share/doc/acquire.
+Then \`man acquire\` has its words and formats, and share/doc/acquire all pages,
+examples and licences. Who judges plans and would rather see tables and
+sentences begins with \`desk\`, which is beside it and not proved. It needs
+Python 3.11, python3-rich and a SAT solver:
+share/doc/acquire/desk/README.md.
 Who wants the proof done again takes the sources of that commit and the kit,
 and runs .ci/run there.
 END

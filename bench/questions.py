@@ -21,13 +21,18 @@ import itertools
 import json
 import os
 import random
-import subprocess
+import resource
 import sys
 import time
 from operator import and_, itemgetter
 from typing import NamedTuple
 
 TOP = os.path.join(os.path.dirname(os.path.abspath(__file__)), "..")
+sys.path.insert(0, os.path.join(TOP, "python"))
+from acquire import Program, Vocabulary
+
+# As the scripts that start the program have it: of larger stacks the C library keeps fewer than a question's threads need.
+resource.setrlimit(resource.RLIMIT_STACK, (1 << 20, resource.getrlimit(resource.RLIMIT_STACK)[1]))
 PLANS = ["scopes", "quacq", "multi"]
 MOST_STEPS = 20_000
 
@@ -159,34 +164,33 @@ def processor_so_far(process):
         return None
 
 
+def processor_of_ended():
+    """How many seconds of a processor the processes have taken that have ended."""
+    usage = resource.getrusage(resource.RUSAGE_CHILDREN)
+    return usage.ru_utime + usage.ru_stime
+
+
 def learn(program, task, *words, most=None):
     """A session of `try` with these words, whose owner answers by the task's network, and stops after so many answers."""
-    run = subprocess.Popen(
-        [program, ":memory:", "try", *words], stdin=subprocess.PIPE, stdout=subprocess.PIPE, text=True
-    )
-    run.stdin.write(json.dumps(task.vocabulary, separators=(",", ":")) + "\n")
-    run.stdin.flush()
+    before = processor_of_ended()
+    run = Program(program, stack=None).run([":memory:", "try", *words])
+    run.write(Vocabulary(task.vocabulary).line)
     questions, answers, last, taken = [], [], [], []
-    for line in run.stdout:
-        number, *parts = line.rstrip("\n").split(" ")
+    while line := run.line():
+        number, *parts = line.split(" ")
         if last or number != f"q{len(questions) + 1}":
-            last.append(line.rstrip("\n"))
+            last.append(line)
             continue
         taken.append(processor_so_far(run.pid))
         if len(answers) == most:
-            run.stdin.write("stop\n")
-            run.stdin.flush()
+            run.write(b"stop\n")
             continue
         shown = {name: int(value) for name, value in (part.split("=") for part in parts)}
         questions.append(shown)
         answers.append("yes" if task.accepts(shown) else "no")
-        run.stdin.write(f"{answers[-1]}\n")
-        run.stdin.flush()
-    run.stdin.close()
-    _, _, usage = os.wait4(run.pid, 0)
-    run.returncode = 0
-    seconds = usage.ru_utime + usage.ru_stime
-    return Learned(questions, answers, last, seconds, None if None in taken else taken)
+        run.write(f"{answers[-1]}\n".encode())
+    run.close()
+    return Learned(questions, answers, last, processor_of_ended() - before, None if None in taken else taken)
 
 
 def read_network(task, last):

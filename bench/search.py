@@ -100,6 +100,11 @@ def with_ranges(task):
     return Task(f"{task.name} with ranges", {**task.vocabulary, "ranges": ranges}, task.constraints)
 
 
+def with_orders(task):
+    """A task of whose relations are the orders too, by a name that says so."""
+    return Task(f"{task.name}, orders", task.vocabulary, task.constraints)
+
+
 def milliseconds(seconds):
     return f"{seconds * 1000:,.0f}" if seconds >= 0.01 else f"{seconds * 1000:.1f}"
 
@@ -119,11 +124,11 @@ class Case:
 
 def cases():
     """How each case is made, and whether it is a long one."""
-    yield False, lambda: Case(latin_square(4, ORDERS))
-    yield False, lambda: Case(latin_square(5, ORDERS))
+    yield False, lambda: Case(with_orders(latin_square(4, ORDERS)))
+    yield False, lambda: Case(with_orders(latin_square(5, ORDERS)))
     yield False, lambda: Case(sudoku(), "--budget", "500")
     yield False, lambda: Case(zebra())
-    yield False, lambda: Case(drawn_network(50, 10, 122, 122, ORDERS))
+    yield False, lambda: Case(with_orders(drawn_network(50, 10, 122, 122, ORDERS)))
     yield False, lambda: Case(mixed_network(50, 10, 122, 122))
     yield False, lambda: Case(exams(24, 10, 24))
     yield False, lambda: Case(exams(60, 15, 60))
@@ -131,7 +136,7 @@ def cases():
     yield False, lambda: Case(exams(60, 15, 60), "--plan", "multi")
     yield False, lambda: Case(golomb(7, 15))
     yield False, lambda: Case(queens(8))
-    yield True, lambda: Case(drawn_network(128, 10, 300, 300, ORDERS))
+    yield True, lambda: Case(with_orders(drawn_network(128, 10, 300, 300, ORDERS)))
     yield True, lambda: Case(mixed_network(128, 10, 300, 300))
     yield True, lambda: Case(mixed_network(128, 10, 300, 300), "--plan", "multi")
     yield True, lambda: Case(exams(100, 20, 100))

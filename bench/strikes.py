@@ -29,7 +29,7 @@ import tempfile
 sys.dont_write_bytecode = True
 import journals
 from journals import MAGIC, Cost, VALUES
-from questions import drawn_network, exams, learn, processor_so_far
+from questions import Program, drawn_network, exams, learn, processor_so_far
 from search import ORDERS, Case, milliseconds
 
 PLAN_BYTES = {"scopes": 1, "quacq": 2, "multi": 3}
@@ -55,18 +55,15 @@ def write(path, plan, vocabulary, records):
 
 def no_answer(program, case):
     """The seconds of a processor for a line that is no answer, and what is printed then."""
-    run = subprocess.Popen([program, ":memory:", "try", *case.words], stdin=subprocess.PIPE, stdout=subprocess.PIPE, text=True)
-    run.stdin.write(f"{case.vocabulary}\n")
+    run = Program(program, stack=None).run([":memory:", "try", *case.words])
+    run.write(f"{case.vocabulary}\n".encode())
     taken = []
     for _ in range(500):
-        run.stdin.write("maybe\n")
-        run.stdin.flush()
-        run.stdout.readline()
+        run.write(b"maybe\n")
+        run.line()
         taken.append(processor_so_far(run.pid))
-    run.stdin.write("stop\n")
-    run.stdin.close()
-    run.stdout.read()
-    run.wait()
+    run.rest()
+    run.close()
     return None if None in taken else statistics.median(later - earlier for earlier, later in itertools.pairwise(taken[1:]))
 
 

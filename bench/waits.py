@@ -20,15 +20,14 @@ import argparse
 import json
 import os
 import statistics
-import subprocess
 import sys
 import time
 
 sys.dont_write_bytecode = True
-from questions import learn
+from questions import Program, learn
 from search import cases
 
-USUAL = ["zebra", "60 exams", "128 variables, 300 ne"]
+USUAL = ["zebra", "60 exams", "128 variables, 300 ne, orders"]
 RUNS = 3
 
 
@@ -37,33 +36,21 @@ class Waits:
 
     def __init__(self, program, words, vocabulary, answers):
         variables = len(json.loads(vocabulary)["variables"])
-        self.all, self.complete, self.text = [], [], b""
+        self.all, self.complete, self.lines = [], [], []
         begun = time.perf_counter()
-        run = subprocess.Popen(
-            [program, ":memory:", "try", *words], stdin=subprocess.PIPE, stdout=subprocess.PIPE, bufsize=0
-        )
+        run = Program(program, stack=None).run([":memory:", "try", *words])
         for line in [vocabulary, *answers]:
-            run.stdin.write(line + b"\n")
-            question = self.read_line(run)
+            run.write(line + b"\n")
+            question = run.line()
             waited = time.perf_counter() - begun
+            assert question, "the program has ended before the answers have"
+            self.lines.append(question)
             self.all.append(waited)
-            if question.count(b"=") == variables:
+            if question.count("=") == variables:
                 self.complete.append(waited)
             begun = time.perf_counter()
-        run.stdin.close()
-        rest = run.stdout.read()
-        self.text += rest
-        assert run.wait() == 0, "the program refuses these answers"
-
-    def read_line(self, run):
-        """The next piece of output, which is a line or the whole closing."""
-        piece = b""
-        while not piece.endswith(b"\n"):
-            more = os.read(run.stdout.fileno(), 1 << 16)
-            assert more, "the program has ended before the answers have"
-            piece += more
-        self.text += piece
-        return piece
+        self.lines += run.rest()
+        assert run.close() == 0, "the program refuses these answers"
 
 
 def microseconds(seconds):
@@ -73,7 +60,7 @@ def microseconds(seconds):
 def row_of(name, program, words, vocabulary, answers):
     """The cells of a session, each the least of some runs."""
     runs = [Waits(program, words, vocabulary, answers) for _ in range(RUNS)]
-    assert len({run.text for run in runs}) == 1, "two runs print different texts"
+    assert all(run.lines == runs[0].lines for run in runs), "two runs print different texts"
     least = lambda of: microseconds(min(map(of, runs)))
     most_of = lambda waits: sorted(waits)[len(waits) * 99 // 100]
     return [

@@ -9,7 +9,7 @@ what=acquire
 
 fresh() {
     unbuilt
-    printed=$(./acquire run 2>"$room/said")
+    printed=$(./acquire j run 2>"$room/said")
 }
 
 builds() { lines_of "$room/top/built"; }
@@ -17,7 +17,7 @@ compiled() { lines_of "$room/top/compiled"; }
 
 # What a start prints, its status, and how many builds there have been.
 start() {
-    printed=$(./acquire run 2>"$room/said")
+    printed=$(./acquire j run 2>"$room/said")
     echo "$printed $? $(builds)"
 }
 
@@ -25,24 +25,24 @@ expect() { report "$1" "$2" "$(start)"; }
 
 # The same without proof: how many tries there have been, and how many lines say so.
 start_unproved() {
-    printed=$(./acquire --unproved run 2>"$room/said")
+    printed=$(./acquire --unproved j run 2>"$room/said")
     echo "$printed $? $(compiled) $(grep -c "nothing of this program is proved" "$room/said")"
 }
 
 expect_unproved() { report "unproved: $1" "$2" "$(start_unproved)"; }
 
-# Starts `acquire WORD` beside this script, and goes on once its build waits.
+# Starts a run over a journal beside this script, and goes on once its build waits.
 start_slow() {
     rm -f waits
     touch slow
-    ./acquire "$@" >"$room/${*: -1}" 2>&1 &
+    ./acquire "$@" run >"$room/${*: -1}" 2>&1 &
     await [ -e waits ]
 }
 
 # (some rows have two words)
 # shellcheck disable=SC2086
 help_words() {
-    for words in --help -h help "--unproved --help" "--unproved help"; do
+    for words in --help -h help "--unproved --help" "--unproved help" "--help run" "j --help" "-h j run" "--plan multi --help"; do
         report "$words" "$usage" "$(bare ./acquire $words 2>"$room/said" | head -n 1)"
         report "$words: status, and nothing is said" "0 " "$(bare ./acquire $words >"$room/printed" 2>"$room/said"; echo $?) $(cat "$room/said")"
     done
@@ -56,10 +56,21 @@ no_words() {
     done
 }
 
+# Words that the program wouldn't take: nothing is built for them, and nothing is asked.
 # shellcheck disable=SC2086
-not_alone() {
-    for words in "help run" "--help run" "run --help" "--version run"; do
-        report "a word that isn't alone: $words" "one $here $words" "$(./acquire $words 2>&1)"
+wrong_words() {
+    for words in j "j shwo" run "--unproved j shwo" "j run --help" "j run more" "j run --budget" "j run --budget=0" "j run --budget five" \
+        "j show --budget 5" "j new --plan fast" "j new --plan" "j new --plan multi --plan multi" "j try" ":memory: demo" \
+        "--fast j run" ":memory: demo --number 4294967296" "j run --budget 1000000001" "j run --number 3"; do
+        report "wrong words: $words" "$usage 1 0 " "$(bare ./acquire $words 2>"$room/said") $? $(builds) $(cat "$room/said")"
+    done
+}
+
+# shellcheck disable=SC2086
+other_words() {
+    for words in "help run" "--plan multi j new" "j new --plan=multi" "j run --budget +7" "j run --budget 007" "j run --budget 1000000000" \
+        ":memory: demo --number 0 --budget 5" ":memory: check" "j reduce --budget=1" "j play" "-- j run"; do
+        report "words for the program: $words" "one $here $words" "$(./acquire $words 2>&1)"
     done
 }
 
@@ -68,50 +79,63 @@ usage=$(sed -n '/^usage: /p' "$top/docs/formats.md")
 
 unbuilt
 help_words
-report "version" "proved with $(cat "$top/tools/kit") 0" "$(bare ./acquire --version 2>"$room/said" | tail -n 1) $?"
-report "version of a folder" 1 "$(./acquire --version | grep -c "^acquire (its commit isn't known")"
+for words in --version -V "-V j" "--version run"; do
+    # shellcheck disable=SC2086
+    report "$words" "proved with $(cat "$top/tools/kit") 0" "$(bare ./acquire $words 2>"$room/said" | tail -n 1) $?"
+done
+report "version of a folder" "acquire 1.2.3, of a commit that git can't tell here" "$(./acquire --version | head -n 1)"
 echo "1a2b3c4 of 2026-11-29" >tools/commit
-report "version of an archive" "acquire 1a2b3c4 of 2026-11-29" "$(./acquire --version | head -n 1)"
+report "version of an archive" "acquire 1.2.3, commit 1a2b3c4 of 2026-11-29" "$(./acquire --version | head -n 1)"
 no_words
+wrong_words
+mv "$room/top" "$room/a 'b"
+command=$("$room/a 'b/acquire" --help | sed -n 's/^  \(.*acquire.*\) run$/\1/p')
+report "a path with blanks can be copied" "$usage" "$(sh -c "$command" 2>&1)"
+mv "$room/a 'b" "$room/top"
 report "nothing is built by these" "" "$(ls crates/acquire/out 2>/dev/null)"
 if has git "the version of a commit isn't tried"; then
     git init -q . && git add -A && git -c user.name=a -c user.email=a@b commit -q -m one
-    report "version of a commit" "acquire $(git log -1 --format='%h of %cs')" "$(./acquire --version | head -n 1)"
+    report "version of a commit" "acquire 1.2.3, commit $(git log -1 --format='%h of %cs')" "$(./acquire --version | head -n 1)"
     echo more >>HANDLES
-    report "version with changes" "acquire $(git log -1 --format='%h of %cs'), with changes" "$(./acquire --version | head -n 1)"
+    report "version with changes" "acquire 1.2.3, commit $(git log -1 --format='%h of %cs'), with changes" "$(./acquire --version | head -n 1)"
 fi
 
 fresh
-report "first start" "one $here run 1" "$printed $(builds)"
+report "first start" "one $here j run 1" "$printed $(builds)"
 report "it says how long that takes" 1 "$(grep -c "^acquire: the whole takes 29 minutes" "$room/said")"
+printf '#!/bin/sh\nulimit -S -s\n' >"$room/stacks" && chmod +x "$room/stacks"
+# shellcheck disable=SC2016 # (these are the words of the script)
+sed "s|^exec \"\$program\" |exec $room/stacks |" acquire >with_stacks
+report "its stacks" 1024 "$(sh ./with_stacks j run)"
+rm with_stacks
 rm "$kit/bin/asked"
-expect "second start" "one $here run 6 1"
+expect "second start" "one $here j run 6 1"
 report "rt isn't asked" "" "$(cat "$kit/bin/asked" 2>/dev/null)"
-not_alone
+other_words
 
 touch crates/low/src/lib.rt
-expect "touched" "one $here run 6 1"
+expect "touched" "one $here j run 6 1"
 cp crates/low/src/lib.rt "$room/kept"
 echo two >crates/low/src/lib.rt
 cp "$room/kept" crates/low/src/lib.rt
-expect "changed and back" "one $here run 6 1"
+expect "changed and back" "one $here j run 6 1"
 for it in crates/low/must-fail/a.edit crates/beside/src/lib.rt crates/acquire/stdin README.md; do
     echo more >>"$it"
-    expect "$it" "one $here run 6 1"
+    expect "$it" "one $here j run 6 1"
 done
 echo "other: low" >>crates.txt
-expect "another crate" "one $here run 6 1"
+expect "another crate" "one $here j run 6 1"
 
 echo two >crates/low/src/lib.rt
-expect "changed" "two $here run 6 2"
+expect "changed" "two $here j run 6 2"
 cp -p "$room/kept" crates/low/src/lib.rt
-expect "an older file" "one $here run 6 3"
+expect "an older file" "one $here j run 6 3"
 echo more >crates/low/src/more.rt
-expect "a new file" "one $here run 6 4"
+expect "a new file" "one $here j run 6 4"
 rm crates/low/src/more.rt
-expect "a file less" "one $here run 6 5"
+expect "a file less" "one $here j run 6 5"
 mv crates/beside/src crates/low/proofs
-report "a new folder" "one $here run 6" "$(start | cut -d' ' -f1-4)"
+report "a new folder" "one $here j run 6" "$(start | cut -d' ' -f1-5)"
 mv crates/low/proofs crates/beside/src
 
 echo BROKEN >crates/low/src/lib.rt
@@ -119,27 +143,27 @@ report "broken" " 70" "$(start | cut -d' ' -f1-2)"
 report "broken again" " 70" "$(start | cut -d' ' -f1-2)"
 report "broken, and unproved" " 70" "$(start_unproved | cut -d' ' -f1-2)"
 cp "$room/kept" crates/low/src/lib.rt
-report "mended" "one $here run 6" "$(start | cut -d' ' -f1-4)"
+report "mended" "one $here j run 6" "$(start | cut -d' ' -f1-5)"
 
 fresh
 echo second kit >"$kit/bin/kit"
 touch "$kit/bin/rt"
-expect "another kit, of which the build sees no change" "one $here run 6 1"
+expect "another kit, of which the build sees no change" "one $here j run 6 1"
 report "it says so" "the program was built with another kit" "$(sed -n 's/^acquire: \(.*\);.*/\1/p' "$room/said")"
 printf '#!/bin/sh\necho other\n' >crates/acquire/out/acquire
-expect "another program in its place" "one $here run 6 2"
+expect "another program in its place" "one $here j run 6 2"
 rm crates/acquire/out/build.stamp
-expect "no stamp" "one $here run 6 2"
+expect "no stamp" "one $here j run 6 2"
 
 ln -s ../top/acquire "$room/elsewhere/first"
 ln -s "$room/elsewhere/first" "$room/elsewhere/second"
-report "a link to a link" "one $room/elsewhere run" "$(cd "$room/elsewhere" && ./second run 2>&1)"
+report "a link to a link" "one $room/elsewhere j run" "$(cd "$room/elsewhere" && ./second j run 2>&1)"
 report "nothing beside it" "first second" "$(cd "$room/elsewhere" && echo *)"
-report "no rt, and built" "one $here run" "$(bare ./acquire run 2>&1)"
-report "no rt, and not built unproved" " 70" "$(bare ./acquire --unproved run 2>"$room/said") $?"
+report "no rt, and built" "one $here j run" "$(bare ./acquire j run 2>&1)"
+report "no rt, and not built unproved" " 70" "$(bare ./acquire --unproved j run 2>"$room/said") $?"
 report "no rt, which is told" 1 "$(grep -c "rt, which .* isn't on the path" "$room/said")"
 echo two >crates/low/src/lib.rt
-report "no rt, and not built" " 70" "$(bare ./acquire run 2>"$room/said") $?"
+report "no rt, and not built" " 70" "$(bare ./acquire j run 2>"$room/said") $?"
 report "no rt, which is told" 1 "$(grep -c "rt, which .* isn't on the path" "$room/said")"
 
 # What is told of a build of three crates, of which the first takes three times its share and the second doesn't end.
@@ -173,41 +197,42 @@ foretell() (
 unbuilt
 report "how far a build is" "0 of 3 crates proved in 0 s, some 16 min left; now a look at all sources
 1 of 3 crates proved in 5 min 0 s, some 29 min left; now mid
-1 of 3 crates proved in 38 min 20 s, some 26 min left; now mid
+1 of 3 crates proved in 38 min 20 s, some 106 min left; now mid
 2 of 3 crates proved in 38 min 21 s, some 106 min left; now acquire" "$(foretell)"
 
 unbuilt
-expect_unproved "first start" "unproved one $here run 6 1 1"
+expect_unproved "first start" "unproved one $here j run 6 1 1"
 report "nothing is proved for it" 0 "$(builds)"
 report "its tools" "clang -O1 unlinked ld.lld -o program unlinked last" "$(tr '\n' ' ' <"$kit/toolchain/bin/words" | sed 's/ $//')"
 rm "$kit/bin/asked"
-expect_unproved "second start" "unproved one $here run 6 1 1"
+expect_unproved "second start" "unproved one $here j run 6 1 1"
+report "unproved by the environment" "unproved one $here j run 1 0" "$(ACQUIRE_UNPROVED=1 ./acquire j run 2>"$room/said") $(grep -c "nothing of this program is proved" "$room/said") $(builds)"
 report "unproved: rt isn't asked" "" "$(cat "$kit/bin/asked" 2>/dev/null)"
-expect "the proved one isn't there" "one $here run 6 1"
+expect "the proved one isn't there" "one $here j run 6 1"
 report "nothing is said of proof" 0 "$(grep -c "nothing of this" "$room/said")"
-expect_unproved "with the proved one" "unproved one $here run 6 1 1"
+expect_unproved "with the proved one" "unproved one $here j run 6 1 1"
 touch crates/low/src/lib.rt
-expect_unproved "touched" "unproved one $here run 6 1 1"
+expect_unproved "touched" "unproved one $here j run 6 1 1"
 echo two >crates/low/src/lib.rt
-expect_unproved "changed" "unproved two $here run 6 2 1"
-expect "changed for both" "two $here run 6 2"
+expect_unproved "changed" "unproved two $here j run 6 2 1"
+expect "changed for both" "two $here j run 6 2"
 
 # Each in the place of the other, alone and with its stamp.
 cd crates/acquire/out || exit 1
 for it in acquire acquire-unproved build.stamp unproved.stamp; do cp -p "$it" "$room/$it"; done
 cp "$room/acquire-unproved" acquire
 cd ../../..
-expect "an unproved one in its place" "two $here run 6 3"
+expect "an unproved one in its place" "two $here j run 6 3"
 cp "$room/acquire-unproved" crates/acquire/out/acquire
 cp "$room/unproved.stamp" crates/acquire/out/build.stamp
-expect "with the stamp of that one" "two $here run 6 4"
+expect "with the stamp of that one" "two $here j run 6 4"
 cp "$room/acquire" crates/acquire/out/acquire-unproved
-expect_unproved "the proved one in its place" "unproved two $here run 6 3 1"
+expect_unproved "the proved one in its place" "unproved two $here j run 6 3 1"
 cp "$room/acquire" crates/acquire/out/acquire-unproved
 cp "$room/build.stamp" crates/acquire/out/unproved.stamp
-expect_unproved "with the stamp of that one" "unproved two $here run 6 4 1"
+expect_unproved "with the stamp of that one" "unproved two $here j run 6 4 1"
 rm crates/acquire/out/acquire
-expect "only the unproved one is there" "two $here run 6 5"
+expect "only the unproved one is there" "two $here j run 6 5"
 
 for row in "links_otherwise:nothing is linked" "links_another:another program is linked" "ld.lld:no linker"; do
     unbuilt
@@ -228,24 +253,24 @@ wait "$!"
 report "unproved: stopped" "143" "$?"
 rm slow
 report "unproved: nothing is left" "" "$(find crates/acquire/out "$room/tmp" -mindepth 1 ! -name '*.l*')"
-expect_unproved "started again" "unproved one $here run 6 1 1"
+expect_unproved "started again" "unproved one $here j run 6 1 1"
 
 fresh
 echo two >crates/low/src/lib.rt
 start_slow first
-./acquire second >"$room/second" 2>&1 &
+./acquire second run >"$room/second" 2>&1 &
 await grep -qs 'another start' "$room/second"
 rm slow
 wait
 report "the second waits" 1 "$(grep -c 'another start' "$room/second")"
-report "two starts" "two $here first two $here second 2" "$(tail -n 1 "$room/first") $(tail -n 1 "$room/second") $(builds)"
+report "two starts" "two $here first run two $here second run 2" "$(tail -n 1 "$room/first") $(tail -n 1 "$room/second") $(builds)"
 
 echo three >crates/low/src/lib.rt
 start_slow during
 echo four >crates/low/src/lib.rt
 rm slow
 wait
-report "changed during the build" "four $here during 4" "$(tail -n 1 "$room/during") $(builds)"
+report "changed during the build" "four $here during run 4" "$(tail -n 1 "$room/during") $(builds)"
 
 echo five >crates/low/src/lib.rt
 start_slow stopped
@@ -254,6 +279,6 @@ wait "$!"
 report "stopped" "143 0" "$? $(pgrep -fc "$kit/bin/rt")"
 rm slow
 report "no mark is left" "" "$(find crates/acquire/out -name '*mark*')"
-expect "started again" "five $here run 6 5"
+expect "started again" "five $here j run 6 5"
 
 finish

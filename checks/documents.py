@@ -11,7 +11,9 @@ heading. Beside that:
 
 - docs/map.md has a row for each crate, in the order of crates.txt, in which each crate stands on those above it;
 - in docs/definitions.md a word stands in the file that its row names;
-- docs/calls.md has each public call with a clause of the crates that the program stands on, and each law, and names no other call.
+- docs/calls.md has each public call with a clause of the crates that the program stands on, and each law, and names no other call;
+- README.md has the figures of the tables of docs/performance.md;
+- THIRD-PARTY.md is what tools/third_party.py makes, where the kit that it names is there.
 
 That a command prints what a page shows under it is seen by checks/examples.sh.
 """
@@ -20,6 +22,7 @@ import difflib
 import glob
 import os
 import re
+import subprocess
 from collections import defaultdict
 from fnmatch import fnmatch
 
@@ -29,7 +32,8 @@ ON_CONTRACTS = [f"docs/{page}.md" for page in ("promises", "definitions", "calls
 # Words in backquotes that look like names of the sources and are others, and what they are.
 OTHERS = {
     **dict.fromkeys((".rt", "abbrev", "match", "requires", "Copy"), "words of Rattle"),
-    **dict.fromkeys(("cc", "strace"), "programs of the system"),
+    **dict.fromkeys(("cc", "strace", "mypy"), "programs of the system"),
+    "acquire.check": "a call of the client for Python",
     **dict.fromkeys(("out/", "crates/acquire/out/acquire"), "made by a build"),
     **dict.fromkeys(("night_shift", "Baer"), "names that somebody gives in a vocabulary"),
     "mine.json": "a file that the reader writes",
@@ -165,6 +169,7 @@ class Sources:
         self.modules = set().union(*(crate.modules for crate in self.crates.values()))
         self.names |= set(self.crates).union(*(self.heads[owner] for owner in self.types))
         self.names |= {os.path.basename(file) for file in self.files}
+        self.names |= names_of_client()
 
     def of_path(self, path):
         """What a path as `crate::module::Type::call` ends in: (crate, type, name) of each thing that it may be."""
@@ -199,6 +204,12 @@ class Sources:
             return any(fnmatch(os.path.basename(file), name) for file in self.files)
         wanted = {os.path.normpath(folder + name + end) for folder in folders for end in ("", ".antt")}
         return any(fnmatch(file, it) for it in wanted for file in (self.files if "*" in it else self.files & {it}))
+
+
+def names_of_client():
+    """The classes and calls of the client for Python."""
+    texts = [text_of(os.path.relpath(path, TOP)) for path in glob.glob(TOP + "/python/acquire/*.py")]
+    return {name for text in texts for name in re.findall(rf"(?m)^ *(?:class|def) ({NAME})", text)}
 
 
 class Page:
@@ -426,15 +437,59 @@ def call_faults(sources, page):
             yield listed.at_laws, f"no law {law} in the row of {name}"
 
 
+def rows_under(head):
+    """The rows of the table of docs/performance.md with this head, by their first cell."""
+    lines = text_of("docs/performance.md").split(head)[1].split("\n\n")[0].split("\n")[2:]
+    rows = [[cell.strip() for cell in line.strip("|").split("|")] for line in lines]
+    return {row[0]: row[1:] for row in rows}
+
+
+def figure_faults(page):
+    """Whether README.md has the figures of the tables of docs/performance.md."""
+    asked = rows_under("| task | variables, scopes, candidates | `scopes` | `quacq` | `multi` |")
+    of = lambda task, column: asked[task][column].split(" of ")[0]
+    candidates = lambda task: asked[task][0].split(", ")[2]
+    timed = rows_under("| case | variables, scopes, constraints | questions | ending |")
+    done = {case: row for case, row in timed.items() if row[2] == "converged"}
+    others = [int(row[6]) for case, row in done.items() if "Golomb" not in case]
+    ruler = next(int(row[6]) for case, row in done.items() if "Golomb" in case)
+    waits = [float(row[7]) for row in done.values()]
+    memory = [float(row[8].removesuffix(" MB")) for row in done.values()]
+    due = [
+        f"A roster with {candidates('roster')} possible constraints takes {of('roster', 2)} questions.",
+        f"100 exams with {candidates('100 exams')} take {of('100 exams', 2)}, and {of('100 exams', 1)} in plan `scopes`.",
+        f"a question took {min(others)} to {max(others)} us of a processor ({ruler / 1000:.2f} ms on a Golomb ruler)",
+        f"nobody waited for more than {max(waits):.0f} ms, and {min(memory)} to {max(memory)} MB were enough",
+    ]
+    said = " ".join(text_of("README.md").split())
+    number = next(number for number, line in page.lines if line == "## Numbers")
+    for text in due:
+        if text not in said:
+            yield number, f"the tables of docs/performance.md have: {text}"
+
+
+def third_party_faults(page):
+    """Whether the page of third parties is the one that the kit's libraries give."""
+    try:
+        kit = subprocess.run(["rt", "version"], capture_output=True, text=True, check=True).stdout.strip()
+    except (OSError, subprocess.CalledProcessError):
+        kit = None
+    if kit is None or kit not in text_of(page.name):
+        print("documents: passed over: the kit of THIRD-PARTY.md isn't there, so its libraries aren't looked at")
+    elif subprocess.run([TOP + "/tools/third_party.py"], capture_output=True, text=True, check=True).stdout != text_of(page.name):
+        yield 1, "it isn't what tools/third_party.py makes: tools/third_party.py > THIRD-PARTY.md"
+
+
 def main():
     sources = Sources()
     names = ["README.md", *sorted(os.path.relpath(path, TOP) for path in glob.glob(TOP + "/docs/*.md"))]
-    pages = {name: Page(name) for name in names}
+    pages = {name: Page(name) for name in [*names, "THIRD-PARTY.md"]}
     parts = [(name, lambda page: naming_faults(sources, page)) for name in names]
     parts += [(name, lambda page: link_faults(pages, page)) for name in names]
     parts += [("docs/map.md", lambda page: map_faults(sources, page))]
     parts += [("docs/definitions.md", lambda page: definition_faults(sources, page))]
     parts += [("docs/calls.md", lambda page: call_faults(sources, page))]
+    parts += [("README.md", figure_faults), ("THIRD-PARTY.md", third_party_faults)]
     failed = 0
     for name, faults in parts:
         found = list(faults(pages[name]))

@@ -419,7 +419,7 @@ def main():
         drawn = list(sessions(room.program))
         parts = [no_files]
         if not can_run(["strace", "-o", os.devnull, "true"]):
-            print("faults: strace isn't there or may not trace, so no call is made to fail")
+            print("faults: passed over: strace isn't there or may not trace, so no call is made to fail")
         else:
             parts += [calls_that_fail]
         if os.environ[MOUNTED] == "no":

@@ -12,10 +12,9 @@ has git "nothing is tried" || exit 0
 # A commit of such a repository, with checks that look at nothing.
 fresh() {
     unbuilt
-    mkdir -p checks .ci docs "$room/made"
+    mkdir -p checks .ci "$room/made"
     cp "$top/.ci/run" .ci/
-    cp -r "$top/man" "$top/completions" "$top/Makefile" "$top/release.sh" "$top/.gitignore" .
-    cp "$top/docs/formats.md" docs/
+    cp -r "$top"/{man,completions,docs,Makefile,release.sh,.gitignore,README.md,LICENSE-MIT,LICENSE-APACHE} .
     for it in "$top"/checks/*; do
         [ -x "$it" ] && [ -f "$it" ] && printf '#!/bin/sh\n' >"checks/${it##*/}"
     done
@@ -37,7 +36,7 @@ gate() {
 }
 
 # What `acquire` prints, its status, and how many builds it took.
-start() { echo "$(./acquire run 2>"$room/said") $? $(lines_of built)"; }
+start() { echo "$(./acquire j run 2>"$room/said") $? $(lines_of built)"; }
 
 # The status of release.sh, and what it made.
 release() {
@@ -65,18 +64,19 @@ report "where the time went" "processor minutes proof second proof edits compile
 report "that is kept" 0 "$(tail -n +3 "$room/printed" | cmp -s - .ci/out/minutes; echo $?)"
 report "nothing is said" "" "$(cat "$room/said")"
 rm "$kit/bin/asked"
-report "acquire proves nothing again" "one $here run 6 0" "$(start)"
+report "acquire proves nothing again" "one $here j run 6 0" "$(start)"
 report "rt isn't asked" "" "$(cat "$kit/bin/asked" 2>/dev/null)"
 report "the record" "$(git rev-parse HEAD) $(sha256sum <crates/acquire/out/acquire) first kit 5 passed, 0 failed" "$(tr '\n' ' ' <.ci/out/passed | sed 's/ $//')"
 report "nothing else is left" "minutes passed" "$(ls .ci/out | tr '\n' ' ' | sed 's/ $//')"
-name=acquire-$(git log -1 --format=%cs)-$(git rev-parse --short HEAD)
+name=acquire-1.2.3-$(git rev-parse --short HEAD)
 report "release" "0 $name.tar.gz" "$(release)"
 mkdir "$room/unpacked" && tar -xzf "$room/made/$name.tar.gz" -C "$room/unpacked"
-report "its program" "$(sha256sum <crates/acquire/out/acquire)" "$(sha256sum <"$room/unpacked/$name/bin/acquire")"
-report "its version" "commit $(git rev-parse HEAD) kit first kit gate 5 passed, 0 failed" "$(head -n 3 "$room/unpacked/$name/VERSION" | tr '\n' ' ' | sed 's/ $//')"
+report "its program" "$(sha256sum <crates/acquire/out/acquire)" "$(sha256sum <"$room/unpacked/$name/lib/acquire/acquire")"
+report "its version" "version 1.2.3 commit $(git rev-parse HEAD) kit first kit gate 5 passed, 0 failed" "$(head -n 4 "$room/unpacked/$name/VERSION" | tr '\n' ' ' | sed 's/ $//')"
 report "its sums" 0 "$(cd "$room/unpacked/$name" && sha256sum --quiet -c SHA256; echo $?)"
-report "its files" "README SHA256 VERSION bin/acquire example/input example/printed share/bash-completion/completions/acquire share/doc/acquire/formats.md share/man/man1/acquire.1 share/zsh/site-functions/_acquire" \
-    "$(cd "$room/unpacked/$name" && find . -type f | sed 's/^..//' | LC_ALL=C sort | tr '\n' ' ' | sed 's/ $//')"
+report "its files" "README SHA256 VERSION bin/acquire example/input example/printed lib/acquire/acquire lib/acquire/help lib/acquire/version share/bash-completion/completions/acquire share/man/man1/acquire.1 share/zsh/site-functions/_acquire" \
+    "$(cd "$room/unpacked/$name" && find . -type f ! -path './share/doc/*' | sed 's/^..//' | LC_ALL=C sort | tr '\n' ' ' | sed 's/ $//')"
+report "its licences" "LICENSE-APACHE LICENSE-MIT" "$(cd "$room/unpacked/$name/share/doc/acquire" && echo LICENSE*)"
 cp "$room/made/$name.tar.gz" "$room/first" && rm "$room"/made/*
 release >"$room/status"
 report "the same twice" 0 "$(cmp "$room/first" "$room/made/$name.tar.gz"; echo $?)"
@@ -105,14 +105,14 @@ fresh
 report "broken" "3 1 passed, 1 failed" "$(echo BROKEN >crates/low/src/lib.rt; gate) $(sed -n 2p "$room/printed")"
 refuses "broken"
 git checkout -q .
-report "mended" "one $here run 6 1" "$(start)"
+report "mended" "one $here j run 6 1" "$(start)"
 refuses "no gate"
 
 fresh
 printf '#!/bin/sh\nexit 4\n' >checks/kills.py
 commit
 report "a check fails" 4 "$(gate)"
-report "its program is proved" "one $here run 6 0" "$(start)"
+report "its program is proved" "one $here j run 6 0" "$(start)"
 refuses "a check fails"
 
 fresh
@@ -126,7 +126,7 @@ fresh
 echo "two" >crates/low/src/lib.rt
 report "a tree that is no commit" 0 "$(gate)"
 report "it is told" 1 "$(grep -c "isn't that of a commit" "$room/said")"
-report "its program is proved" "two $here run 6 0" "$(start)"
+report "its program is proved" "two $here j run 6 0" "$(start)"
 commit
 refuses "a tree that was no commit"
 
@@ -140,19 +140,19 @@ touch_check() { touch checks/kills.py; }
 fresh
 change_during change
 report "changed meanwhile" "0 1" "$(cat "$room/status") $(grep -c "has been touched since the gate began, so acquire" "$room/said")"
-report "changed meanwhile: it is proved" "two $here run 6 1" "$(start)"
+report "changed meanwhile: it is proved" "two $here j run 6 1" "$(start)"
 fresh
 change_during change_back
 report "changed and back meanwhile" "0 1" "$(cat "$room/status") $(grep -c "has been touched since the gate began, so acquire" "$room/said")"
-report "changed and back meanwhile: it is proved" "one $here run 6 1" "$(start)"
+report "changed and back meanwhile: it is proved" "one $here j run 6 1" "$(start)"
 refuses "changed and back meanwhile"
 fresh
 change_during touch_check
 report "a check is touched meanwhile" "0 1" "$(cat "$room/status") $(grep -c "kills.py has been touched .* nothing to release" "$room/said")"
-report "a check is touched meanwhile: the program is proved" "one $here run 6 0" "$(start)"
+report "a check is touched meanwhile: the program is proved" "one $here j run 6 0" "$(start)"
 refuses "a check is touched meanwhile"
 fresh
 change_during touch "$kit/bin/rt"
-report "rt is touched meanwhile: it is proved" "one $here run 6 1" "$(start)"
+report "rt is touched meanwhile: it is proved" "one $here j run 6 1" "$(start)"
 
 finish

@@ -12,21 +12,43 @@ has make "nothing is tried" || exit 0
 install() { make -s "$@" >"$room/printed" 2>"$room/said"; }
 files() { (cd "$1" && find . -type f -printf '%m %P ' | tr ' ' '\n' | paste -d ' ' - - | LC_ALL=C sort -k 2 | tr '\n' ' '); }
 
+# The links of the pages in a folder to files that aren't there, but for those into sources, which no installation has.
+links_that_lead_nowhere() {
+    grep -rnoE '\]\([^)#: ]+' --include='*.md' "$1" | while IFS=: read -r page _ link; do
+        link=${link#](}
+        [ -e "$(dirname "$page")/$link" ] || echo "${page#"$1"/}: $link"
+    done
+}
+
 unbuilt
-mkdir docs
-cp -r "$top/man" "$top/completions" "$top/Makefile" .
-cp "$top/docs/formats.md" docs/
+cp -r "$top"/{man,completions,docs,Makefile,README.md,CHANGELOG.md,CONTRIBUTING.md,THIRD-PARTY.md,LICENSE-MIT,LICENSE-APACHE} .
+rm -r examples && cp -r "$top/examples" .
+pages=$(find README.md CHANGELOG.md CONTRIBUTING.md THIRD-PARTY.md LICENSE-MIT LICENSE-APACHE docs examples -type f -printf '644 share/doc/acquire/%p\n')
 report "not built" "2 1" "$(install install PREFIX="$room/to"; echo $?) $(grep -c "isn't built yet: .* proves and builds it" "$room/said")"
-./acquire --unproved run >/dev/null 2>&1
+./acquire --unproved j run >/dev/null 2>&1
 report "only an unproved one" 2 "$(install install PREFIX="$room/to"; echo $?)"
 report "nothing is put" "" "$(ls "$room/to" 2>/dev/null)"
-./acquire run >/dev/null 2>&1
-all="644 share/bash-completion/completions/acquire 644 share/doc/acquire/formats.md 644 share/man/man1/acquire.1 644 share/zsh/site-functions/_acquire "
+./acquire j run >/dev/null 2>&1
+# All that is put, where these lines are put besides.
+all() {
+    printf '%s\n' "$pages" "755 bin/acquire" "755 lib/acquire/acquire" "644 lib/acquire/version" "644 lib/acquire/help" "644 share/man/man1/acquire.1" \
+        "644 share/bash-completion/completions/acquire" "644 share/zsh/site-functions/_acquire" "$@" | LC_ALL=C sort -k 2 | tr '\n' ' '
+}
 report "built" 0 "$(install install PREFIX="$room/to"; echo $?)"
-report "what is put" "755 bin/acquire $all" "$(files "$room/to")"
-report "the proved program" "$(sha256sum <crates/acquire/out/acquire)" "$(sha256sum <"$room/to/bin/acquire")"
+report "what is put" "$(all)" "$(files "$room/to")"
+report "the proved program" "$(sha256sum <crates/acquire/out/acquire)" "$(sha256sum <"$room/to/lib/acquire/acquire")"
 report "the manual" "" "$(cmp "$top/man/acquire.1" "$room/to/share/man/man1/acquire.1")"
 report "it runs" "one $room/top j run" "$("$room/to/bin/acquire" j run)"
+report "words are passed on as they are" "one $room/top a  b --help run" "$("$room/to/bin/acquire" "a  b" --help run)"
+for word in --help -h; do
+    report "$word" "$(sed -n '/^usage: /p' docs/formats.md) 0" "$("$room/to/bin/acquire" $word | head -n 1) $?"
+done
+report "the script's own words aren't in its help" 0 "$("$room/to/bin/acquire" --help | grep -c -e --unproved)"
+for word in --version -V; do
+    report "$word" "$(./acquire --version)" "$("$room/to/bin/acquire" $word)"
+done
+printf '#!/bin/sh\nulimit -S -s\n' >"$room/to/lib/acquire/acquire"
+report "its stacks" 1024 "$("$room/to/bin/acquire" j run)"
 if has man "it isn't asked for the manual"; then
     report "man finds it" 1 "$(man -M "$room/to/share/man" acquire 2>/dev/null | grep -c '^EXIT STATUS')"
 fi
@@ -37,12 +59,12 @@ if has zsh "it isn't asked for its completion"; then
 fi
 report "uninstall" "0 " "$(install uninstall PREFIX="$room/to"; echo $?) $(files "$room/to")"
 report "a folder in front" 0 "$(install install DESTDIR="$room/dest" PREFIX=/usr; echo $?)"
-report "what is put there" "755 bin/acquire $all" "$(files "$room/dest/usr")"
+report "what is put there" "$(all)" "$(files "$room/dest/usr")"
 report "a prefix that isn't whole" 2 "$(install install PREFIX=to; echo $?)"
 echo two >crates/low/src/lib.rt
 report "changed" 2 "$(install install PREFIX="$room/other"; echo $?)"
 report "nothing is put" "" "$(ls "$room/other" 2>/dev/null)"
-./acquire run >/dev/null 2>&1
+./acquire j run >/dev/null 2>&1
 
 # With desk, which starts the program beside it.
 mkdir -p desk/cases
@@ -51,11 +73,15 @@ printf '#!/bin/sh\necho "desk $(dirname "$0") $DESK_ACQUIRE $*"\n' >desk/desk
 chmod +x desk/desk
 touch desk/{talk.py,desk.1,README.md} desk/cases/ward
 report "with desk" 0 "$(install install PREFIX="$room/to"; echo $?)"
-report "what is put" "755 bin/acquire 755 bin/desk 644 lib/acquire/desk/cases/ward 755 lib/acquire/desk/desk 644 lib/acquire/desk/talk.py 644 share/bash-completion/completions/acquire 644 share/doc/acquire/desk.md 644 share/doc/acquire/formats.md 644 share/man/man1/acquire.1 644 share/man/man1/desk.1 644 share/zsh/site-functions/_acquire " "$(files "$room/to")"
+report "what is put" "$(all "755 bin/desk" "644 lib/acquire/desk/cases/ward" "755 lib/acquire/desk/desk" "644 lib/acquire/desk/talk.py" \
+    "644 share/doc/acquire/desk/README.md" "644 share/doc/acquire/desk/cases/ward" "644 share/man/man1/desk.1")" "$(files "$room/to")"
 report "desk starts" "desk $room/to/bin/../lib/acquire/desk $room/to/bin/acquire ask x y" "$("$room/to/bin/desk" ask "x y")"
 report "desk with another program" "other" "$(DESK_ACQUIRE=other "$room/to/bin/desk" | cut -d' ' -f3)"
 ln -s "$room/to/bin/desk" "$room/elsewhere/desk"
 report "desk by a link" "$room/to/bin/acquire" "$("$room/elsewhere/desk" | cut -d' ' -f3)"
+cp "$top/desk/README.md" desk/ && cp "$top"/desk/cases/* desk/cases/
+report "with the pages of desk" 0 "$(install install PREFIX="$room/to"; echo $?)"
+report "a link to a page leads there" "" "$(links_that_lead_nowhere "$room/to/share/doc/acquire")"
 report "uninstall with desk" "0 " "$(install uninstall PREFIX="$room/to"; echo $?) $(files "$room/to")"
 
 finish

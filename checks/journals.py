@@ -26,6 +26,8 @@ import tempfile
 import termios
 import time
 
+from owners import Program
+
 TOP = os.path.join(os.path.dirname(os.path.abspath(__file__)), "..")
 NOBODY = 65534
 WORKED = bytes.fromhex("01 41 00 00 00 06 01 02 00 00 01 01 00")
@@ -325,13 +327,12 @@ def while_it_waits(room):
     for harm in [cut, cut_in_a_record, remove, replace, rename]:
         journal = worked_journal(room, "waits")
         before = content_of(journal)
-        words = [room.program, journal, "run"]
-        with subprocess.Popen(words, stdin=subprocess.PIPE, stdout=subprocess.PIPE) as program:
-            room.report(f"{harm.__name__}, the question", b"q2 a=1 b=1\n", program.stdout.readline())
-            harm(journal)
-            left = content_of(journal)
-            text = program.communicate(b"no\n", timeout=300)[0]
-        room.report(f"{harm.__name__}, then", (b"", 10), (text, program.returncode))
+        run = Program(room.program).run([journal, "run"])
+        room.report(f"{harm.__name__}, the question", "q2 a=1 b=1", run.line())
+        harm(journal)
+        left = content_of(journal)
+        run.write(b"no\n")
+        room.report(f"{harm.__name__}, then", ([], 10), (run.rest(), run.close()))
         room.report(f"{harm.__name__}, the file", left, content_of(journal))
         if harm is rename:
             room.report("rename, the journal", before, content_of(room.path("renamed")))

@@ -30,7 +30,7 @@ import tempfile
 import time
 
 sys.dont_write_bytecode = True
-from owners import accepts, play
+from owners import Program, accepts, play
 
 MAGIC = b"QUACQJ1\n"
 RELATIONS = {
@@ -141,24 +141,13 @@ def make(program, session, journal):
 
 
 def start(program, journal, *words):
-    return subprocess.Popen([program, journal, *words], stdin=subprocess.PIPE, stdout=subprocess.PIPE, bufsize=0)
-
-
-def feed(run, given):
-    try:
-        run.stdin.write(given)
-    except BrokenPipeError:
-        pass
+    return Program(program, stack=None).run([journal, *words])
 
 
 def kill(run):
     """Kills a program. What it has written and wasn't read yet, and whether it was still there."""
-    run.kill()
-    rest = run.stdout.read()
-    run.wait()
-    run.stdin.close()
-    run.stdout.close()
-    return rest, run.returncode == -signal.SIGKILL
+    rest, status = run.kill()
+    return rest, status == -signal.SIGKILL
 
 
 class Tally:
@@ -197,8 +186,8 @@ def check(program, session, journal, count):
 def new_with_kills(program, session, journal, draw, tally):
     for _ in range(draw.randint(1, 4)):
         new = start(program, journal, "new", "--plan", session.plan)
-        feed(new, session.vocabulary)
-        new.stdin.close()
+        new.write(session.vocabulary)
+        new.end_input()
         time.sleep(tally.to_make * draw.random() ** 2)
         _, was_there = kill(new)
         tally.news += was_there
@@ -216,18 +205,18 @@ def run_with_kill(program, session, journal, before, draw, tally):
     """A run that goes on behind so many answers, and is killed. How many answers are there then."""
     old = content_of(journal)
     run = start(program, journal, "run")
-    text, given = b"", before
+    text, given = "", before
     # Some answers come each after its question, and then some in one piece.
     for _ in range(draw.choice([0, 0, 1, 2, 3])):
         if given < len(session.answers):
-            text += run.stdout.readline()
-            feed(run, session.input_from(given, given + 1))
+            text += run.line() + "\n"
+            run.write(session.input_from(given, given + 1))
             given += 1
     upto = min(given + draw.choice([0, 1, 3, 9]), len(session.answers))
-    feed(run, session.input_from(given, upto))
+    run.write(session.input_from(given, upto))
     time.sleep(draw.uniform(0, (0.0 if text else tally.to_begin) + 3 * tally.to_answer))
     rest, was_there = kill(run)
-    text = (text + rest).decode()
+    text += rest
     assert session.text_from(before).startswith(text), f"it prints {text!r}"
     acknowledged = min(before + max(0, text.count("\n") - 1), len(session.answers))
     content = content_of(journal)

@@ -128,7 +128,7 @@ def zsh_faults(words):
     try:
         subprocess.run(["zsh", "-n", os.path.join(TOP, "completions/_acquire")], check=True, timeout=300)
     except FileNotFoundError:
-        print("manual: zsh isn't there, so its completion is only read")
+        print("manual: passed over: zsh isn't there, so its completion is only read")
     except subprocess.CalledProcessError:
         yield "zsh doesn't take it"
 

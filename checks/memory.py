@@ -216,7 +216,7 @@ def run_row(program, journal, library, row, tally):
         command = Command(program, journal, content, words, given)
         command.look(library)
         if command.status == 1:
-            print(f"memory: {words}: the program doesn't have it, so it is passed over")
+            print(f"memory: passed over: {words}, which the program doesn't have")
             return
         tally.commands += 1
         if text not in (None, command.text) or status not in (None, command.status):
@@ -231,7 +231,7 @@ def main():
         print(__doc__)
         sys.exit(2)
     if not shutil.which("cc"):
-        print("memory: cc isn't there, so no request for memory is refused")
+        print("memory: passed over: cc isn't there, so no request for memory is refused")
         return
     program = os.path.realpath(sys.argv[1])
     tally = Tally()

@@ -13,9 +13,12 @@ other possible one follows from the printed network. The seed is the number of t
 import itertools
 import json
 import math
+import os
 import random
-import subprocess
 import sys
+
+sys.path.insert(0, os.path.join(os.path.dirname(os.path.abspath(__file__)), "..", "python"))
+from acquire import Program
 
 OPERATORS = {
     "+": lambda x: sum(x),
@@ -170,22 +173,17 @@ def accepts(network, shown):
 def play(program, lang, words, owner):
     """The questions with their answers, the lines behind them, and the exit status."""
     answers, last = [], []
-    with subprocess.Popen(
-        [program, ":memory:", "try", *words], stdin=subprocess.PIPE, stdout=subprocess.PIPE, text=True
-    ) as run:
-        run.stdin.write(lang.text + "\n")
-        run.stdin.flush()
-        for line in run.stdout:
-            number, *parts = line.rstrip("\n").split(" ")
-            if number != f"q{len(answers) + 1}":
-                last.append(line.rstrip("\n"))
-                continue
-            shown = {lang.names.index(name): int(value) for name, value in (part.split("=") for part in parts)}
-            answers.append((shown, owner(shown)))
-            run.stdin.write("yes\n" if answers[-1][1] else "no\n")
-            run.stdin.flush()
-        run.stdin.close()
-    return answers, last, run.returncode
+    run = Program(program).run([":memory:", "try", *words])
+    run.write(lang.text.encode() + b"\n")
+    while line := run.line():
+        number, *parts = line.split(" ")
+        if number != f"q{len(answers) + 1}":
+            last.append(line)
+            continue
+        shown = {lang.names.index(name): int(value) for name, value in (part.split("=") for part in parts)}
+        answers.append((shown, owner(shown)))
+        run.write(b"yes\n" if answers[-1][1] else b"no\n")
+    return answers, last, run.close()
 
 
 def check(lang, plan, answers, last, status):

@@ -82,6 +82,7 @@ unbuilt() {
     cp -r "$top/acquire" "$top/tools" "$room/top/"
     cd "$room/top" || exit 1
     printf 'low: # the lowest\nbeside: low\nacquire: low json\n' >crates.txt
+    echo 1.2.3 >VERSION
     touch HANDLES examples/first/{input,printed} crates/beside/src/lib.rt crates/acquire/src/main.rt crates/low/specs/Lib.antt
     echo one >crates/low/src/lib.rt
     echo first kit >"$kit/bin/kit"
@@ -107,7 +108,7 @@ report() {
 }
 
 # Says what is passed over, where a tool isn't there.
-has() { command -v "$1" >/dev/null || { echo "$what: $1 isn't there, so $2" && false; }; }
+has() { command -v "$1" >/dev/null || { echo "$what: passed over: $1 isn't there, so $2" && false; }; }
 
 lines_of() { if [ -e "$1" ]; then wc -l <"$1"; else echo 0; fi; }
 

@@ -1,8 +1,11 @@
 #!/bin/sh
-# Puts the proved program, its manual, the completion of its words and its formats where a system has such files. With desk/ there
-# it puts `desk` beside them.
+# Puts the proved program, its manual, the completion of its words and its pages where a system has such files. With desk/ there it puts
+# `desk` beside them.
 #
 # usage: tools/install.sh [--remove] DESTDIR PREFIX
+#
+# bin/acquire is a small start over lib/acquire/acquire, which is the proved program: it has a help and a version, gives the threads
+# small stacks, and passes everything else on as it is. The pages stand as they do in the repository, so that their links lead on.
 set -u
 remove=
 if [ "${1-}" = --remove ]; then
@@ -19,6 +22,8 @@ case $#:${2-} in
 esac
 home=$(cd -P -- "$(dirname -- "$0")/.." && pwd) || exit 1
 to=$1${2%/}
+room=$(mktemp -d) || exit 1
+trap 'rm -rf "$room"' EXIT
 
 put() {
     mode=$1 file=$2 place=$3
@@ -30,29 +35,57 @@ put() {
     fi || exit 1
 }
 
+# Puts the files of the repository that these names and folders have, as they stand there.
+put_pages() {
+    (cd "$home" && find "$@" -type f ! -path '*/__pycache__/*' 2>/dev/null) | LC_ALL=C sort >"$room/pages"
+    while IFS= read -r page; do
+        put 644 "$home/$page" "share/doc/acquire/$page"
+    done <"$room/pages"
+}
+
 program=
 [ -n "$remove" ] || program=$("$home/tools/proved.sh") || exit
-put 755 "$program" bin/acquire
+cat >"$room/start" <<'END'
+#!/bin/sh
+# Starts the program acquire, with stacks of 1 MB: of larger ones the C library keeps fewer than the threads of a question need.
+at=$(dirname -- "$(readlink -f -- "$0")")/../lib/acquire
+case $#:${1-} in
+1:--help | 1:-h) exec cat "$at/help" ;;
+1:--version | 1:-V) exec cat "$at/version" ;;
+esac
+ulimit -S -s 1024 2>/dev/null
+exec "$at/acquire" "$@"
+END
+if [ -z "$remove" ]; then
+    "$home/acquire" --version >"$room/version" || exit 1
+    "$home/acquire" --help | sed '/^This script has words/,$d' >"$room/help" || exit 1
+    printf '%s\n' "man acquire has each word and format, and share/doc/acquire all pages." >>"$room/help"
+fi
+put 755 "$room/start" bin/acquire
+put 755 "$program" lib/acquire/acquire
+put 644 "$room/version" lib/acquire/version
+put 644 "$room/help" lib/acquire/help
 put 644 "$home/man/acquire.1" share/man/man1/acquire.1
 put 644 "$home/completions/acquire.bash" share/bash-completion/completions/acquire
 put 644 "$home/completions/_acquire" share/zsh/site-functions/_acquire
-put 644 "$home/docs/formats.md" share/doc/acquire/formats.md
+put_pages README.md CHANGELOG.md CONTRIBUTING.md THIRD-PARTY.md LICENSE-MIT LICENSE-APACHE docs examples desk/README.md desk/cases
 if [ -f "$home/desk/desk" ]; then
-    start=$(mktemp) || exit 1
-    trap 'rm -f "$start"' EXIT
-    cat >"$start" <<'END'
+    cat >"$room/desk" <<'END'
 #!/bin/sh
 # Starts desk. It takes the program acquire that lies beside this script, unless DESK_ACQUIRE names another one.
 at=$(dirname -- "$(readlink -f -- "$0")")
 DESK_ACQUIRE=${DESK_ACQUIRE:-$at/acquire} exec "$at/../lib/acquire/desk/desk" "$@"
 END
-    put 755 "$start" bin/desk
+    put 755 "$room/desk" bin/desk
     put 755 "$home/desk/desk" lib/acquire/desk/desk
     for it in "$home"/desk/*.py "$home"/desk/cases/*; do
         [ -f "$it" ] && put 644 "$it" "lib/acquire/${it#"$home/"}"
     done
     [ -f "$home/desk/desk.1" ] && put 644 "$home/desk/desk.1" share/man/man1/desk.1
-    [ -f "$home/desk/README.md" ] && put 644 "$home/desk/README.md" share/doc/acquire/desk.md
 fi
-[ -z "$remove" ] || rmdir "$to/lib/acquire/desk/cases" "$to/lib/acquire/desk" "$to/lib/acquire" "$to/share/doc/acquire" 2>/dev/null
+if [ -n "$remove" ]; then
+    for folder in lib/acquire share/doc/acquire; do
+        [ ! -d "$to/$folder" ] || find "$to/$folder" -depth -type d -empty -delete
+    done
+fi
 exit 0

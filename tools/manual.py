@@ -3,8 +3,8 @@
 
 usage: tools/manual.py > man/acquire.1
 
-The sections below are taken as they stand there, so the page says nothing of its own but its head and its examples. It is in the
-macros of man(7). checks/manual.py holds man/acquire.1 to it.
+The sections below are taken as they stand there, so the page says nothing of its own but its head, its examples and where bugs are told.
+The version and its date are those of CHANGELOG.md's first entry. It is in the macros of man(7). checks/manual.py holds man/acquire.1 to it.
 """
 
 import os
@@ -22,7 +22,7 @@ SECTIONS = [
     ("EXIT STATUS", ["Exit statuses"]),
 ]
 HEAD = r""".\" Made by tools/manual.py from docs/formats.md, and not by hand.
-.TH ACQUIRE 1 "" acquire "User Commands"
+.TH ACQUIRE 1 DATE "acquire VERSION" "User Commands"
 .SH NAME
 acquire \- learns constraints by asking which examples are acceptable
 .SH SYNOPSIS
@@ -40,7 +40,7 @@ finds the constraints that somebody has in mind. It shows small examples, values
 whether they are acceptable, and prints a network of constraints that has exactly the solutions which the answers describe, among
 all networks of the given relations. A session can be kept in a file, its journal, and goes on where it was stopped.
 .PP
-What is called formats.md below is that document, which is installed beside this page in share/doc/acquire."""
+What is called formats.md below is that document, which is installed beside this page in share/doc/acquire/docs."""
 TAIL = r""".SH EXAMPLES
 The input is a vocabulary on one line and then the answers:
 .PP
@@ -60,8 +60,11 @@ acquire roster.journal cnf > roster.cnf
 cadical roster.cnf | acquire roster.journal model
 .EE
 .in
+.SH BUGS
+Where the program does something else than these pages say, tell whoever gave it to you, with what \fBacquire \-\-version\fR prints, the
+vocabulary, and the journal or the answers.
 .SH SEE ALSO
-formats.md in share/doc/acquire"""
+docs/guide.md, docs/troubleshooting.md and docs/formats.md in share/doc/acquire"""
 
 
 def escaped(text):
@@ -120,10 +123,17 @@ def table(lines, titles):
                 yield f"({inline(head, titles)}: {inline(cell, titles)})"
 
 
+def version():
+    """The number of the version and its date."""
+    with open(os.path.join(TOP, "CHANGELOG.md"), encoding="utf-8") as file:
+        return re.search(r"(?m)^## (\S+), (\S+)$", file.read()).groups()
+
+
 def page():
     texts = sections()
     titles = {name for _, names in SECTIONS for name in names}
-    yield HEAD
+    number, date = version()
+    yield HEAD.replace("DATE", date, 1).replace("VERSION", number, 1)
     for title, names in SECTIONS:
         yield f".SH {title}"
         for at, name in enumerate(names):

@@ -1,6 +1,7 @@
 #!/bin/sh
 # Installs what the checks behind the gate use and the machine lacks, where this runs as root and the system has packages: a C
-# compiler (memory.py), strace (faults.py) and a SAT solver (models.py). It never fails: each check says by itself what it passes over.
+# compiler (memory.py), strace (faults.py), a SAT solver (models.py), mypy (python.sh) and jsonschema (schema.py). It says so before, and NO_INSTALL=1 forbids it. It never fails:
+# each check says by itself what it passes over.
 #
 # usage: tools/needed.sh
 set -u
@@ -10,12 +11,15 @@ command -v cc >/dev/null || missing="$missing gcc libc6-dev"
 command -v strace >/dev/null || missing="$missing strace"
 command -v cadical >/dev/null || command -v kissat >/dev/null || command -v minisat >/dev/null || command -v clasp >/dev/null ||
     missing="$missing cadical"
+command -v mypy >/dev/null || missing="$missing mypy"
+python3 -c 'import jsonschema' 2>/dev/null || missing="$missing python3-jsonschema"
 [ -n "$missing" ] || exit 0
 
-if [ "$(id -u)" -ne 0 ] || ! command -v apt-get >/dev/null; then
+if [ -n "${NO_INSTALL-}" ] || [ "$(id -u)" -ne 0 ] || ! command -v apt-get >/dev/null; then
     echo "tools: not installed, and checks that want them pass over what they can't do:$missing"
     exit 0
 fi
+echo "tools: installing by apt-get, which NO_INSTALL=1 would forbid:$missing"
 apt-get update >/dev/null 2>&1
 for package in $missing; do
     DEBIAN_FRONTEND=noninteractive apt-get install -y --no-install-recommends "$package" >/dev/null 2>&1 ||

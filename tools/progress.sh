@@ -63,8 +63,9 @@ look_ahead() {
     spent=$((since + measured * tenth / whole))
     behind=$((first - left + tenth))
     ahead=$((spent * left / behind + since - passed))
-    # One that takes longer than its share is nearly done.
-    [ "$ahead" -ge $((spent * after / behind)) ] || ahead=$((spent * after / behind))
+    # One that takes longer than its share is nearly done, and what it took tells how slow this machine is.
+    after_this=$(((spent + passed - since) * after / (behind + left - after)))
+    [ "$ahead" -ge "$after_this" ] || ahead=$after_this
 }
 
 # Shows it while the build runs: each second in one line of a terminal, else each half minute.

@@ -1,0 +1,90 @@
+#!/usr/bin/env python3
+"""The script `acquire` refuses the lists of words that the program refuses, and builds nothing for them.
+
+usage: checks/words.py PROGRAM [NUMBER]
+
+NUMBER lists of words (800) are drawn: some plain, some with a word more, less or changed. Each is given to PROGRAM, and to a copy of
+the script beside which nothing is built and no kit is there: it prints the usage line exactly where the program does, and else
+says that it can't build. The script's own words, and what stands behind `--`, are left out.
+"""
+
+import os
+import random
+import shutil
+import subprocess
+import sys
+import tempfile
+
+TOP = os.path.join(os.path.dirname(os.path.abspath(__file__)), "..")
+OPTIONS = {
+    "new": ["--plan"], "run": ["--budget"], "play": ["--budget"], "show": [], "back": [], "reduce": ["--budget"], "cnf": [], "model": [],
+    "certify": ["--budget"], "check": [], "try": ["--plan", "--budget"], "demo": ["--number", "--budget"],
+}
+IN_MEMORY = ["check", "try", "demo"]
+VALUES = {
+    "--plan": ["multi", "scopes", "quacq", "fast", "", "Quacq"],
+    "--budget": ["1", "1000000000", "1000000001", "0", "007", "+7", "-7", "five", "", "99999999999999999999", "+"],
+    "--number": ["0", "4294967295", "4294967296", "000", "+5", "x", "1_0"],
+}
+JOURNALS = ["j", "run", "help", ":memory:", ":memory:", "some journal", "-j", "-"]
+OTHERS = ["more", "--fast", "-x", "--plan", "--budget", "--number", "--plan=", "-", "shwo"]
+NOT_BUILT = 70
+
+
+def drawn(draws):
+    """A list of words, most often one that is right or nearly so."""
+    command = draws.choice(list(OPTIONS))
+    options = []
+    for name in draws.sample(sorted(VALUES), 1) if draws.random() < 0.2 else OPTIONS[command]:
+        value = draws.choice(VALUES[name][: draws.choice([2, 2, 2, None])])
+        options.append([f"{name}={value}"] if draws.random() < 0.4 else [name, value])
+    journal = ":memory:" if command in IN_MEMORY else draws.choice(JOURNALS)
+    words = [[journal], [command], *options]
+    if draws.random() < 0.2:
+        draws.shuffle(words)
+    if draws.random() < 0.2:
+        words.insert(draws.randrange(len(words) + 1), [draws.choice(OTHERS)])
+    if draws.random() < 0.1:
+        del words[draws.randrange(len(words))]
+    return [word for some in words for word in some]
+
+
+def unbuilt(room):
+    """A copy of the script beside which nothing is built, and an environment without a kit."""
+    os.makedirs(f"{room}/top/crates/acquire/src")
+    os.makedirs(f"{room}/tools")
+    shutil.copy(f"{TOP}/acquire", f"{room}/top/acquire")
+    shutil.copytree(f"{TOP}/tools", f"{room}/top/tools")
+    for name in ("crates.txt", "HANDLES"):
+        shutil.copy(f"{TOP}/{name}", f"{room}/top/{name}")
+    with open(f"{room}/top/crates/acquire/src/main.rt", "w", encoding="utf-8"):
+        pass
+    for name in ("sh", "awk", "sed", "find", "head", "sort", "dirname", "readlink", "rm", "cat", "sha256sum", "touch", "date", "mkdir"):
+        os.symlink(shutil.which(name), f"{room}/tools/{name}")
+    return f"{room}/top/acquire", {"PATH": f"{room}/tools"}
+
+
+def main():
+    if len(sys.argv) not in (2, 3):
+        sys.exit(__doc__)
+    program = os.path.abspath(sys.argv[1])
+    number = int(sys.argv[2]) if len(sys.argv) == 3 else 800
+    draws, failed, refused = random.Random(20), 0, 0
+    with tempfile.TemporaryDirectory() as room:
+        script, environment = unbuilt(room)
+        how = {"cwd": room, "stdin": subprocess.DEVNULL, "capture_output": True, "text": True, "timeout": 120}
+        for _ in range(number):
+            words = drawn(draws)
+            if words in ([], ["help"]):
+                continue
+            due = subprocess.run([program, *words], **how).stdout.startswith("usage: ")
+            said = subprocess.run([script, *words], env=environment, **how)
+            refused += due
+            if (said.stdout.startswith("usage: "), said.returncode) != (due, 1 if due else NOT_BUILT):
+                failed += 1
+                print(f"words: {words}: the program {'refuses' if due else 'takes'} them, and the script prints {said.stdout + said.stderr!r}, status {said.returncode}")
+    print(f"words: {number} lists of words, {refused} of which the program refuses; {failed} failed")
+    sys.exit(1 if failed else 0)
+
+
+main()
