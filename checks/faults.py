@@ -107,7 +107,8 @@ class Room:
         """Runs a command under strace. What it prints, its status, and the lines of strace."""
         tracer = ["strace", "-f", "-qq", "-y", "-s", "10000", "-o", self.log, *more]
         done = subprocess.run(
-            [*tracer, self.program, self.journal, *words], input=given, stdout=subprocess.PIPE, timeout=300, check=False
+            [*tracer, self.program, self.journal, *words], input=given, stdout=subprocess.PIPE, stderr=subprocess.DEVNULL, timeout=300,
+            check=False,
         )
         with open(self.log, errors="replace") as file:
             return done.stdout.decode(), done.returncode, file.read().splitlines()

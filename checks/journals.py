@@ -32,6 +32,14 @@ TOP = os.path.join(os.path.dirname(os.path.abspath(__file__)), "..")
 NOBODY = 65534
 WORKED = bytes.fromhex("01 41 00 00 00 06 01 02 00 00 01 01 00")
 
+# What is told on standard error of a fault of the system, of which the output says nothing.
+FAULTS = {
+    8: "acquire: the input can't be read\n",
+    9: "acquire: the output can't be written\n",
+    10: "acquire: {journal} can't be opened, read or written as a journal, or was changed meanwhile\n",
+    11: "acquire: there isn't enough memory\n",
+}
+
 # Commands one after the other over one file: the words, the input (None is the vocabulary), what is printed, the status, and
 # how many bytes the file has then.
 COMMANDS = [
@@ -113,11 +121,15 @@ class Room:
             [self.program, journal, *words.split()],
             input=self.vocabulary if given is None else given,
             stdout=subprocess.PIPE,
+            stderr=subprocess.PIPE,
             timeout=300,
             preexec_fn=begin,
             user=user,
             check=False,
         )
+        if 2 not in closed:
+            told = FAULTS.get(done.returncode, "").format(journal=journal)
+            self.report(f"{words}, status {done.returncode}: standard error", told, done.stderr.decode())
         return done.stdout.decode(), done.returncode
 
 
@@ -324,7 +336,17 @@ def while_it_waits(room):
     def rename(journal):
         os.replace(journal, room.path("renamed"))
 
-    for harm in [cut, cut_in_a_record, remove, replace, rename]:
+    def answered_by_another(journal):
+        room.report("another run answers", ("q2 a=1 b=1\nconverged 2\nne a b\n", 0), room.look(journal, "run", b"no\n"))
+
+    def taken_back_by_another(journal):
+        room.report("another program takes back", ("took back answer 1\n", 0), room.look(journal, "back"))
+
+    def longer_by_a_byte(journal):
+        with open(journal, "ab") as file:
+            file.write(b"\0")
+
+    for harm in [cut, cut_in_a_record, remove, replace, rename, answered_by_another, taken_back_by_another, longer_by_a_byte]:
         journal = worked_journal(room, "waits")
         before = content_of(journal)
         run = Program(room.program).run([journal, "run"])

@@ -120,7 +120,7 @@ class Library:
         with open(self.counts, "wb") as file:
             file.write(struct.pack("4Q", first, many, 0, 0))
         here = {**os.environ, "LD_PRELOAD": self.path, "REFUSE": self.counts}
-        done = subprocess.run(words, input=given, stdout=subprocess.PIPE, env=here, timeout=300, check=False)
+        done = subprocess.run(words, input=given, stdout=subprocess.PIPE, stderr=subprocess.DEVNULL, env=here, timeout=300, check=False)
         _, _, made, refused = struct.unpack("4Q", content_of(self.counts))
         return done.stdout.decode(), done.returncode, made, refused
 
