@@ -22,7 +22,7 @@ module _ {X : Type 0} (given before now : List X) (done : ℕ) (is : now ≡ tak
       let mid : mid_of done k now ≡ drop done before = take_all k (drop done now) (let long = length-drop done now in omega arith) ∙ behind in
       let put : piece ≡ take n (drop done given) ++ drop (done + n) before = more ∙ ap (λ (l : List X). take n (drop done given) ++ drop n l) mid ∙ ap (λ (l : List X). take n (drop done given) ++ l) (drop-drop n done before) in
       ap₂ (λ (l m : List X). take done now ++ (l ++ m)) put rest
-        ∙ ap (λ (l : List X). take done now ++ l) (append-nil (take n (drop done given) ++ drop (done + n) before))
-        ∙ ap (λ (l : List X). l ++ (take n (drop done given) ++ drop (done + n) before)) front
-        ∙ sym (append_assoc (take done given) (take n (drop done given)) (drop (done + n) before))
-        ∙ ap (λ (l : List X). l ++ drop (done + n) before) (sym (take-add done n given))
+      ∙ ap (λ (l : List X). take done now ++ l) (append-nil (take n (drop done given) ++ drop (done + n) before))
+      ∙ ap (λ (l : List X). l ++ (take n (drop done given) ++ drop (done + n) before)) front
+      ∙ sym (append_assoc (take done given) (take n (drop done given)) (drop (done + n) before))
+      ∙ ap (λ (l : List X). l ++ drop (done + n) before) (sym (take-add done n given))
