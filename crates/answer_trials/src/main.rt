@@ -52,7 +52,8 @@ struct Trials;
 impl Calls for Trials {
     fn answer(&self, alloc: Global, over: &str, call: &str, arguments: &str) -> Option<String> {
         match call {
-            "random-searches" => searches::random(alloc, arguments),
+            "random-searches" => searches::random(alloc, arguments, false),
+            "wide-searches" => searches::random(alloc, arguments, true),
             "random-questions" => questions::random(alloc, arguments),
             "halves" => halving::halves(alloc, arguments),
             "finds" => halving::finds(alloc, arguments),

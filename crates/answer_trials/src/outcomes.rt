@@ -1,4 +1,4 @@
-//! The outcome of a search by plain lists of all prefixes and of all families of sets of values.
+//! The outcome of a search by plain lists of all prefixes, and of all families of sets of values or by taking values away in turn.
 
 ghost use Rattle.std.specs.Prelude.{◌≤◌};
 ghost use Rattle.language.specs.Language.{IsQuestion};
@@ -7,8 +7,13 @@ use assign::Partial;
 use fd_solver::Outcome;
 use language::{Candidate, Language};
 use propagators::Constraints;
-use samples::{Numbers, Relation, assigned, is_candidate, is_within, language_within, some_ranges};
+use samples::{
+    Numbers, Relation, assigned, is_candidate, is_within, language_within, places, some_ranges,
+};
 use std::alloc::Global;
+
+/// For each variable a set of values, as the bits of a byte.
+type Family = [u8; 5];
 
 /// The relation of two places that has the tuple of values x and y, of d values, where the bit d x + y is one.
 fn relation(name: &str, accepted: u64) -> Relation<'_> {
@@ -30,6 +35,33 @@ pub(crate) fn some_language(alloc: Global, numbers: &mut Numbers) -> Option<Lang
         relation("first", first),
         relation("second", second),
         relation("both", first & second),
+    ];
+    language_within(alloc, n, d, &ranges, &relations, None).ok()
+}
+
+/// The relation of so many places that has the tuple of values x, y and so on, of d values, where the bit of that number is one.
+fn wide_relation<'a>(numbers: &mut Numbers, name: &'a str, arity: u8) -> Relation<'a> {
+    let high = u128::from(numbers.below(1 << 31)) << 31 | u128::from(numbers.below(1 << 31));
+    let low = u128::from(numbers.below(1 << 31)) << 31 | u128::from(numbers.below(1 << 31));
+    // More tuples are accepted than rejected, so that searches go deep.
+    let more = u128::from(numbers.below(1 << 31)) << 31 | u128::from(numbers.below(1 << 31));
+    Relation {
+        name,
+        arity,
+        accepted: high << 62 | low | more << 20,
+    }
+}
+
+/// Some language of four variables and two or three values, or of five and two, with three relations of one to four places.
+pub(crate) fn some_wide_language(alloc: Global, numbers: &mut Numbers) -> Option<Language> {
+    let n = 4 + numbers.byte_below(2);
+    let d = if n == 5 { 2 } else { 2 + numbers.byte_below(2) };
+    let ranges = some_ranges(alloc, numbers, n, d).ok()?;
+    let arity = 1 + numbers.byte_below(4);
+    let relations = [
+        wide_relation(numbers, "first", arity),
+        wide_relation(numbers, "second", arity),
+        wide_relation(numbers, "third", arity),
     ];
     language_within(alloc, n, d, &ranges, &relations, None).ok()
 }
@@ -104,10 +136,10 @@ fn sets(d: u8) -> u32
     }
 }
 
-/// The family of this number: for each of up to four variables a nonempty set of values, as the bits of a byte.
-fn family(number: u32, d: u8) -> [u8; 4] {
+/// The family of this number: for each variable a nonempty set of values.
+fn family(number: u32, d: u8) -> Family {
     let mut sets_left = number;
-    let mut family = [0; 4];
+    let mut family = [0; 5];
     for set in family.iter_mut() {
         *set = 1 + (sets_left % sets(d)) as u8;
         sets_left /= sets(d);
@@ -130,50 +162,64 @@ fn has(set: u8, x: u8) -> bool {
 }
 
 /// The set of a variable.
-fn set_of(family: &[u8; 4], v: u8) -> u8 {
+fn set_of(family: &Family, v: u8) -> u8 {
     family.get(usize::from(v)).copied().unwrap_or(0)
 }
 
-/// Whether each value of the first set has one of the second set with which the candidate, of two variables, holds, or
-/// doesn't hold. The first set is that of the scope's first variable, or of its second one.
-fn is_supported(
-    lang: &Language,
-    c: Candidate,
-    holding: bool,
-    family: &[u8; 4],
-    from_first: bool,
-) -> bool {
+/// The tuple of this number, its first value first to change.
+fn tuple(number: u32, d: u8) -> [u8; 4] {
+    let base = u32::from(d.max(1));
+    let mut left = number;
+    let mut values = [0; 4];
+    for value in values.iter_mut() {
+        *value = (left % base) as u8;
+        left /= base;
+    }
+    values
+}
+
+/// Whether each value of a tuple is in the set of its variable.
+fn are_within(family: &Family, scope: &[u8], tuple: &[u8]) -> bool {
+    scope
+        .iter()
+        .zip(tuple)
+        .all(|(v, x)| has(set_of(family, *v), *x))
+}
+
+/// For each place of a candidate's scope the values of its variable's set that go with some of the other sets: the candidate holds for
+/// them together, or doesn't.
+fn supports(lang: &Language, c: Candidate, holding: bool, family: &Family) -> [u8; 4] {
+    let mut found = [0; 4];
     if !is_candidate(lang, c) {
-        return false;
+        return found;
     }
     let scope = lang.scope(c.scope);
-    let (Some(u), Some(v)) = (scope.first(), scope.last()) else {
-        return false;
-    };
-    let (from, to) = if from_first { (*u, *v) } else { (*v, *u) };
-    for x in 0..lang.d() {
-        let mut supports = 0u32;
-        for y in 0..lang.d() {
-            let tuple = if from_first { [x, y] } else { [y, x] };
-            let e = assigned(lang, scope, &tuple);
-            if has(set_of(family, to), y) && lang.candidate_violated(c, &e) != holding {
-                supports = supports.wrapping_add(1);
+    for number in 0..places(scope.len() as u8, lang.d()) {
+        let tuple = tuple(number, lang.d());
+        let e = assigned(lang, scope, &tuple);
+        if are_within(family, scope, &tuple) && lang.candidate_violated(c, &e) != holding {
+            for (set, x) in found.iter_mut().zip(tuple) {
+                *set |= if x < 8 { 1 << x } else { 0 };
             }
         }
-        if has(set_of(family, from), x) && supports == 0 {
-            return false;
-        }
     }
-    true
+    found
 }
 
 /// Whether the sets of a candidate's variables support each other.
-fn is_arc_consistent(lang: &Language, c: Candidate, holding: bool, family: &[u8; 4]) -> bool {
-    is_supported(lang, c, holding, family, true) && is_supported(lang, c, holding, family, false)
+fn is_arc_consistent(lang: &Language, c: Candidate, holding: bool, family: &Family) -> bool {
+    if !is_candidate(lang, c) {
+        return false;
+    }
+    let found = supports(lang, c, holding, family);
+    lang.scope(c.scope)
+        .iter()
+        .zip(found)
+        .all(|(v, set)| set_of(family, *v) & !set == 0)
 }
 
 /// Whether a family is arc consistent.
-fn is_consistent(cons: &Constraints, family: &[u8; 4]) -> bool {
+fn is_consistent(cons: &Constraints, family: &Family) -> bool {
     for c in cons.list {
         if !is_arc_consistent(cons.lang, *c, true, family) {
             return false;
@@ -185,8 +231,54 @@ fn is_consistent(cons: &Constraints, family: &[u8; 4]) -> bool {
     }
 }
 
+/// Takes the values of a candidate's variables away that nothing supports.
+fn narrow(lang: &Language, c: Candidate, holding: bool, family: &mut Family) {
+    if !is_candidate(lang, c) {
+        return;
+    }
+    let found = supports(lang, c, holding, family);
+    for (v, set) in lang.scope(c.scope).iter().zip(found) {
+        if let Some(left) = family.get_mut(usize::from(*v)) {
+            *left &= set;
+        }
+    }
+}
+
+/// The values that a question and the ranges leave to each variable.
+fn left_by(lang: &Language, e: &Partial) -> Family {
+    let mut family = [0; 5];
+    for (v, set) in family.iter_mut().enumerate() {
+        let v = v as u8;
+        for x in 0..8 {
+            if v < lang.n() && is_within(lang, v, x) && e.get(v).is_none_or(|y| y == x) {
+                *set |= 1 << x;
+            }
+        }
+    }
+    family
+}
+
+/// Whether something is left to each variable once all that nothing supports is taken away, again and again.
+fn leaves_sets(cons: &Constraints, e: &Partial) -> bool {
+    let mut family = left_by(cons.lang, e);
+    // Each round but the last takes one of at most forty values away.
+    for _ in 0..41 {
+        let before = family;
+        for c in cons.list {
+            narrow(cons.lang, *c, true, &mut family);
+        }
+        if let Some(c) = cons.against {
+            narrow(cons.lang, c, false, &mut family);
+        }
+        if family == before {
+            break;
+        }
+    }
+    (0..cons.lang.n()).all(|v| set_of(&family, v) != 0)
+}
+
 /// Whether a family has values of the variables alone, and where a question gives a value that one alone.
-fn is_left(lang: &Language, family: &[u8; 4], e: &Partial) -> bool {
+fn is_left(lang: &Language, family: &Family, e: &Partial) -> bool {
     for v in 0..lang.n() {
         let set = set_of(family, v);
         for x in 0..8 {
@@ -215,12 +307,16 @@ fn leaves_family(cons: &Constraints, e: &Partial) -> bool {
     false
 }
 
-/// The same. None where that can't be: an arc-consistent family leaves nothing that breaks the constraints, and a complete
+/// Whether a question is alive. None where that can't be: the list of families says otherwise, an arc-consistent family leaves nothing that breaks the constraints, and a complete
 /// question that leaves none breaks them.
 fn is_alive(cons: &Constraints, e: &Partial) -> Option<bool>
     requires { IsQuestion cons.now.lang.now e.now }
 {
-    let alive = leaves_family(cons, e);
+    let alive = leaves_sets(cons, e);
+    // Of more than three variables there are too many families to list.
+    if cons.lang.n() <= 3 && alive != leaves_family(cons, e) {
+        return None;
+    }
     let broken = breaks(cons, e);
     if alive == broken && (alive || e.is_complete()) {
         return None;

@@ -4,7 +4,7 @@ ghost use Rattle.std.specs.Prelude.{◌≡◌, ◌≢◌, true, AllPairs};
 ghost use Rattle.language.specs.Answers.{IsNetwork};
 ghost use Rattle.fd_solver.specs.Outcomes.{IsOrder};
 
-use crate::outcomes::{outcome_by_list, prefixes, some_language};
+use crate::outcomes::{outcome_by_list, prefixes, some_language, some_wide_language};
 use crate::tally::Tally;
 use fd_solver::{Outcome, Work, search};
 use language::{Candidate, Language};
@@ -131,23 +131,33 @@ fn try_searches(
     Some(())
 }
 
-/// The same over some language.
-fn round(alloc: Global, numbers: &mut Numbers, tally: &mut Tally) -> Option<()> {
-    let lang = some_language(alloc, numbers)?;
+/// The same over a language.
+fn round(
+    alloc: Global,
+    numbers: &mut Numbers,
+    lang: Option<Language>,
+    tally: &mut Tally,
+) -> Option<()> {
+    let lang = lang?;
     let all = prefixes(alloc, lang.n(), lang.d())?;
     let order = some_order(alloc, numbers, lang.n())?;
     try_searches(alloc, numbers, &lang, &order, &all, tally)
 }
 
 /// A first number, and how many languages: so many searches beside the plain list.
-pub(crate) fn random(alloc: Global, arguments: &str) -> Option<String> {
+pub(crate) fn random(alloc: Global, arguments: &str, is_wide: bool) -> Option<String> {
     let mut words = arguments.split_whitespace();
     let mut numbers = Numbers::new(number(&mut words)?);
     let count = number::<u32>(&mut words)?;
     end(&mut words)?;
     let mut tally = Tally::new();
     for _ in 0..count {
-        round(alloc, &mut numbers, &mut tally)?;
+        let lang = if is_wide {
+            some_wide_language(alloc, &mut numbers)
+        } else {
+            some_language(alloc, &mut numbers)
+        };
+        round(alloc, &mut numbers, lang, &mut tally)?;
     }
     tally.text(alloc)
 }
