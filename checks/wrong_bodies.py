@@ -57,7 +57,7 @@ PROGRAM = "acquire"
 CHECKS = {"walks.py": "100", "owners.py": "200", "certs.py": "250", "journals.py": "",
           "backs.py": "", "models.py": "", "tables.py": "", "kills.py": "30", "demos.py": "60",
           "faults.py": "", "memory.py": ""}
-SLOW = ("memory.py",)       # where a line names it, and for a body without a line, alone
+SLOW = ("memory.py",)       # it is run only where a line names it
 NO_RUN = "no run"
 Line = tuple[str, str]      # what notices a body, and the row, the check's words, or the reason
 
@@ -166,15 +166,13 @@ class Bench:
                       for name, one in zip(names, failed) if one})
         return found
 
-    def notices(self, edits: list[Edit], slow: bool = False) -> Line | None:
+    def notices(self, edits: list[Edit]) -> Line | None:
         """What notices these bodies first: the tables in turn, then the checks."""
         for name in TABLES:
             if self.links(name, edits) and (row := self.first_row(name, edits)[0]):
                 return name, row
         for name, words in CHECKS.items():
-            if name in SLOW and not slow:
-                continue
-            if self.links(PROGRAM, edits) and self.fails(name, edits):
+            if name not in SLOW and self.links(PROGRAM, edits) and self.fails(name, edits):
                 return name, words
         return None
 
@@ -217,7 +215,7 @@ def judge_anew(bench: Bench, edits: list[Edit], lines: dict[str, Line]) -> dict[
     nothing notices wants a reason, and one that has a reason, or means the same, nothing that
     notices it."""
     def one(edit: Edit) -> Line | None:
-        line = bench.notices([edit], True)
+        line = bench.notices([edit])
         print(f"{edit.name}: {' '.join(line).strip() if line else 'not noticed'}", flush=True)
         return line
 

@@ -1,5 +1,5 @@
 -- What a crash leaves of answers that were acknowledged, by what was done.
-use Rattle.acq_cli.proofs.Prelude.{Adds, AddsFront, AddsLast, AllFault, Answer, Assignment, Candidate, Closing, Command, DiskOf, Does, Ending, Err, Event, ForSome, HasWritten, IfOk, IfSome, IsSaid, Language, List, MakesOf, MatchResult, NetFault, News, None, Ok, OnErr, Opened, OpensAs, Option, Plan, PlaysOn, Put, RanTo, ReadOnce, Result, RunGoesOn, SFault, Saying, SaysNoNetwork, SaysOfInput, SaysOpened, SaysRefusal, SaysUnplayed, Some, Spoke, Terms, Tries, Turns, Unsaid, UsageFault, [], all_of, any_answer, ap, append-nil, arith, closing_of, ends_as, ends_ok, ends_part, false, fine, gives_got, holds_none, inl, inr, length, line_turn, net_may_say, net_turn, network_of, point_of, refl, same_session, stale_said, standing_on, subst, sym, target_refused, terms_with, transport, true, untold, whole_of, ℕ, ⊎_elim, ◌++◌, ◌∙◌, ◌∷◌, ◌≡◌, ◌≢◌, ◌≤◌, ◌⊎◌}
+use Rattle.acq_cli.proofs.Prelude.{AddsFront, AddsLast, AllFault, Answer, Assignment, Candidate, Closing, Command, DiskOf, Does, Ending, Err, Event, ForSome, HasWritten, IfOk, IfSome, IsSaid, Language, List, MakesOf, MatchResult, NetFault, News, None, Ok, OnErr, Opened, OpensAs, Option, Plan, PlaysOn, Put, RanTo, ReadOnce, Result, RunGoesOn, SFault, Saying, SaysNoNetwork, SaysOfInput, SaysOpened, SaysRefusal, SaysUnplayed, Some, Spoke, Terms, Tries, Turns, Unsaid, UsageFault, [], all_of, any_answer, ap, append-nil, arith, closing_of, ends_as, ends_ok, ends_part, false, fine, gives_got, holds_none, inl, inr, length, line_turn, net_may_say, net_turn, network_of, point_of, refl, same_session, stale_said, standing_on, subst, sym, target_refused, terms_with, transport, true, untold, whole_of, ℕ, ⊎_elim, ◌++◌, ◌∙◌, ◌∷◌, ◌≡◌, ◌≢◌, ◌≤◌, ◌⊎◌}
 use Rattle.std.specs.Prelude.{IsErr}
 use Rattle.acq_io.specs.declared.whole.AllFault.TheVariants as all
 use Rattle.acq_words.specs.declared.request.Command.TheVariants as command
@@ -10,7 +10,7 @@ use Rattle.session_store.proofs.Openings.{only_reason}
 use Rattle.session_store.specs.Left.{HoldsAtLeast, OpensWith, OpensWithin}
 use Rattle.session_store.specs.Opened.{Opens, is_of_bytes}
 use Rattle.session_store.specs.Opening.{NotOpened}
-use Rattle.target_oracle.proofs.Fronts.{front_none}
+use Rattle.target_oracle.proofs.Fronts.{front_none, front_whole}
 use Rattle.target_oracle.specs.declared.teacher.Told.{Told}
 use Rattle.acq_loop.proofs.Short.{CutOff}
 use Rattle.acq_loop.specs.Texts.{closing_text}
@@ -29,13 +29,9 @@ use Rattle.acq_cli.proofs.Exactly.{none_of}
 
 -- ---- what was written
 
--- a front that is all of it
-all_written : (before now : Option (List ℕ)) (piece : List ℕ) → Adds before now piece → AddsFront before now piece
-all_written before now piece adds = (piece, [], sym (append-nil piece), adds)
-
 -- of what was said
 said_front : (what : Saying) (said : Result Saying Unsaid) (written written' : Option (List ℕ)) (got : Result Ending Put) → IsSaid what said → HasWritten said written written' got → AddsFront written written' what.text
-said_front what said written written' (Ok end) is has = all_written written written' what.text (ends_ok what.ending what.text written written' (Ok end) (ends_as what said written written' (Ok end) is has)).1
+said_front what said written written' (Ok end) is has = front_whole written written' what.text (ends_ok what.ending what.text written written' (Ok end) (ends_as what said written written' (Ok end) is has)).1
 said_front what said written written' (Err e) is has = ends_part what.ending what.text written written' (Err e) (ends_as what said written written' (Err e) is has)
 
 -- nothing, where nothing was said
@@ -66,7 +62,7 @@ module _ (turns : Turns) (l : Language) (terms : Terms) (start later : List Even
   by_closing : (middle : Option (List ℕ)) (o : Option Closing) → IfSome o (λ closing. RanTo turns l terms closing (point_of start left written) (point_of later left' middle)) → (o ≡ None → CutOff turns l terms (point_of start left written) (point_of later left' middle)) →
       AddsLast l terms (standing_on l later) middle written' o → BreaksRun turns l terms start later left written left' written'
   by_closing middle None ran cut none = inl (subst (λ (w : Option (List ℕ)). CutOff turns l terms (point_of start left written) (point_of later left' w)) (sym none) (cut refl))
-  by_closing middle (Some closing) ran cut adds = inr (closing, middle, ran, all_written middle written' (closing_text l terms (standing_on l later) closing) adds)
+  by_closing middle (Some closing) ran cut adds = inr (closing, middle, ran, front_whole middle written' (closing_text l terms (standing_on l later) closing) adds)
 
   -- said whole, or in part
   stops : (got : Result Ending Put) → IfOk got (Tries turns l terms start later left written left' written') → OnErr got (BreaksRun turns l terms start later left written left' written') → BreaksRun turns l terms start later left written left' written'

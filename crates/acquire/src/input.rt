@@ -1,110 +1,66 @@
 //! Standard input for a caller who asks byte by byte.
 
-ghost use Rattle.std.specs.Prelude.{◌≡◌, ◌≤◌, Ok, IfOk, length};
+ghost use Rattle.std.specs.Prelude.{◌≡◌, ◌<◌, IfOk, MatchResult, MatchOption, ◌∷◌, [], length, take};
+ghost use Rattle.std.specs.Io.{ReadsAtMost};
+ghost use Rattle.std.specs.Io.KnownBytes.{Consumes, IsAtEnd, Keeps};
 
-use std::io::{self, BufRead, ErrorKind, Read};
-
-/// How many bytes are looked at together.
-const AHEAD: usize = 64;
+use std::io::{self, BufRead, Error, Read};
+use std::marker::Model;
 
 /// A reader that fills its buffer before a byte is taken from it. How much it may read ahead is its own affair: that of
 /// standard input does so only where it can give back what is left, as from a file, and asks a pipe or a terminal for no byte
-/// more. Bytes are copied out of that buffer many at a time, and taken from it one by one, since asking for it takes longest.
+/// more.
 #[derive(Drop)]
 pub struct Buffered<R> {
     inner: R,
-    /// From `at` to `end` stand the next bytes of `inner`, which aren't taken from it yet.
-    ahead: [u8; AHEAD],
-    at: usize,
-    end: usize,
-    ghost within: { end ≤ 64 },
 }
 
-/// Copies as many bytes as fit, and answers how many.
-fn copy_front(from: &[u8], to: &mut [u8; AHEAD]) -> usize
-    ensures { result ≤ 64 }
+impl<R> Model for Buffered<R> {
+    ghost Value = { R };
+
+    ghost view = { λ b. b.inner };
+}
+
+/// The next byte, or `None` at the end. No other one is taken.
+#[inline(always)]
+fn next_byte<R: BufRead>(reader: &mut R) -> Result<Option<u8>, Error>
+    ensures { MatchResult result (λ next. MatchOption next (Consumes (R.remaining reader.old) (R.remaining reader.new) [] × IsAtEnd (R.remaining reader.old)) (λ byte. Consumes (R.remaining reader.old) (R.remaining reader.new) (byte ∷ []))) (λ _. Keeps (R.remaining reader.old) (R.remaining reader.new)) }
 {
-    let count = from.len().min(AHEAD);
-    to[..count].copy_from_slice(&from[..count]);
-    count
+    match reader.fill_buf()?.first() {
+        Some(byte) => {
+            let byte = *byte;
+            reader.consume(1);
+            Ok(Some(byte))
+        }
+        None => Ok(None),
+    }
 }
 
 impl<R: BufRead> Buffered<R> {
     /// The bytes of `inner`, of which none is read yet.
     pub fn new(inner: R) -> Buffered<R> {
-        Buffered {
-            inner,
-            ahead: [0; AHEAD],
-            at: 0,
-            end: 0,
-        }
-    }
-
-    /// Looks at the next bytes. There are none at the end.
-    fn look_ahead(&mut self) -> io::Result<()> {
-        let next = self.inner.fill_buf()?;
-        self.end = copy_front(next, &mut self.ahead);
-        self.at = 0;
-        Ok(())
-    }
-
-    /// The next of the bytes that were looked at. It is taken.
-    #[inline(always)]
-    fn take_seen(&mut self) -> Option<u8> {
-        if self.at >= self.end {
-            return None;
-        }
-        let byte = self.ahead[self.at];
-        self.at += 1;
-        self.inner.consume(1);
-        Some(byte)
-    }
-
-    /// Reads where no byte was looked at, or a piece is wanted. That is rare, and kept apart from what is done at each byte. Of an
-    /// error it tells the kind alone, since a whole one takes room that would be cleared at each byte.
-    #[inline(never)]
-    fn read_anew(&mut self, buf: &mut [u8]) -> Result<usize, ErrorKind>
-        ensures { IfOk result (λ n. n ≤ length buf.new) }
-    {
-        let [place] = buf else {
-            // What was looked at is a part of it.
-            self.end = 0;
-            return kind_alone(self.inner.read(buf));
-        };
-        kind_alone(self.look_ahead())?;
-        match self.take_seen() {
-            Some(byte) => {
-                *place = byte;
-                Ok(1)
-            }
-            None => Ok(0),
-        }
-    }
-}
-
-/// What came, or the kind of the error.
-fn kind_alone<T: Drop>(came: io::Result<T>) -> Result<T, ErrorKind>
-    ensures { (count : T) → result ≡ Ok count → came ≡ Ok count }
-{
-    match came {
-        Ok(it) => Ok(it),
-        Err(error) => Err(error.kind()),
+        Buffered { inner }
     }
 }
 
 impl<R: BufRead> Read for Buffered<R> {
-    /// A piece of more than one byte is read as it is, since from a pipe it comes sooner whole. An error has its kind alone.
+    /// A piece of more than one byte is read as it is, since from a pipe it comes sooner whole.
     #[inline(always)]
-    fn read(&mut self, buf: &mut [u8]) -> io::Result<usize> {
-        if let [place] = buf {
-            if let Some(byte) = self.take_seen() {
-                *place = byte;
-                return Ok(1);
-            }
+    fn read(&mut self, buf: &mut [u8]) -> io::Result<usize>
+        ensures bound { ReadsAtMost result buf.new }
+        // where the reader tells what it will give, these bytes were taken from it, and none by a read that failed; there are none at the end alone
+        ensures passes { MatchResult result (λ n. Consumes (R.remaining self.old) (R.remaining self.new) (take n buf.new)) (λ _. Keeps (R.remaining self.old) (R.remaining self.new)) }
+        ensures end { IfOk result (λ n. n ≡ 0 → 0 < length buf.old → IsAtEnd (R.remaining self.old)) }
+    {
+        if buf.len() != 1 {
+            return self.inner.read(buf);
         }
-        match self.read_anew(buf) {
-            Ok(count) => Ok(count),
-            Err(kind) => Err(kind.into()),
+        match next_byte(&mut self.inner)? {
+            Some(byte) => {
+                buf[0] = byte;
+                Ok(1)
+            }
+            None => Ok(0),
         }
     }
 }
