@@ -7,12 +7,14 @@ import locale
 import os
 import signal
 import sys
+from collections.abc import Callable
 from types import FrameType
 
 from rich.console import Console
 
 import casefile
 import end
+import trials
 import views
 from face import Face, Sheet, patience
 from keys import Keyboard
@@ -21,7 +23,7 @@ from picture import CHANGED, LEFT_OUT, Picture
 from plain import Lines
 from screen import Screen
 from session import Session, Sitting
-from talk import Program
+from talk import Clock, Program
 
 KEYS = (("y", "yes"), ("n", "no"), ("b", "back"), ("w", "why"), ("r", "rules"), ("s", "answers"), ("q", "stop"), ("?", "help"))
 PART = "Judge what is filled in, don't think of the rest."
@@ -50,8 +52,9 @@ def main(path: str, options: argparse.Namespace) -> int:
     before = {number: signal.signal(number, _hung_up) for number in (signal.SIGTERM, signal.SIGHUP)}
     face = face_for(options.plain)
     try:
-        face.wait("opening the session; for a new one the best plan is looked for ..")
-        with Session.opened(case, program, options.plan, options.budget) as session:
+        face.wait("opening the session; for a new one the best way of asking is looked for ..")
+        clock = Clock(trials.SECONDS_AT_FIRST if options.seconds is None else options.seconds, moving(face))
+        with Session.opened(case, program, options.plan, options.budget, clock=clock) as session:
             ending = asked(session, face)
             face.close()
             end.print_last(session, ending, not face.stays)
@@ -62,6 +65,11 @@ def main(path: str, options: argparse.Namespace) -> int:
         face.close()
         for number, handler in before.items():
             signal.signal(number, handler)
+
+
+def moving(face: Face) -> Callable[[str], None]:
+    """What shows how far something is that takes a while; nothing where each line stays, and would be read out."""
+    return (lambda _: None) if face.stays else face.wait
 
 
 def _hung_up(number: int, _: FrameType | None) -> None:

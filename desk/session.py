@@ -14,11 +14,12 @@ import re
 from collections.abc import Sequence
 
 import casefile
+import trials
 import vocabulary
 from foreseen import AGAIN, Foreseen, Old, old
 from model import Answer, Case, Constraint, Ending, Fault, Question, Values
 from possible import Possible
-from talk import Program, Run
+from talk import Clock, Program, Run, is_question
 
 PLAN_OF_BYTE = {1: "scopes", 2: "quacq", 3: "multi"}
 
@@ -109,11 +110,12 @@ def changed(before: Case, now: Case) -> str | None:
 class Session:
     """The session of a case, held by a lock; a context manager."""
 
-    def __init__(self, words: vocabulary.Vocabulary, program: Program, journal: str, lock: int, budget: int | None) -> None:
+    def __init__(self, words: vocabulary.Vocabulary, program: Program, journal: str, lock: int, budget: int | None,
+                 clock: Clock | None) -> None:
         """Made by `opened` alone."""
         self.vocabulary = words
         self.case, self.program, self.journal = self.vocabulary.case, program, journal
-        self._lock, self.budget = lock, budget
+        self._lock, self.budget, self._clock = lock, budget, clock
         self.plan = ""
         self.foreseen = Foreseen(self.case)
         self.answers: list[Answer] = []
@@ -121,16 +123,17 @@ class Session:
 
     @classmethod
     def opened(cls, case: Case, program: Program, plan: str | None = None, budget: int | None = None, make: bool = True,
-               before: Sequence[dict] = ()) -> Session:
+               before: Sequence[dict] = (), clock: Clock | None = None) -> Session:
         """Opens a case's session; a fault where that can't be.
 
-        It is made where there is none and `make` says so, with old answers by names that may answer for the person.
+        It is made where there is none and `make` says so, with old answers by names that may answer for the person. Where no
+        plan is named, the clock says how long one may be looked for.
         """
         journal = journal_of(case.path)
         if not make and not os.path.exists(journal):
             raise Fault(f"{case.path} has no session yet: `desk ask {case.path}` begins one")
         words = vocabulary.build(case)
-        session = cls(words, program, journal, locked(journal), budget)
+        session = cls(words, program, journal, locked(journal), budget, clock)
         try:
             session.foreseen.before = old_answers(session.case, before)
             session._begin(plan, make)
@@ -170,8 +173,7 @@ class Session:
     def _make(self, plan: str | None) -> None:
         """A new session."""
         if plan is None and self.case.plan is None:
-            import check        # which asks this module for sessions as well
-            plan = check.advised(self.case, self.vocabulary, self.program)
+            plan = trials.advised(self.vocabulary, self.program, self._clock or Clock(trials.SECONDS_AT_FIRST))
         self.plan = plan or self.case.plan or "scopes"
         write_kept(self.journal, self.case, self.foreseen.before)
         reply = self.program.call([self.journal, "new", "--plan", self.plan], self.vocabulary.json.encode())
@@ -380,11 +382,6 @@ class Sitting:
         if self._run is not None:
             self._run.close()
             self._run = None
-
-
-def is_question(head: str) -> bool:
-    """Whether a line that begins so is a question's."""
-    return head[:1] == "q" and head[1:].isdigit()
 
 
 def ending_of(words: vocabulary.Vocabulary, lines: Sequence[str], status: int) -> Ending:

@@ -16,7 +16,7 @@ from collections.abc import Iterable, Sequence
 from dataclasses import dataclass
 
 from model import Rule, Values
-from talk import Program
+from talk import Clock, Late, Program
 from vocabulary import Vocabulary
 
 # the words behind a solver's name; minisat writes its model to a file, the others print it
@@ -52,9 +52,12 @@ class Clauses:
         return [self.number[pair] for pair in sorted(values.items())]
 
 
-def clauses_of(program: Program, vocabulary: Vocabulary, journal: str) -> Clauses | None:
-    """What `cnf` prints of a journal; None where it is refused."""
-    reply = program.call([journal, "cnf"])
+def clauses_of(program: Program, vocabulary: Vocabulary, journal: str, clock: Clock | None = None) -> Clauses | None:
+    """What `cnf` prints of a journal; None where it is refused, or isn't there in time."""
+    try:
+        reply = program.call([journal, "cnf"], clock=clock)
+    except Late:
+        return None
     if reply.status != 0:
         return None
     number: dict[tuple[int, int], int] = {}
@@ -70,10 +73,11 @@ def clauses_of(program: Program, vocabulary: Vocabulary, journal: str) -> Clause
     return Clauses(number, len(number), tuple(found), len(things) + sum(size * (size - 1) // 2 for size in sizes))
 
 
-def solved(count: int, clauses: Sequence[Clause]) -> set[int] | None:
+def solved(count: int, clauses: Sequence[Clause], clock: Clock | None = None) -> set[int] | None:
     """The true Booleans of a model; None where there is none, where the solver takes too long, or where none is installed."""
     solver = name()
-    if solver is None or sum(map(len, clauses)) > MOST_LITERALS:
+    seconds = SECONDS if clock is None else min(SECONDS, clock.left)
+    if solver is None or sum(map(len, clauses)) > MOST_LITERALS or not seconds:
         return None
     with tempfile.TemporaryDirectory() as folder:
         given, made = os.path.join(folder, "clauses"), os.path.join(folder, "model")
@@ -82,7 +86,7 @@ def solved(count: int, clauses: Sequence[Clause]) -> set[int] | None:
             file.writelines(" ".join(map(str, clause)) + " 0\n" for clause in clauses)
         words = [solver, *SOLVERS[solver], given, *([made] if solver == "minisat" else [])]
         try:
-            ran = subprocess.run(words, capture_output=True, text=True, check=False, stdin=subprocess.DEVNULL, timeout=SECONDS)
+            ran = subprocess.run(words, capture_output=True, text=True, check=False, stdin=subprocess.DEVNULL, timeout=seconds)
         except (subprocess.TimeoutExpired, OSError):
             return None
         if ran.returncode % 20 != SATISFIABLE:      # clasp says 30 where it has found all
@@ -99,10 +103,14 @@ def _true(text: str) -> set[int]:
     return {int(word) for words in lines for word in words if word.isdigit() and word != "0"}
 
 
-def checked(program: Program, vocabulary: Vocabulary, journal: str, clauses: Clauses, true: set[int]) -> Values | None:
-    """The plan of a solver's model as `acquire JOURNAL model` prints it; None where that refuses it."""
+def checked(program: Program, vocabulary: Vocabulary, journal: str, clauses: Clauses, true: set[int],
+            clock: Clock | None = None) -> Values | None:
+    """The plan of a solver's model as `acquire JOURNAL model` prints it; None where that refuses it, or takes too long."""
     booleans = " ".join(str(boolean) for boolean in sorted(true) if boolean <= clauses.count)
-    reply = program.call([journal, "model"], f"v {booleans} 0\n".encode())
+    try:
+        reply = program.call([journal, "model"], f"v {booleans} 0\n".encode(), clock)
+    except Late:
+        return None
     if reply.status != 0 or not reply.lines or not reply.lines[0].startswith("solution"):
         return None
     return vocabulary.values_of(reply.lines[0].split()[1:])
@@ -118,29 +126,31 @@ class Plan:
     apart: int | None           # None of the first one
 
 
-def plans(program: Program, vocabulary: Vocabulary, journal: str, most: int) -> list[Values]:
-    """Plans that the learned rules of a journal allow, far from each other; fewer where no more are found."""
-    return [plan.values for plan in far(program, vocabulary, journal, most)]
+def plans(program: Program, vocabulary: Vocabulary, journal: str, most: int, clock: Clock | None = None) -> list[Values]:
+    """Plans that the learned rules of a journal allow, far from each other; fewer where no more are found, in time."""
+    return [plan.values for plan in far(program, vocabulary, journal, most, clock)]
 
 
-def far(program: Program, vocabulary: Vocabulary, journal: str, most: int) -> list[Plan]:
+def far(program: Program, vocabulary: Vocabulary, journal: str, most: int, clock: Clock | None = None) -> list[Plan]:
     """Such plans with their distances: each differs from those before in as many values as any plan does that the solver
     finds in its time."""
-    clauses = clauses_of(program, vocabulary, journal)
+    clauses = clauses_of(program, vocabulary, journal, clock)
     found: list[Plan] = []
     while clauses is not None and len(found) < most:
-        true, apart = _farthest(clauses, [plan.values for plan in found])
-        values = None if true is None else checked(program, vocabulary, journal, clauses, true)
+        if clock is not None:
+            clock.doing(f"looking for plan {len(found) + 1} of {most}")
+        true, apart = _farthest(clauses, [plan.values for plan in found], clock)
+        values = None if true is None else checked(program, vocabulary, journal, clauses, true, clock)
         if values is None:
             break
         found.append(Plan(values, apart))
     return found
 
 
-def _farthest(clauses: Clauses, before: list[Values]) -> tuple[set[int] | None, int | None]:
+def _farthest(clauses: Clauses, before: list[Values], clock: Clock | None = None) -> tuple[set[int] | None, int | None]:
     """The model that differs most from some plans, by halving, and in how many values."""
     if not before:
-        return solved(clauses.count, clauses.clauses), None
+        return solved(clauses.count, clauses.clauses, clock), None
     low, high = 0, len(before[0])       # a plan that differs in `low` values was found, none in more than `high`
     best: set[int] | None = None
     while low < high:
@@ -149,7 +159,7 @@ def _farthest(clauses: Clauses, before: list[Values]) -> tuple[set[int] | None, 
         for values in before:
             more, count = at_least(clauses.literals(values), middle, count)
             extra += more
-        true = solved(count, extra)
+        true = solved(count, extra, clock)
         reached = -1 if true is None else min(_distance(clauses.values(true), values) for values in before)
         if reached < middle:            # also where a solver says what isn't so
             high = middle - 1

@@ -3,11 +3,14 @@
 from __future__ import annotations
 
 import ctypes
+import math
 import os
+import select
 import shutil
 import signal
 import subprocess
-from collections.abc import Sequence
+import time
+from collections.abc import Callable, Sequence
 from dataclasses import dataclass
 from typing import IO
 
@@ -15,6 +18,48 @@ from model import Fault
 
 HERE = os.path.dirname(os.path.realpath(__file__))
 PATIENCE = 2.0      # seconds that a run has to end after its input has ended
+TICK = 0.25         # seconds after which somebody who waits is told how much time is left
+MOST_READ = 65536   # bytes that are read at once
+
+
+class Late(Exception):
+    """The time was over before a call was done; what it had printed so far."""
+
+    def __init__(self, text: str = "") -> None:
+        super().__init__("the time is over")
+        self.lines = text.splitlines()
+
+
+class Clock:
+    """Seconds for several calls together, and a line that moves while they last."""
+
+    def __init__(self, seconds: float, tell: Callable[[str], None] = lambda _: None) -> None:
+        self._end = time.monotonic() + seconds
+        self._tell = tell
+        self._doing = ""
+
+    @property
+    def left(self) -> float:
+        """The seconds that are left, never below 0."""
+        return max(self._end - time.monotonic(), 0.0)
+
+    @property
+    def over(self) -> bool:
+        """Whether no time is left."""
+        return self.left == 0.0
+
+    def doing(self, what: str) -> None:
+        """Says what is being done from now on."""
+        self._doing = what
+        self.tick()
+
+    def tick(self) -> None:
+        """Says what is being done, and how many seconds that may last."""
+        self._tell(f"{self._doing}, at most {math.ceil(self.left)} s more ..")
+
+    def pause(self) -> float:
+        """How long to wait before the next tick."""
+        return min(TICK, self.left)
 
 
 @dataclass(frozen=True)
@@ -59,13 +104,35 @@ class Program:
             return cls(found)
         raise Fault("the program acquire isn't there: name it by --acquire PROGRAM or in DESK_ACQUIRE")
 
-    def call(self, words: Sequence[str], given: bytes = b"") -> Reply:
-        """One call with all its input."""
+    def call(self, words: Sequence[str], given: bytes = b"", clock: Clock | None = None) -> Reply:
+        """One call with all its input. Where a clock is given and its time is over, the program is ended, and `Late` has
+        what it had printed."""
         try:
-            ran = subprocess.run([self.path, *words], input=given, stdout=subprocess.PIPE, process_group=0, preexec_fn=_dies_with_us, check=False)
+            process = subprocess.Popen([self.path, *words], stdin=subprocess.PIPE, stdout=subprocess.PIPE, process_group=0,
+                                       preexec_fn=_dies_with_us)
         except OSError as error:
             raise Fault(f"{self.path}: {error.strerror}") from None
-        return Reply(ran.returncode, ran.stdout.decode())
+        with process:
+            try:
+                printed = _printed(process, given, clock)
+            except BaseException:
+                process.kill()
+                raise
+        return Reply(process.returncode, printed.decode())
+
+
+def _printed(process: subprocess.Popen[bytes], given: bytes, clock: Clock | None) -> bytes:
+    """All that a process prints; `Late` where the time is over before."""
+    while True:
+        try:
+            return process.communicate(given, None if clock is None else clock.pause())[0]
+        except subprocess.TimeoutExpired:
+            given = b""         # it is kept, and goes on being written
+            assert clock is not None
+        clock.tick()
+        if clock.over:
+            process.kill()
+            raise Late(process.communicate()[0].decode(errors="replace"))
 
 
 def _dies_with_us() -> None:
@@ -81,8 +148,9 @@ class Run:
     killed, nobody else gets the journal before the program has ended as well.
     """
 
-    def __init__(self, program: Program, words: Sequence[str], lock: int | None = None, given: bytes = b"") -> None:
-        """Starts it, and writes what has to come first."""
+    def __init__(self, program: Program, words: Sequence[str], lock: int | None = None, given: bytes = b"",
+                 clock: Clock | None = None) -> None:
+        """Starts it, and writes what has to come first. Where a clock is given, no line is waited for longer than it has left."""
         try:
             self._process = subprocess.Popen([program.path, *words], stdin=subprocess.PIPE, stdout=subprocess.PIPE, process_group=0,
                                              pass_fds=() if lock is None else (lock,), preexec_fn=_dies_with_us)
@@ -91,12 +159,28 @@ class Run:
         assert self._process.stdin and self._process.stdout
         self._to: IO[bytes] = self._process.stdin
         self._from: IO[bytes] = self._process.stdout
+        self._clock = clock
+        self._read = b""            # what has come and isn't given away as a line yet
         if given:
             self._write(given)
 
     def line(self) -> str:
-        """The next line without its end; empty where there is none any more."""
-        return self._from.readline().decode().rstrip("\n")
+        """The next line without its end; empty where there is none any more, `Late` where the clock's time is over."""
+        while b"\n" not in self._read:
+            self._wait()
+            some = os.read(self._from.fileno(), MOST_READ)
+            if not some:
+                break
+            self._read += some
+        line, _, self._read = self._read.partition(b"\n")
+        return line.decode()
+
+    def _wait(self) -> None:
+        """Waits until something has come, where there is a clock."""
+        while self._clock is not None and not select.select([self._from], [], [], self._clock.pause())[0]:
+            self._clock.tick()
+            if self._clock.over:
+                raise Late
 
     def say(self, word: str) -> None:
         """Writes an answer line. Where the program has ended, the next `line` shows it."""
@@ -112,7 +196,7 @@ class Run:
     def rest(self) -> list[str]:
         """Ends the input, and all lines that still come."""
         self._end_input()
-        return self._from.read().decode().splitlines()
+        return (self._read + self._from.read()).decode().splitlines()
 
     def close(self) -> int:
         """Ends the input and waits; its exit status. A run that goes on is ended by a signal, which loses no answer."""
@@ -131,3 +215,8 @@ class Run:
             self._to.close()
         except BrokenPipeError:
             pass
+
+
+def is_question(head: str) -> bool:
+    """Whether a line that begins so is a question's."""
+    return head[:1] == "q" and head[1:].isdigit()
