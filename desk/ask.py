@@ -12,6 +12,7 @@ from types import FrameType
 
 from rich.console import Console
 
+import beforehand
 import casefile
 import end
 import trials
@@ -58,6 +59,8 @@ def main(path: str, options: argparse.Namespace) -> int:
             ending = asked(session, face)
             face.close()
             end.print_last(session, ending, not face.stays)
+            if session.against():
+                print(beforehand.text(session))
             return STATUS["suspended"] if ending is None else STATUS.get(ending.word, 1)
     except KeyboardInterrupt:
         return STATUS["suspended"]
@@ -119,10 +122,15 @@ class Asking:
         self.before: Question | None = None         # the last question that the person saw
         self.note = ""                              # what happened since, above the next question
 
-    def run(self) -> Ending:
-        """Asks until the program ends or the person stops."""
+    def run(self) -> Ending | None:
+        """Asks until the program ends or the person stops; None where they stop in front of a contradiction."""
         if self.session.answers:
             self.note = f"It goes on where it was, after {len(self.session.answers)} answer{'s' if len(self.session.answers) != 1 else ''}."
+        if self.session.against():
+            place = beforehand.way_out(self.session, self.face)
+            if place is None:
+                return None
+            self._back_to(place)
         self._advance()
         while True:
             while self.sitting.question is not None:

@@ -5,15 +5,20 @@ from __future__ import annotations
 import argparse
 import hashlib
 import os
+import re
 import shlex
-import tempfile
+from collections import Counter
 from collections.abc import Iterator, Sequence
 
+import beforehand
 import casefile
+import files
 import patterns
 import review
 import solver
 import views
+from files import journal_of, kept_of
+from foreseen import AGAIN, ALWAYS, CARRIED
 from markup import Html, element, joined
 from model import Ending, Fault, Values
 from picture import CLASH, Cells, Grid, Picture, grid_of, sentence
@@ -22,6 +27,13 @@ from session import Session
 from style import STYLE
 from talk import Program
 
+# how each page begins, by which desk knows its own
+START = '<!DOCTYPE html>\n<html lang="en"><head><meta charset="utf-8"><meta name="generator" content="desk">'
+# how pages began before they had this mark: desk's title, and its own style right behind
+OLD_START = re.compile(rb'<!DOCTYPE html>\n<html lang="en"><head><meta charset="utf-8"><meta name="viewport" '
+                       rb'content="width=device-width, initial-scale=1"><title>[^<]*</title><style>\n'
+                       rb':root\{color-scheme:light dark;--ground:#ffffff;--text:#1c2330;')
+ENDS = (".case", ".journal", ".session", ".certificate")    # of files that are no pages
 MOST_PLANS = 4
 MOST_COLUMNS = 10           # of a table on a page of paper; with more it is turned, or a list
 MOST_ROWS = 12              # of a list in one column
@@ -30,31 +42,37 @@ MOST_ROWS = 12              # of a list in one column
 def main(path: str, options: argparse.Namespace) -> int:
     """Writes the page of a case's session, and its certificate beside it."""
     case = casefile.read(path)
+    beside = os.path.splitext(options.file)[0] + ".certificate"
+    named_for_a_page(case.path, options.file)
+    files.may_be_replaced(options.file, is_page, "a page")
+    files.may_be_replaced(beside, is_certificate, "a certificate")
     with Session.opened(case, Program.found(options.acquire), make=False) as session:
+        if session.against():
+            raise Fault(beforehand.text(session))
         ending = session.state()
-        certificate = certified(session, ending, os.path.splitext(options.file)[0] + ".certificate")
-        written(options.file, page(session, ending, certificate).encode())
+        certificate = certified(session, ending, beside)
+        made = {certificate.name: certificate.content} if certificate else {}
+        files.write_all({**made, options.file: page(session, ending, certificate).encode()})
     print(f"written: {options.file}" + (f" and {certificate.name}" if certificate else ""))
     return 0
 
 
-def written(path: str, content: bytes) -> None:
-    """Writes a file whole, or leaves what was there; a fault where it can't be."""
-    folder = os.path.dirname(path) or "."
-    try:
-        handle, made = tempfile.mkstemp(dir=folder)
-        try:
-            with os.fdopen(handle, "wb") as file:
-                file.write(content)
-                file.flush()
-                os.fsync(file.fileno())
-            os.chmod(made, 0o644)
-            os.replace(made, path)
-        except BaseException:
-            os.unlink(made)
-            raise
-    except OSError as error:
-        raise Fault(f"{path}: {error.strerror}") from None
+def named_for_a_page(case: str, file: str) -> None:
+    """A fault where the page would be called as a case or as what lies beside one."""
+    own = [os.path.realpath(one) for one in (case, journal_of(case), kept_of(journal_of(case)))]
+    if os.path.realpath(file) in own or file.endswith(ENDS):
+        whose = "a case, its session or a certificate"
+        raise Fault(f"{file} is called as {whose} is, so no page is written there: name it {os.path.splitext(case)[0]}.html")
+
+
+def is_page(head: bytes) -> bool:
+    """Whether a file that begins so is a page of desk's, also one that was written before pages had their mark."""
+    return head.startswith(START.encode()) or OLD_START.match(head) is not None
+
+
+def is_certificate(head: bytes) -> bool:
+    """Whether a file that begins so is a certificate of the program's."""
+    return head.startswith(b"QUACQCERT")
 
 
 # ---------------------------------------------------------------- the certificate
@@ -63,20 +81,19 @@ class Certificate:
     """A file that another can check without trusting this session."""
 
     def __init__(self, name: str, content: bytes, program: str) -> None:
-        self.name = name
+        self.name, self.content = name, content
         self.digest = hashlib.sha256(content).hexdigest()
         self.command = f"{program} :memory: check < {shlex.quote(os.path.basename(name))}"
 
 
 def certified(session: Session, ending: Ending, name: str) -> Certificate | None:
-    """Writes the certificate of a session that has converged, where `check` confirms it."""
+    """The certificate of a session that has converged, where `check` confirms it."""
     if ending.word != "converged":
         return None
     reply = session.program.call([session.journal, "certify"])
     content = reply.text.encode()
     if reply.status != 0 or session.program.call([":memory:", "check"], content).status != 0:
         return None
-    written(name, content)
     return Certificate(name, content, "acquire")
 
 
@@ -91,9 +108,9 @@ def page(session: Session, ending: Ending, certificate: Certificate | None) -> s
                                                    *(plans(session, found) if done else ()), *pattern_view(session))
     body = joined(element("h1", session.case.title), element("p", state_text(session, ending), class_="dim"), *ruled, answers(session),
                   proof(certificate, ending.word))
-    head = joined(element("meta", charset="utf-8"), element("meta", name="viewport", content="width=device-width, initial-scale=1"),
+    head = joined(element("meta", name="viewport", content="width=device-width, initial-scale=1"),
                   element("title", session.case.title), element("style", Html(STYLE)))
-    return "<!DOCTYPE html>\n" + element("html", element("head", head), element("body", element("main", body)), lang="en") + "\n"
+    return START + head + "</head>" + element("body", element("main", body)) + "</html>\n"
 
 
 def section(title: str, *inside: str) -> Html:
@@ -104,10 +121,12 @@ def section(title: str, *inside: str) -> Html:
 def state_text(session: Session, ending: Ending) -> str:
     """How far the session is."""
     count = len(session.answers)
-    own = sum(answer.said is None for answer in session.answers)
+    by = Counter(answer.said.by if answer.said else "" for answer in session.answers)
     said = f"{count} answer{'s' if count != 1 else ''}"
-    if own != count:
-        said += f", {own} of them given one by one and {count - own} said beforehand or carried over"
+    if by[""] != count:
+        said += f", {by['']} of them given one by one"
+        said += f", {by[AGAIN]} again as before you went back" if by[AGAIN] else ""
+        said += f", {by[ALWAYS] + by[CARRIED]} said beforehand or carried over" if by[ALWAYS] + by[CARRIED] else ""
     if ending.word == "converged":
         return f"Nothing is left open that the words of the case can say, after {said}."
     if ending.word == "collapsed":

@@ -7,31 +7,44 @@ session began, and the old answers that may answer for the person.
 
 from __future__ import annotations
 
+import contextlib
 import fcntl
 import json
 import os
 import re
+import shlex
 from collections.abc import Sequence
+from typing import TypedDict
 
 import casefile
+import files
+import handover
 import trials
 import vocabulary
-from foreseen import AGAIN, Foreseen, Old, old
-from model import Answer, Case, Constraint, Ending, Fault, Question, Values
+from files import journal_of, kept_of
+from foreseen import AGAIN, CARRIED, Foreseen, Old, old
+from model import Answer, Case, Constraint, Ending, Fault, Question, Rule, Values
 from possible import Possible
 from talk import Clock, Program, Run, is_question
 
 PLAN_OF_BYTE = {1: "scopes", 2: "quacq", 3: "multi"}
+FIRST_GATE = 8          # the place in a journal behind which its vocabulary stands
+BACK = "Put back a copy of the file; without one, move it away: where the case is as it was, the session goes on"
 
 
-def journal_of(path: str) -> str:
-    """The journal of a case."""
-    return re.sub(r"\.(case|journal)$", "", path) + ".journal"
+class Named(TypedDict):
+    """An old answer by the names of things and values, so that it outlives a change of the case."""
+
+    yes: bool
+    by: str
+    values: dict[str, str]
 
 
-def kept_of(journal: str) -> str:
+class Kept(TypedDict):
     """What desk keeps beside a journal."""
-    return journal.removesuffix(".journal") + ".session"
+
+    case: str               # the text for which the session stands
+    before: list[Named]
 
 
 def head_of(journal: str) -> tuple[str, bytes] | None:
@@ -46,32 +59,40 @@ def head_of(journal: str) -> tuple[str, bytes] | None:
         return PLAN_OF_BYTE.get(head[14], "?"), file.read(int.from_bytes(head[10:14], "big") - 1)
 
 
-def read_kept(journal: str) -> dict[str, object]:
-    """What desk keeps beside a journal; empty where it isn't there."""
+def read_kept(journal: str) -> Kept | None:
+    """What desk keeps beside a journal; None where it isn't there."""
+    path = kept_of(journal)
     try:
-        with open(kept_of(journal), encoding="utf-8") as file:
+        with open(path, encoding="utf-8") as file:
             kept = json.load(file)
     except FileNotFoundError:
-        return {}
-    except (OSError, ValueError) as error:
-        raise Fault(f"{kept_of(journal)} can't be read: {error}") from None
-    if not isinstance(kept, dict) or not isinstance(kept.get("case"), str) or not isinstance(kept.get("before"), list):
-        raise Fault(f"{kept_of(journal)} isn't what desk keeps beside a session")
-    return kept
+        return None
+    except (OSError, ValueError, RecursionError) as error:
+        raise Fault(f"{path} can't be read: {error}. {BACK}") from None
+    if not isinstance(kept, dict) or not isinstance(kept.get("case"), str) or not isinstance(kept.get("before"), list) \
+            or not all(map(_is_named, kept["before"])):
+        raise Fault(f"{path} isn't what desk keeps beside a session. {BACK}")
+    return Kept(case=kept["case"], before=kept["before"])
+
+
+def _is_named(one: object) -> bool:
+    """Whether this is an old answer by names."""
+    return (isinstance(one, dict) and isinstance(one.get("yes"), bool) and one.get("by") in (CARRIED, AGAIN)
+            and isinstance(one.get("values"), dict) and all(isinstance(label, str) for label in one["values"].values()))
+
+
+def named(case: Case, values: Values, yes: bool, by: str) -> Named:
+    """An answer by names, in the order of these, so that the same answer reads the same."""
+    return {"yes": yes, "by": by, "values": dict(sorted((case.things[thing].name, case.values[value]) for thing, value in values.items()))}
 
 
 def write_kept(journal: str, case: Case, before: Sequence[Old]) -> None:
     """Puts down what desk keeps, as a whole or not at all."""
-    named = [{"yes": one.yes, "by": one.by, "values": {case.things[thing].name: case.values[value] for thing, value in one.values}} for one in before]
-    path = kept_of(journal)
-    with open(path + ".new", "w", encoding="utf-8") as file:
-        json.dump({"case": case.text, "before": named}, file, ensure_ascii=False, indent=1)
-        file.flush()
-        os.fsync(file.fileno())
-    os.replace(path + ".new", path)
+    kept = Kept(case=case.text, before=[named(case, dict(one.values), one.yes, one.by) for one in before])
+    files.write(kept_of(journal), json.dumps(kept, ensure_ascii=False, indent=1).encode())
 
 
-def old_answers(case: Case, named: Sequence[dict]) -> list[Old]:
+def old_answers(case: Case, some: Sequence[Named]) -> list[Old]:
     """Old answers, of what the case has of their things and values.
 
     What is left of an accepted one is accepted as well. A refused one that names what isn't there any more says nothing.
@@ -79,14 +100,14 @@ def old_answers(case: Case, named: Sequence[dict]) -> list[Old]:
     thing_of = {thing.name: thing for thing in case.things}
     value_of = {name: value for value, name in enumerate(case.values)}
     found = []
-    for one in named:
+    for one in some:
         values: Values = {}
         for name, label in one["values"].items():
             thing, value = thing_of.get(name), value_of.get(label)
-            if thing is not None and value in thing.allowed:
+            if thing is not None and value is not None and value in thing.allowed:
                 values[thing.place] = value
         if values and (one["yes"] or len(values) == len(one["values"])):
-            found.append(old(values, bool(one["yes"]), str(one["by"])))
+            found.append(old(values, one["yes"], one["by"]))
     return found
 
 
@@ -123,13 +144,13 @@ class Session:
 
     @classmethod
     def opened(cls, case: Case, program: Program, plan: str | None = None, budget: int | None = None, make: bool = True,
-               before: Sequence[dict] = (), clock: Clock | None = None) -> Session:
+               before: Sequence[Named] = (), clock: Clock | None = None, journal: str | None = None) -> Session:
         """Opens a case's session; a fault where that can't be.
 
         It is made where there is none and `make` says so, with old answers by names that may answer for the person. Where no
-        plan is named, the clock says how long one may be looked for.
+        plan is named, the clock says how long one may be looked for. Its journal lies beside the case where no other is named.
         """
-        journal = journal_of(case.path)
+        journal = journal or journal_of(case.path)
         if not make and not os.path.exists(journal):
             raise Fault(f"{case.path} has no session yet: `desk ask {case.path}` begins one")
         words = vocabulary.build(case)
@@ -151,9 +172,7 @@ class Session:
     def close(self) -> None:
         """Gives the lock back."""
         if self._lock >= 0:
-            if os.fstat(self._lock).st_size == 0 and os.path.exists(self.journal):
-                os.unlink(self.journal)
-            os.close(self._lock)
+            given_back(self._lock, self.journal)
             self._lock = -1
 
     def _begin(self, plan: str | None, make: bool) -> None:
@@ -166,9 +185,12 @@ class Session:
             if not make:
                 raise Fault(f"{self.case.path} has no session yet: `desk ask {self.case.path}` begins one")
             self._make(plan)
+            began = self.case.text
         else:
-            self._go_on(head, plan)
+            began = self._go_on(head, plan)
         self.reload()
+        if began != self.case.text and not self.against():
+            self.keep()
 
     def _make(self, plan: str | None) -> None:
         """A new session."""
@@ -180,11 +202,13 @@ class Session:
         if reply.status:
             raise Fault(said_by(self.journal, reply.status, reply.text))
 
-    def _go_on(self, head: tuple[str, bytes], plan: str | None) -> None:
-        """A session that is there, where it is one of this case."""
+    def _go_on(self, head: tuple[str, bytes], plan: str | None) -> str:
+        """A session that is there, where it is one of this case; the text for which it stands."""
         self.plan, text = head
         kept = read_kept(self.journal)
-        difference = changed(casefile.parse(str(kept["case"]), self.case.path), casefile.parse(self.case.text, self.case.path)) if kept else None
+        difference = None
+        if kept is not None:
+            difference = changed(casefile.parse(kept["case"], self.case.path), casefile.parse(self.case.text, self.case.path))
         if difference is None and text != self.vocabulary.json.encode():
             difference = "it is said to the program in another way"
         if difference is not None:
@@ -194,9 +218,16 @@ class Session:
         wanted = plan or self.case.plan
         if wanted and wanted != self.plan:
             raise Fault(f"the session of {self.case.path} has plan {self.plan}, which stays as long as it goes on")
-        self.foreseen = Foreseen(self.case, old_answers(self.case, kept.get("before", [])))
-        if kept.get("case") != self.case.text:
-            self.keep()
+        self.foreseen = Foreseen(self.case, old_answers(self.case, kept["before"] if kept else []))
+        return kept["case"] if kept else ""
+
+    def against(self) -> list[tuple[int, Rule]]:
+        """The places of accepted examples that a rule said beforehand contradicts, which then came later, each with the rule.
+
+        As long as there is one, the session stands for the text without that rule, so that its line may be taken out again.
+        """
+        broken = ((place, self.foreseen.violated(answer.question.values)) for place, answer in enumerate(self.answers) if answer.yes)
+        return [(place, rule) for place, rule in broken if rule is not None]
 
     def keep(self) -> None:
         """Puts down what desk keeps."""
@@ -285,14 +316,17 @@ class Sitting:
 
     def advance(self) -> None:
         """Goes on until the person is needed or the run has ended. What is foreseen is answered, and stands in `given`."""
-        self.question, self.given = None, []
-        while self._next():
-            assert self.question is not None and self._run is not None
+        self.given = []
+        if self.question is None:
+            self._next()
+        while self.question is not None:
+            assert self._run is not None
             said = self.session.foreseen.answer(self.question.values)
             if said is None:
                 return
             self._run.say("yes" if said.yes else "no")
             self.given.append(self.session.added(self.question, said.yes))
+            self._next()
 
     def _next(self) -> bool:
         """Reads the next question; False where the run has ended instead."""
@@ -399,22 +433,64 @@ def said_by(journal: str, status: int, text: str) -> str:
     reasons = {8: "its input failed", 9: "its output failed", 10: "the file may not be read and written, or the disk is full", 11: "memory was wanting"}
     if status < 0:
         return f"{journal}: acquire was ended by signal {-status}; the answers are kept"
-    said = text.strip().splitlines()
-    return f"{journal}: acquire says: {said[-1] if said else reasons.get(status, f'status {status}')}"
+    lines = text.strip().splitlines()
+    said = lines[-1] if lines else reasons.get(status, f"status {status}")
+    return f"{journal}: acquire says: {said}{_remedy(journal, said)}"
+
+
+def _remedy(journal: str, said: str) -> str:
+    """What can be done about a journal that the program refuses."""
+    damaged = re.fullmatch(r"refused journal damaged (\d+)", said)
+    if damaged is None:
+        return ". Put back a copy of the file, or move it away" if said.startswith("refused journal ") else ""
+    place, file = int(damaged[1]), shlex.quote(journal)
+    told = f". From byte {place} on it was changed or cut off: put back a copy of the file"
+    if place <= FIRST_GATE:
+        return told
+    # a byte of 0 behind the records is a gate that is closed: a journal may end there
+    return told + (f"; without one, `cp {file} {file}.damaged; truncate -s {place} {file}; truncate -s {place + 1} {file}` "
+                   "keeps the answers before that place")
 
 
 def locked(journal: str) -> int:
-    """The journal, opened and locked; a fault where another desk has it."""
-    try:
+    """The journal, opened and locked; a fault where another desk has it. What `desk carry` has made for it is put there first."""
+    while True:
+        file = _opened(journal)
         try:
-            file = os.open(journal, os.O_RDWR | os.O_CREAT, 0o666)
-        except PermissionError:
-            file = os.open(journal, os.O_RDONLY)
-    except OSError as error:
-        raise Fault(f"{journal}: {error.strerror}") from None
+            fcntl.flock(file, fcntl.LOCK_EX | fcntl.LOCK_NB)
+            handover.finished(journal)
+            if _is_there(file, journal):
+                return file
+        except BlockingIOError:
+            os.close(file)
+            raise Fault(f"{journal}: another desk works on it; end that one first") from None
+        except BaseException:
+            os.close(file)
+            raise
+        os.close(file)      # it was moved or removed in the meantime, and another one is there
+
+
+def _opened(journal: str) -> int:
+    """The journal, which is made where there is none, for writing where that may be."""
     try:
-        fcntl.flock(file, fcntl.LOCK_EX | fcntl.LOCK_NB)
-    except BlockingIOError:
-        os.close(file)
-        raise Fault(f"{journal}: another desk works on it; end that one first") from None
-    return file
+        return os.open(journal, os.O_RDWR | os.O_CREAT, 0o666)
+    except OSError as error:
+        if isinstance(error, PermissionError):
+            with contextlib.suppress(OSError):
+                return os.open(journal, os.O_RDONLY)
+        raise Fault(f"{journal}: {error.strerror}") from None
+
+
+def _is_there(file: int, path: str) -> bool:
+    """Whether an open file is the one that has this name."""
+    with contextlib.suppress(FileNotFoundError):
+        return os.path.samestat(os.fstat(file), os.stat(path))
+    return False
+
+
+def given_back(lock: int, journal: str) -> None:
+    """Gives back a lock, and removes a journal that was made for it alone."""
+    if os.fstat(lock).st_size == 0 and _is_there(lock, journal):
+        with contextlib.suppress(OSError):
+            os.unlink(journal)
+    os.close(lock)
