@@ -16,7 +16,9 @@ from __future__ import annotations
 
 import itertools
 import re
+from collections.abc import Callable
 from dataclasses import dataclass
+from typing import TypeVar
 
 import catalogue
 import groups
@@ -26,6 +28,7 @@ from model import MOST_VALUES, PLANS, Case, Fault, Group, Part, Rule, Thing, Wor
 KEYS = ("title", "things", "values", "ask", "words", "always", "plan", "thing NAME", "only NAME")
 MOST_THINGS = 128       # of the program
 MOST_BYTES = 1_000_000
+Read = TypeVar("Read")
 
 
 @dataclass(frozen=True)
@@ -76,43 +79,62 @@ class _Reader:
         self.values: list[str] = []
         self.thing_parts: tuple[Part, ...] = ()
         self.value_parts: tuple[Part, ...] = ()
+        self.faults: list[tuple[int, str]] = []     # with their lines; 0 where a line is missing
 
     def case(self) -> Case:
-        """Reads all lines, the things first, since others name them."""
+        """Reads all lines, the things first, since others name them; one fault that has all that can be told at once."""
+        self._cut()
+        self._tell()        # a key that isn't read may be any: what is missing isn't known then
+        self._missing()
+        title, plan = self._try(self._title), self._try(self._plan)
+        if self._try(self._things):
+            self._try(self._only)
+        setting = catalogue.Setting(tuple(self.things), tuple(self.values), self.value_parts)
+        if not self.things or self.faults:
+            self._tell()
+        words = self._words(setting)
+        asked = self._groups(words)
+        always = self._always(setting)
+        self._tell()
+        return Case(self.path, self.text, title or re.sub(r"\.case$", "", self.path.rsplit("/", 1)[-1]), tuple(self.things), self.thing_parts,
+                    tuple(self.values), self.value_parts, tuple(asked), tuple(words), tuple(always), plan)
+
+    def _tell(self) -> None:
+        """One fault that has all that were found so far, by their lines; what is missing comes last."""
+        if self.faults:
+            raise Fault(*(f"{self.path}:{line}: {text}" if line else f"{self.path}: {text}"
+                          for line, text in sorted(self.faults, key=lambda fault: fault[0] or len(self.text))))
+
+    def _try(self, read: Callable[[], Read]) -> Read | None:
+        """Reads something; its fault is kept, so that others can be told with it."""
         try:
-            self._cut()
-            self._things()
-            self._only()
-            setting = catalogue.Setting(tuple(self.things), tuple(self.values), self.value_parts)
-            words = self._words(setting)
-            asked = self._groups(words)
-            always = self._always(setting)
-            title, plan = self._one("title"), self._one("plan")
-            if plan is not None and plan not in PLANS:
-                raise Fault(f"no such plan: {plan}; there are {', '.join(PLANS)}")
-            return Case(self.path, self.text, title or re.sub(r"\.case$", "", self.path.rsplit("/", 1)[-1]), tuple(self.things), self.thing_parts,
-                        tuple(self.values), self.value_parts, tuple(asked), tuple(words), tuple(always), plan)
+            return read()
         except Fault as fault:
-            where = f"{self.path}:{self.line_number}" if self.line_number else self.path
-            raise Fault(f"{where}: {fault}") from None
+            self.faults.append((self.line_number, str(fault)))
+            return None
+        finally:
+            self.line_number = 0
 
     def _cut(self) -> None:
         """The lines, without comments and empty ones."""
         for number, raw in enumerate(self.text.splitlines(), 1):
-            self.line_number = number
-            line = re.sub(r"(^|\s)#.*", "", raw).strip()
-            if not line:
-                continue
-            head, colon, rest = line.partition(":")
-            words = head.split()
-            if not colon or not words:
-                raise Fault(f"a line is `key: text`{names.nearest(line.split()[0], KEYS)}")
-            key, name = words[0], " ".join(words[1:])
-            with_name = key in ("thing", "only")
-            if key not in [known.split()[0] for known in KEYS] or with_name != bool(name):
-                raise Fault(f"no such key: {head.strip()}{names.nearest(head.strip(), KEYS) or '; there are ' + ', '.join(KEYS)}")
-            self.lines.append(Line(number, key, name, rest.strip()))
-        self.line_number = 0
+            self._try(lambda number=number, raw=raw: self._line(number, raw))
+
+    def _line(self, number: int, raw: str) -> None:
+        """Adds one line to those of the case."""
+        self.line_number = number
+        line = re.sub(r"(^|\s)#.*", "", raw).strip()
+        if not line:
+            return
+        head, colon, rest = line.partition(":")
+        words = head.split()
+        if not colon or not words:
+            raise Fault(f"a line is `key: text`{names.nearest(line.split()[0], KEYS)}")
+        key, name = words[0], " ".join(words[1:])
+        with_name = key in ("thing", "only")
+        if key not in [known.split()[0] for known in KEYS] or with_name != bool(name):
+            raise Fault(f"no such key: {head.strip()}{names.nearest(head.strip(), KEYS) or '; there are ' + ', '.join(KEYS)}")
+        self.lines.append(Line(number, key, name, rest.strip()))
 
     def _of(self, *keys: str) -> list[Line]:
         """The lines with these keys."""
@@ -133,13 +155,35 @@ class _Reader:
             return self._at(lines[0]).text
         return None
 
+    def _title(self) -> str | None:
+        """The title, where there is one."""
+        return self._one("title")
+
+    def _plan(self) -> str | None:
+        """The plan, where there is one."""
+        plan = self._one("plan")
+        if plan is not None and plan not in PLANS:
+            raise Fault(f"no such plan: {plan}; there are {', '.join(PLANS)}")
+        return plan
+
+    def _missing(self) -> None:
+        """Adds a fault for each key without which there is no case."""
+        if not self._of("things", "thing"):
+            self.faults.append((0, "there are no things: a line such as `things: maths english sport` is missing"))
+            if not self._of("values"):
+                self.faults.append((0, "there are no values: a line such as `values: Ann Ben Cas` is missing"))
+        if not self._of("words"):
+            self.faults.append((0, "there are no words: a line such as `words: different, before` is missing; `desk words` lists all"))
+        if not self._of("ask") and not any("=" in line.text for line in self._of("words")):
+            self.faults.append((0, "nothing is asked about: a line such as `ask: all` is missing"))
+
     def _pieces(self, key: str) -> list[Piece]:
         """What stands between commas in all lines of a key."""
         return [Piece(line, part.strip()) for line in self._of(key) for part in line.text.split(",") if part.strip()]
 
     # ---- things and values
 
-    def _things(self) -> None:
+    def _things(self) -> bool:
         """Things and values, each a list or a grid, or things with lists of their own."""
         own: list[tuple[str, list[str]]] = []
         for line in self._of("things", "thing", "values"):
@@ -147,18 +191,16 @@ class _Reader:
             if line.key == "values":
                 self._values(line)
             elif line.key == "thing":
-                own.append((names.checked(line.name), self._unique(names.listed(line.text), "value")))
+                own.append((names.checked(line.name), self._unique(self._listed(line), "value")))
             else:
                 self._listed_things(line, own)
             if own:
                 self._unique([name for name, _ in own], "thing")
-        if not own:
-            self.line_number = 0
-            raise Fault("there are no things: a line such as `things: maths english sport` is missing")
         if len(own) > MOST_THINGS:
             raise Fault(f"there are {len(own)} things; the program takes {MOST_THINGS}")
         self.line_number = 0
         self._labels(own)
+        return bool(own)
 
     def _listed_things(self, line: Line, own: list[tuple[str, list[str]]]) -> None:
         """A `things` line: a list, or the one grid."""
@@ -171,7 +213,14 @@ class _Reader:
         elif self.thing_parts:
             raise Fault("a grid of things stands alone: its line is above")
         else:
-            own += [(name, []) for name in names.listed(line.text)]
+            own += [(name, []) for name in self._listed(line)]
+
+    def _listed(self, line: Line) -> list[str]:
+        """The names of a list; a fault where the first is likely meant as a heading of the others."""
+        heading = names.heading(line.text)
+        if heading is not None:
+            raise Fault(f"is `{heading.name}` a heading, or one of the names? {heading.way_out()}")
+        return names.listed(line.text)
 
     def _values(self, line: Line) -> None:
         """A `values` line: a list, or the one grid."""
@@ -179,7 +228,7 @@ class _Reader:
         if self.value_parts or (parts and self.values):
             raise Fault("a grid of values stands alone")
         self.value_parts = parts
-        self.values += self._cells(parts) if parts else names.listed(line.text)
+        self.values += self._cells(parts) if parts else self._listed(line)
         self._unique(self.values, "value")
         if len(self.values) > MOST_VALUES:
             raise Fault(f"there are {len(self.values)} values, and the program takes {MOST_VALUES}: leave some out, or split the case")
@@ -276,41 +325,39 @@ class _Reader:
     def _words(self, setting: catalogue.Setting) -> list[Word]:
         """The words, each once."""
         found: dict[str, Word] = {}
-        for piece in self._pieces("words"):
-            self._at(piece.line)
+        def one(piece: Piece) -> None:
             word = catalogue.word(setting, piece.text)
             found[word.text] = word
-        self.line_number = 0
-        if not found:
-            raise Fault("there are no words: a line such as `words: different, before` is missing; `desk words` lists all")
+        self._each("words", one)
         return list(found.values())
+
+    def _each(self, key: str, read: Callable[[Piece], None]) -> None:
+        """Reads all pieces of a key, also those behind one with a fault."""
+        for piece in self._pieces(key):
+            self._try(lambda piece=piece: read(Piece(self._at(piece.line), piece.text)))
 
     def _groups(self, words: list[Word]) -> list[Group]:
         """What is asked about: the `ask` lines, and the pairs of words that name their things."""
         found: dict[tuple[int, ...], Group] = {}
-        for piece in self._pieces("ask"):
-            self._at(piece.line)
+        def one(piece: Piece) -> None:
             for things in groups.meant(self.things, self.thing_parts, piece.text):
                 key = tuple(sorted(things))
                 found.setdefault(key, Group(key, piece.text))
-        self.line_number = 0
+        self._each("ask", one)
         for word in words:
             if word.things:
                 key = tuple(sorted(word.things))
                 found.setdefault(key, Group(key, " - ".join(self.things[thing].name for thing in key)))
-        if not found:
-            raise Fault("nothing is asked about: a line such as `ask: all` is missing")
         return list(found.values())
 
     def _always(self, setting: catalogue.Setting) -> list[Rule]:
         """The rules that are said beforehand: `WORD on PHRASE`, or a word that names its things."""
         found: dict[tuple[str, tuple[int, ...]], Rule] = {}
-        for piece in self._pieces("always"):
-            self._at(piece.line)
+        def one(piece: Piece) -> None:
             for word, things in self._said(setting, piece.text):
                 text = word.said_of(tuple(self.things[thing].name for thing in things))
                 found.setdefault((word.text, things), Rule(word, things, text))
-        self.line_number = 0
+        self._each("always", one)
         return list(found.values())
 
     def _said(self, setting: catalogue.Setting, text: str) -> list[tuple[Word, tuple[int, ...]]]:

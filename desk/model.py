@@ -19,7 +19,11 @@ Values = dict[int, int]
 
 
 class Fault(Exception):
-    """Something that the person has to mend; its text is for them, and begins with file and line where there are some."""
+    """What the person has to mend; each text is one thing, for them, and begins with file and line where there are some."""
+
+    def __init__(self, *texts: str) -> None:
+        super().__init__("\n".join(texts))
+        self.texts = texts
 
 
 @dataclass(frozen=True)

@@ -6,6 +6,7 @@ import difflib
 import re
 import unicodedata
 from collections.abc import Iterable, Sequence
+from dataclasses import dataclass
 
 from model import Fault
 
@@ -76,6 +77,43 @@ def listed(text: str) -> list[str]:
     for name in names:
         checked(name)
     return names
+
+
+@dataclass(frozen=True)
+class Heading:
+    """A name in front of a range or of numbers, which reads like a heading of them."""
+
+    name: str
+    members: tuple[str, ...]        # `1`, `..` and `6`, or each number
+
+    def way_out(self) -> str:
+        """How to write what was meant, whichever it was."""
+        ranged = ".." in self.members
+        listed = ", ".join([self.name, " ".join(self.members)] if ranged else [self.name, *self.members])
+        if all(re.fullmatch(r"\d+|\.\.", member) for member in self.members):
+            meant = f"Write `{' '.join(member if member == '..' else self.name + member for member in self.members)}`"
+        else:
+            meant = f"Leave it out, `{' '.join(self.members)}`"
+        return f"{meant}; or, if it is one of the names, put commas: `{listed}`"
+
+
+def heading(text: str) -> Heading | None:
+    """The name that may be meant as a heading in a list: the first one, before nothing but one range or numbers."""
+    if "," in text or '"' in text:
+        return None
+    first, *others = text.replace("..", " .. ").split() or [""]
+    ranged = len(others) == 3 and others[1] == ".."
+    counted = len(others) > 1 and all(other.isdigit() for other in others)
+    if not (ranged or counted) or first.isdigit():
+        return None
+    return None if ranged and _of_a_kind(first, others[0]) else Heading(first, tuple(others))
+
+
+def _of_a_kind(one: str, other: str) -> bool:
+    """Whether two names may stand in one range: days, months, single letters, or a name with numbers behind it."""
+    bare = [re.sub(r"\d+$", "", name) for name in (one, other)]
+    return (any({one, other} <= set(sequence.split()) for sequence in SEQUENCES) or len(one) == len(other) == 1 and other.isalpha()
+            or bare[0] == bare[1] != other)
 
 
 def filled(piece: str) -> list[str]:

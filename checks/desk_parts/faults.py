@@ -13,7 +13,13 @@ from vocabulary import Vocabulary
 WARD = "things: day Mon .. Sun x shift early late night\nvalues: Ann Ben Cas Dee Eve\n"
 ASK = "ask: same day\nwords: different\n"
 LIST = "things: maths english sport\nvalues: 1 .. 5\n"
+REST = "ask: all\nwords: same\n"
 PLANTED = [
+    ("casefile.py", "        self._missing()\n", ""),
+    ("casefile.py", "sorted(self.faults, key=lambda fault: fault[0] or len(self.text))", "self.faults"),
+    ("casefile.py", "for piece in self._pieces(key):\n", "for piece in self._pieces(key)[:1]:\n"),
+    ("names.py", "return None if ranged and _of_a_kind(first, others[0]) else Heading", "return None if ranged else Heading"),
+    ("names.py", "return None if ranged and _of_a_kind(first, others[0]) else Heading", "return Heading"),
     ("casefile.py", "self.line_number = number\n", "self.line_number = number - 1\n"),
     ("names.py", 'return f"; the nearest is `{found[0]}`" if found else ""', 'return ""'),
 ]
@@ -23,16 +29,37 @@ FAULTS = [
     ("thigns: a b\n", ":1: no such key: thigns; the nearest is `things`"),
     ("title: x\nthings a b\n", ":2: a line is `key: text`; the nearest is `things`"),
     ("only: a\n", ":1: no such key: only; the nearest is `only NAME`"),
-    ("title: x\n", ": there are no things: a line such as `things: maths english sport` is missing"),
+    ("title: x\n", ": there are no things: a line such as `things: maths english sport` is missing\n"
+     "it.case: there are no values: a line such as `values: Ann Ben Cas` is missing\n"
+     "it.case: there are no words: a line such as `words: different, before` is missing; `desk words` lists all\n"
+     "it.case: nothing is asked about: a line such as `ask: all` is missing"),
+    ("thigns: a b\nvalues: 1 2\nwrods: same\nask all\n", ":1: no such key: thigns; the nearest is `things`\n"
+     "it.case:3: no such key: wrods; the nearest is `words`\nit.case:4: a line is `key: text`; the nearest is `ask`"),
+    ("words: smae, diferent\nplan: it\nthings: a b\nvalues: 1 2\nask: al\nalways: same\n", ":2: no such plan: it; there are scopes, quacq, multi"),
+    ("words: smae, diferent\nthings: a b\nvalues: 1 2\nask: al\nalways: same\n",
+     ":1: the word `smae` isn't in the catalogue; the nearest is `same`\n"
+     "it.case:1: the word `diferent` isn't in the catalogue; the nearest is `different`\n"
+     "it.case:4: `al` isn't a way to put things together; the nearest is `all`\n"
+     "it.case:5: of which things? Write `same on same day`, `same on all`, or name them, as `same on a - b`"),
+    ("things: a b\nvalues: shelf 1 .. 6\n" + REST,
+     ":2: is `shelf` a heading, or one of the names? Write `shelf1 .. shelf6`; or, if it is one of the names, put commas: `shelf, 1 .. 6`"),
+    ("things: Y1 Y2 .. Y4\nvalues: Mon Tue .. Fri\nask: all\nwords: never\n", ":4: the word `never` isn't in the catalogue; the nearest is `never Tue`"),
+    ("things: talk 1 .. 8\nvalues: a b\n" + REST,
+     ":1: is `talk` a heading, or one of the names? Write `talk1 .. talk8`; or, if it is one of the names, put commas: `talk, 1 .. 8`"),
+    ("things: a b\nvalues: day Mon..Fri\n" + REST,
+     ":2: is `day` a heading, or one of the names? Leave it out, `Mon .. Fri`; or, if it is one of the names, put commas: `day, Mon .. Fri`"),
+    ("thing a: size 1 2 3\nthing b: x y\n" + REST,
+     ":1: is `size` a heading, or one of the names? Write `size1 size2 size3`; or, if it is one of the names, put commas: `size, 1, 2, 3`"),
     ("title: x\ntitle: y\nthings: a b\nvalues: 1 2\nask: all\nwords: same\n", ":2: `title` stands twice; the first is in line 1"),
     ("things: a b\nask: all\nwords: same\n", ": `a` has no values: a line such as `values: Ann Ben Cas` is missing"),
-    ("things: a b a\nvalues: 1 2\n", ":1: the thing `a` stands twice"),
-    ("things: a b\nvalues: 1 2 1\n", ":2: the value `1` stands twice"),
-    ("things: a b\nvalues: 1 .. 65\n", ":2: there are 65 values, and the program takes 64: leave some out, or split the case"),
-    ("things: 1 .. 129\nvalues: a b\n", ":2: there are 129 things; the program takes 128"),
-    ("things: day Mon Tue x shift\nvalues: a\n", ":1: a side of a grid is its name and its members, as `day Mon Tue`; `shift` has no members"),
-    ("things: day Mon .. Foo x shift a b\nvalues: c\n", ":1: `Mon .. Foo` can't be filled in: write the names out, or count days, months, numbers or letters upwards"),
-    ("things: a=b c\nvalues: d e\n", ":1: `a=b`: a name has no `=` in it"),
+    ("things: a b\nthing c: x y\nask: all\nwords: same\n", ": `a` has no values: a line such as `values: Ann Ben Cas` is missing"),
+    ("things: a b a\nvalues: 1 2\n" + REST, ":1: the thing `a` stands twice"),
+    ("things: a b\nvalues: 1 2 1\n" + REST, ":2: the value `1` stands twice"),
+    ("things: a b\nvalues: 1 .. 65\n" + REST, ":2: there are 65 values, and the program takes 64: leave some out, or split the case"),
+    ("things: 1 .. 129\nvalues: a b\n" + REST, ":2: there are 129 things; the program takes 128"),
+    ("things: day Mon Tue x shift\nvalues: a\n" + REST, ":1: a side of a grid is its name and its members, as `day Mon Tue`; `shift` has no members"),
+    ("things: day Mon .. Foo x shift a b\nvalues: c\n" + REST, ":1: `Mon .. Foo` can't be filled in: write the names out, or count days, months, numbers or letters upwards"),
+    ("things: a=b c\nvalues: d e\n" + REST, ":1: `a=b`: a name has no `=` in it"),
     (WARD + "only Mno early: Ann\n" + ASK, ":3: no such thing: Mno early; the nearest is `Mon early`"),
     (WARD + "only Mon early: Anne\n" + ASK, ":3: no such value: Anne; the nearest is `Ann`"),
     (WARD + "only Mon: Ann\nonly Mon early: Ben\n" + ASK, ":4: `Mon early` would have no value left"),
@@ -73,7 +100,7 @@ def told(text: str) -> str:
     return ""
 
 
-FILLED = {"Mon .. Wed": ["Mon", "Tue", "Wed"], "8..11": ["8", "9", "10", "11"], "Y1 .. Y3": ["Y1", "Y2", "Y3"], "08 .. 10": ["08", "09", "10"],
+FILLED = {"Mon .. Wed": ["Mon", "Tue", "Wed"], "Mon Tue .. Fri": ["Mon", "Tue", "Wed", "Thu", "Fri"], "8..11": ["8", "9", "10", "11"], "Y1 .. Y3": ["Y1", "Y2", "Y3"], "08 .. 10": ["08", "09", "10"],
           "A .. C x": ["A", "B", "C", "x"], "Nov .. Dec": ["Nov", "Dec"], "ganz spät, B 1 .. B 2": ["ganz spät", "B 1", "B 2"]}
 
 
