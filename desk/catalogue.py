@@ -12,6 +12,7 @@ from collections.abc import Callable, Iterator, Sequence
 from dataclasses import dataclass
 
 import names
+import synonyms
 from model import Fault, Part, Thing, Word
 
 NUMBERS = {"one": 1, "two": 2, "three": 3, "four": 4}
@@ -106,11 +107,32 @@ class Setting:
 def word(setting: Setting, text: str) -> Word:
     """The word that a text is, or a fault with the nearest right form."""
     text = " ".join(text.split())
+    made = _made(setting, text)
+    if made is None:
+        raise Fault(f"the word `{text}` isn't in the catalogue{_near(setting, text)}")
+    return made
+
+
+def _made(setting: Setting, text: str) -> Word | None:
+    """The word that a text is, or None."""
     for maker in (_of_named_things, _of_one, _of_two, _of_parts, _of_two_values, _of_three_or_four):
         made = maker(setting, text)
         if made:
             return made
-    raise Fault(f"the word `{text}` isn't in the catalogue{_near(setting, text)}")
+    return None
+
+
+def _known(setting: Setting, text: str) -> bool:
+    """Whether a text is a word of the catalogue here."""
+    try:
+        return _made(setting, text) is not None
+    except Fault:
+        return False
+
+
+def _meant(setting: Setting, text: str) -> str | None:
+    """The word that is meant by one that isn't in the catalogue."""
+    return synonyms.meant(synonyms.spelled(text), ((r"(.+)", r"\1"), *synonyms.OF_WORDS), lambda form: _known(setting, form))
 
 
 def _word(setting: Setting, text: str, arity: int, holds: Callable[..., bool], sentence: str, shown: str) -> Word:
@@ -327,7 +349,15 @@ def _forms(setting: Setting) -> Iterator[str]:
 
 
 def _near(setting: Setting, text: str) -> str:
-    """The nearest right form, and where to find all."""
+    """The form that is meant, else the nearest by letters, and where to find all."""
+    named = synonyms.about(text, [thing.name for thing in setting.things], lambda middle: _meant(setting, middle))
+    if named:
+        word, one, other = named
+        return (f"; a word stands without its things: `{word}` in `words` with `{one} - {other}` in `ask`, "
+                f"or `always: {word} on {one} - {other}`")
+    meant = _meant(setting, text)
+    if meant:
+        return synonyms.hint(meant)
     if setting.value_parts and re.fullmatch(r"at (least|most) \d+ apart", text):
         return f"; in a grid it is counted in a part: `{text.removesuffix(' apart')} {setting.value_parts[0].name} apart`"
     return names.nearest(text, _forms(setting)) or "; `desk words` lists all"

@@ -15,6 +15,10 @@ ASK = "ask: same day\nwords: different\n"
 LIST = "things: maths english sport\nvalues: 1 .. 5\n"
 REST = "ask: all\nwords: same\n"
 PLANTED = [
+    ("synonyms.py", '(rf"(?:not|never|no) {THE_SAME} (.+)", r"different \\1"),', '(rf"(?:not|never|no) {THE_SAME} (.+)", r"same \\1"),'),
+    ("synonyms.py", "    if things.index(first) < things.index(last):\n        return word, first, last\n", "    return word, first, last\n"),
+    ("catalogue.py", "    if meant:\n        return synonyms.hint(meant)\n", ""),
+    ("groups.py", "    if meant_form:\n        return synonyms.hint(meant_form)\n", ""),
     ("casefile.py", "        self._missing()\n", ""),
     ("casefile.py", "sorted(self.faults, key=lambda fault: fault[0] or len(self.text))", "self.faults"),
     ("casefile.py", "for piece in self._pieces(key):\n", "for piece in self._pieces(key)[:1]:\n"),
@@ -43,7 +47,7 @@ FAULTS = [
      "it.case:5: of which things? Write `same on same day`, `same on all`, or name them, as `same on a - b`"),
     ("things: a b\nvalues: shelf 1 .. 6\n" + REST,
      ":2: is `shelf` a heading, or one of the names? Write `shelf1 .. shelf6`; or, if it is one of the names, put commas: `shelf, 1 .. 6`"),
-    ("things: Y1 Y2 .. Y4\nvalues: Mon Tue .. Fri\nask: all\nwords: never\n", ":4: the word `never` isn't in the catalogue; the nearest is `never Tue`"),
+    ("things: Y1 Y2 .. Y4\nvalues: Mon Tue .. Fri\nask: all\nwords: never\n", ":4: the word `never` isn't in the catalogue; the nearest is `never Wed`"),
     ("things: talk 1 .. 8\nvalues: a b\n" + REST,
      ":1: is `talk` a heading, or one of the names? Write `talk1 .. talk8`; or, if it is one of the names, put commas: `talk, 1 .. 8`"),
     ("things: a b\nvalues: day Mon..Fri\n" + REST,
@@ -91,6 +95,55 @@ FAULTS = [
 ]
 
 
+TALKS = "things: opening maths bread bees\nvalues: left right shelf3 shelf4\n"
+ROOMS = "things: opening maths bread bees\nvalues: room A B x hour 9 10 11\n"
+# what somebody writes for a word, and the one that is meant; each in a case of its own
+MEANT = {
+    TALKS + "ask: all triples\nwords: ": {
+        "not the same": "different", "never together": "different", "apart": "different", "distinct": "different", "together": "same",
+        "equal": "same", "earlier": "before", "comes after": "after", "directly before": "right before", "adjacent": "next to",
+        "not beside": "not next to", "no more than 2 apart": "at most 2 apart", "2 or more apart": "at least 2 apart", "not left": "never left",
+        "always left": "only left", "at most one left": "not both left", "left and right never together": "left not with right",
+        "no left with right": "left not with right", "right never after left": "no right after left", "left means right": "if left then right",
+        "in order": "three in order", "not all the same": "not all three the same", "at most 2 of 3 left": "at most two of three left",
+        "from right": "right or later", "until right": "right or earlier"},
+    ROOMS + "ask: all\nwords: ": {
+        "not at the same hour": "different hour", "never in the same room": "different room", "in the same room": "same room",
+        "in different rooms": "different room", "sooner hour": "earlier hour", "not on one room": "different room"},
+    TALKS + "words: same, never left\nask: ": {
+        "opening with maths": "opening - maths", "opening and bees": "opening - bees", "bread before maths": "bread - maths", "pairs": "all",
+        "everyone": "all", "triples": "all triples", "one by one": "each"},
+    WARD + "words: same\nask: ": {
+        "per day": "same day", "on one day": "same day", "each day": "same day", "days": "same day", "consecutive days": "next days",
+        "3 days running": "3 days in a row", "3 consecutive days": "3 days in a row"},
+}
+# words with their things, and what is said of them
+WITH_THINGS = {
+    "opening before bread": ("before", "opening - bread"), "bread before opening": ("after", "opening - bread"),
+    "opening and bees differ": ("different", "opening - bees"), "maths not in the same room bread": ("different room", "maths - bread"),
+    "bees earlier hour maths": ("later hour", "maths - bees"),
+}
+
+
+def meant() -> list[str]:
+    """What is meant is proposed before what is near by letters."""
+    faults = []
+    for head, pairs in MEANT.items():
+        for text, wanted in pairs.items():
+            said = told(head + text + "\n")
+            if not said.endswith(f"; you may mean `{wanted}`"):
+                faults.append(f"of `{text}` it says {said!r}, and meant is `{wanted}`")
+            if told(head + wanted + "\n"):
+                faults.append(f"`{wanted}` isn't taken: {told(head + wanted)}")
+    for text, (word, things) in WITH_THINGS.items():
+        said = told(ROOMS + f"ask: all\nwords: different\nalways: {text}\n")
+        if f"`{word}` in `words` with `{things}` in `ask`, or `always: {word} on {things}`" not in said:
+            faults.append(f"of `{text}` it says {said!r}")
+        if told(ROOMS + f"ask: {things}\nwords: {word}\nalways: {word} on {things}\n"):
+            faults.append(f"`{word} on {things}` isn't taken")
+    return faults
+
+
 def told(text: str) -> str:
     """What is said of a text, behind the file's name; empty where it is taken."""
     try:
@@ -130,7 +183,7 @@ def right() -> list[str]:
 
 def run(program: str) -> list[str]:
     """Faults in what is told."""
-    faults = right() + [f"`{text}` is {names.listed(text)}" for text, wanted in FILLED.items() if names.listed(text) != wanted]
+    faults = right() + meant() + [f"`{text}` is {names.listed(text)}" for text, wanted in FILLED.items() if names.listed(text) != wanted]
     for text, wanted in FAULTS:
         if told(text) != wanted:
             faults.append(f"of {text!r} it says {told(text)!r}, and not {wanted!r}")
@@ -144,5 +197,6 @@ def run(program: str) -> list[str]:
         except Fault as fault:
             if "latin.case:2: this isn't UTF-8" not in str(fault):
                 faults.append(str(fault))
-    print(f"faults: {len(FAULTS) + 1} cases with a fault, each with its line and the nearest right form")
+    print(f"faults: {len(FAULTS) + 1} cases with a fault, each with its line and the nearest right form; "
+          f"{sum(map(len, MEANT.values())) + len(WITH_THINGS)} synonyms")
     return faults
