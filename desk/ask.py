@@ -3,14 +3,12 @@
 from __future__ import annotations
 
 import argparse
-import locale
+import importlib.util
 import os
 import signal
 import sys
 from collections.abc import Callable
 from types import FrameType
-
-from rich.console import Console
 
 import beforehand
 import casefile
@@ -18,11 +16,9 @@ import end
 import trials
 import views
 from face import Face, Sheet, patience
-from keys import Keyboard
-from model import Ending, Question, Values
+from model import Ending, Fault, Question, Values
 from picture import CHANGED, LEFT_OUT, Picture
 from plain import Lines
-from screen import Screen
 from session import Session, Sitting
 from talk import Clock, Program
 
@@ -94,24 +90,10 @@ def face_for(plain: bool) -> Face:
     dumb = os.environ.get("TERM", "dumb") in ("dumb", "unknown", "")
     if plain or dumb or not (sys.stdin.isatty() and sys.stdout.isatty()):
         return Lines()
-    return Screen(console_for(), Keyboard(sys.stdin.fileno()))
-
-
-def console_for() -> Console:
-    """Rich's console, which draws in ASCII where the locale has no more."""
-    console = Console(highlight=False, markup=False, emoji=False)
-    if not locale.nl_langinfo(locale.CODESET).upper().replace("-", "").startswith("UTF8"):
-        console = AsciiConsole(highlight=False, markup=False, emoji=False)
-    return console
-
-
-class AsciiConsole(Console):
-    """A console that draws lines in ASCII. Names are printed as they are all the same."""
-
-    @property
-    def encoding(self) -> str:
-        """What can be drawn."""
-        return "ascii"
+    if importlib.util.find_spec("rich") is None:
+        raise Fault("the library that draws the screen isn't installed: `apt-get install python3-rich`, or take --plain")
+    import screen       # needs that library
+    return screen.opened()
 
 
 class Asking:

@@ -3,6 +3,7 @@
 from __future__ import annotations
 
 import argparse
+import importlib.util
 import itertools
 import json
 import os
@@ -13,12 +14,12 @@ import textwrap
 from collections.abc import Iterable, Iterator, Sequence
 
 import casefile
-import screen
+import plain
 import solver
 import trials
 import vocabulary
 from along import and_list
-from model import MOST_RELATIONS, Fault, Values
+from model import MOST_RELATIONS, Case, Fault, Values
 from picture import Picture, sentence
 from session import head_of, journal_of
 from talk import Clock, Late, Program
@@ -151,7 +152,7 @@ def _dull(words: Vocabulary, arity: int, width: int) -> Iterator[str]:
     if strongest:
         yield (f"- On {SIZES[arity]} such as {who}, {strongest.bit_count()} of {inside.bit_count()} choices can never be forbidden by these "
                "words. Is this one always all right? Else a word is missing:")
-        yield from ("    " + line for line in screen.plan_lines(words.case, _choice(words, scope, strongest), width - 4))
+        yield from ("    " + line for line in plan_lines(words.case, _choice(words, scope, strongest), width - 4))
     for place in range(inside.bit_length()):
         weakest = max((table for table in tables if not table >> place & 1), key=lambda table: table.bit_count(), default=None)
         if inside >> place & 1 and weakest is not None and (inside & ~weakest).bit_count() > 1:
@@ -208,7 +209,15 @@ def pictures(words: Vocabulary, some: list[Values], width: int) -> Iterator[str]
     """Plans one below the other."""
     for values in some:
         yield ""
-        yield from ("    " + line for line in screen.plan_lines(words.case, values, width - 4))
+        yield from ("    " + line for line in plan_lines(words.case, values, width - 4))
+
+
+def plan_lines(case: Case, values: Values, width: int) -> list[str]:
+    """A plan as a table; where the library that draws tables isn't installed, a line for each thing."""
+    if importlib.util.find_spec("rich") is None:
+        return plain.picture_lines(Picture(case, values))
+    import drawing      # needs that library
+    return drawing.plan_lines(case, values, width)
 
 
 def plans_of(words: Vocabulary, program: Program, network: Sequence[Sequence[str]], most: int, clock: Clock) -> list[Values]:

@@ -14,8 +14,8 @@ import tempfile
 import time
 
 import casefile
+import drawing
 import drawn
-import screen
 from model import Values
 from session import Session
 from talk import Program
@@ -60,7 +60,7 @@ def keys(program: Program, folder: str, plan: str) -> tuple[list[float], float]:
             sitting.answer(truth(sitting.question.values))
             sitting.advance()
             if sitting.question is not None:
-                screen.plan_lines(session.case, sitting.question.values, 80)
+                drawing.plan_lines(session.case, sitting.question.values, 80)
             taken.append(time.process_time() - began)
     return sorted(taken), opened
 
