@@ -110,7 +110,7 @@ MEANT = {
     ROOMS + "ask: all\nwords: ": {
         "not at the same hour": "different hour", "never in the same room": "different room", "in the same room": "same room",
         "in different rooms": "different room", "sooner hour": "earlier hour", "not on one room": "different room"},
-    TALKS + "words: same, never left\nask: ": {
+    TALKS + "words: never left\nask: ": {
         "opening with maths": "opening - maths", "opening and bees": "opening - bees", "bread before maths": "bread - maths", "pairs": "all",
         "everyone": "all", "triples": "all triples", "one by one": "each"},
     WARD + "words: same\nask: ": {
