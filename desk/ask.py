@@ -103,6 +103,7 @@ class Asking:
         self.session, self.sitting, self.face = session, sitting, face
         self.before: Question | None = None         # the last question that the person saw
         self.note = ""                              # what happened since, above the next question
+        self.taught = ""                            # what the last answer has taught
 
     def run(self) -> Ending | None:
         """Asks until the program ends or the person stops; None where they stop in front of a contradiction."""
@@ -130,8 +131,10 @@ class Asking:
         self.note = ""
         if key in ("y", "n"):
             self.before = question
+            since = len(self.session.answers)
             self.sitting.answer(key == "y")
             self._advance()
+            self.taught = views.taught_text(self.session, since)
         elif key == "b":
             self._back()
         elif key == "q":
@@ -156,14 +159,14 @@ class Asking:
         if last is None or not self.sitting.back():
             self.note = "There is no answer of yours to take back."
             return
-        self.before = None
+        self.before, self.taught = None, ""
         self.note = f"Your {'yes' if last.yes else 'no'} to question {last.question.number} is taken back; here it comes again."
 
     def _back_to(self, place: int) -> None:
         """Takes back the answer at a place; what was said after it is used again where it decides."""
         answer = self.session.answers[place]
         self.sitting.back_to(place)
-        self.before = None
+        self.before, self.taught = None, ""
         self.note = (f"Your {'yes' if answer.yes else 'no'} to question {answer.question.number} is taken back. "
                      "Your later answers count again where they decide a question.")
 
@@ -186,7 +189,7 @@ class Asking:
             head += ", a part of the one before"
         ask = PART if picture.part else WHOLE
         count = f"settled {possible.settled} of {possible.total}; at most {possible.most} more question{'s' if possible.most != 1 else ''}"
-        notes = (self.note,) if self.note else ()
+        notes = tuple(filter(None, (self.taught, self.note)))
         return Sheet(head, (picture,), legend(picture), (*notes, ask), (count,), KEYS, frozenset("y"))
 
 

@@ -7,7 +7,7 @@ the numbers of the scopes that it is about, and the sums over all scopes are kep
 
 from __future__ import annotations
 
-from collections.abc import Iterator
+from collections.abc import Iterable, Iterator
 from dataclasses import dataclass
 
 from model import Rule, Values
@@ -134,6 +134,19 @@ class Possible:
         for scope, left, needed in reversed(self._undo.pop()):
             self._set(scope, left, needed)
 
+    def taught(self, places: Iterable[int]) -> Iterator[tuple[tuple[int, ...], int]]:
+        """The scopes on which refused answers at these places have settled a rule, each with what the rule accepts there. It looks
+        at what these answers have changed and at nothing else."""
+        before: dict[tuple[int, ...], tuple[_Scope, int, bool]] = {}
+        for place in places:
+            if not self.answers[place][1]:
+                for scope, left, needed in self._undo[place]:
+                    before.setdefault(scope.things, (scope, left, needed))
+        for things, (scope, left, needed) in before.items():
+            if _says(scope.left, scope.needed) and not _says(left, needed):
+                tables = self.vocabulary.closings[len(things)].tables
+                yield things, tables[scope.left.bit_length() - 1] & self.vocabulary.inside(things)
+
     def open(self, things: tuple[int, ...]) -> bool:
         """Whether it isn't settled yet which candidate holds on a scope, or whether one does."""
         scope = next(scope for scope in self._by_last[things[-1]] if scope.things == things)
@@ -215,3 +228,8 @@ class Possible:
                     again[scope.things] |= once[scope.things] & gone
                     once[scope.things] |= gone
         return {things: bits & ~again[things] for things, bits in once.items()}
+
+
+def _says(left: int, needed: bool) -> bool:
+    """Whether a scope has a rule, and it is known which."""
+    return needed and left.bit_count() == 1

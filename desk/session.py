@@ -13,7 +13,7 @@ import json
 import os
 import re
 import shlex
-from collections.abc import Sequence
+from collections.abc import Iterator, Sequence
 from typing import TypedDict
 
 import casefile
@@ -139,6 +139,8 @@ class Session:
         self._lock, self.budget, self._clock = lock, budget, clock
         self.plan = ""
         self.foreseen = Foreseen(self.case)
+        self.beforehand = frozenset((rule.word.text, rule.things) for rule in self.case.always)
+        self._accepted_beforehand: dict[tuple[int, ...], int] | None = None     # on scopes, by these rules together
         self.answers: list[Answer] = []
         self.possible: Possible
 
@@ -267,6 +269,16 @@ class Session:
         """Drops the old answers that a new one contradicts."""
         if self.foreseen.forget(values, yes):
             self.keep()
+
+    def taught(self, since: int) -> Iterator[Rule]:
+        """The rules that were settled by a no from a place on, without those that were said beforehand; answers that were given
+        again teach nothing new."""
+        if self._accepted_beforehand is None:
+            self._accepted_beforehand = self.vocabulary.together(self.case.always)
+        places = [since + place for place, answer in enumerate(self.answers[since:]) if answer.said is None or answer.said.by != AGAIN]
+        for scope, table in self.possible.taught(places):
+            if table != self._accepted_beforehand.get(scope):
+                yield from (rule for rule in self.vocabulary.fewest(scope, table) if (rule.word.text, rule.things) not in self.beforehand)
 
     def learned(self) -> list[Constraint]:
         """The constraints that are learned so far, as the program shows them."""

@@ -2,6 +2,7 @@
 
 from __future__ import annotations
 
+import itertools
 from collections import Counter
 from collections.abc import Sequence
 
@@ -15,6 +16,7 @@ from session import Session
 
 MOST_RULES = 8              # of the rules that a yes rules out
 MOST_VALUES = 6             # of an answer in a line, where it is shown whole elsewhere
+MOST_TAUGHT = 3             # of the rules that an answer has taught
 BY = {"always": "said beforehand", "carried": "from the earlier session", "again": "said before you went back"}
 
 
@@ -31,6 +33,15 @@ def given_text(given: Sequence[Answer]) -> str:
         return ""
     one = f": {given[0].said.why}" if len(given) == 1 and given[0].said else ""
     return f"Answered for you: {', '.join(said)}{one}."
+
+
+def taught_text(session: Session, since: int) -> str:
+    """What the answers from a place on have taught, a few rules at most; it is where a word that is missing shows first."""
+    texts = [rule.text for rule in itertools.islice(session.taught(since), MOST_TAUGHT + 1)]
+    if not texts:
+        return ""
+    more = "; and more (r shows them)" if len(texts) > MOST_TAUGHT else ""
+    return f"Your answers have just taught: {'; '.join(texts[:MOST_TAUGHT])}{more}. Is that so? If not, go back, or a word is missing."
 
 
 def answer_text(session: Session, answer: Answer, most: int | None = None) -> str:

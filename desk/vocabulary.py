@@ -145,14 +145,17 @@ class Vocabulary:
         yield from self._lifts[len(scope)]
 
     def claims(self, constraint: Constraint) -> tuple[Rule, ...]:
-        """The fewest rules in the case's words that together say a constraint.
+        """The fewest rules in the case's words that together say a constraint."""
+        return self.fewest(constraint.scope, self.table(constraint))
+
+    def fewest(self, scope: tuple[int, ...], target: int) -> tuple[Rule, ...]:
+        """The fewest rules in the case's words that together accept on a scope what a table does.
 
         Of each size the first choice is taken, in the order of the words; from five rules on it is whatever is left after
         each rule has been dropped that the others say as well.
         """
-        target = self.table(constraint)
-        some = [(rule, table) for rule, table in self.rules_on(constraint.scope) if table & target == target]
-        inside = self.inside(constraint.scope)
+        some = [(rule, table) for rule, table in self.rules_on(scope) if table & target == target]
+        inside = self.inside(scope)
         for count in range(5):
             for chosen in itertools.combinations(some, count):
                 if _all_of(chosen, inside) == target:
@@ -166,6 +169,10 @@ class Vocabulary:
 
     def network(self, rules: Iterable[Rule]) -> list[list[str]]:
         """Rules as a network for `play`: on each scope the relations that together say those of them that may be learned there."""
+        return [self.item(scope, table) for scope, table in self.together(rules).items() if table != self.inside(scope)]
+
+    def together(self, rules: Iterable[Rule]) -> dict[tuple[int, ...], int]:
+        """On each scope what those of some rules accept together that may be learned there."""
         said: dict[tuple[int, ...], int] = {}
         choices: dict[tuple[int, ...], set[int]] = {}
         for rule in rules:
@@ -173,7 +180,7 @@ class Vocabulary:
                 if self._may_be_learned(rule, scope, choices):
                     places = tuple(scope.index(thing) for thing in rule.things)
                     said[scope] = said.get(scope, self.inside(scope)) & self._word_table(rule.word, places, len(scope))
-        return [self.item(scope, table) for scope, table in said.items() if table != self.inside(scope)]
+        return said
 
     def item(self, scope: tuple[int, ...], table: int) -> list[str]:
         """An item of a network: the relations that hold this table, and the scope."""
