@@ -21,11 +21,12 @@ from dataclasses import dataclass
 from typing import TypeVar
 
 import catalogue
+import counts
 import groups
 import names
-from model import MOST_VALUES, PLANS, Case, Fault, Group, Part, Rule, Thing, Word
+from model import MOST_VALUES, PLANS, Case, Fault, Group, Known, Part, Rule, Thing, Word
 
-KEYS = ("title", "things", "values", "ask", "words", "always", "plan", "thing NAME", "only NAME")
+KEYS = ("title", "things", "values", "ask", "words", "always", "known", "note", "plan", "thing NAME", "only NAME")
 MOST_THINGS = 128       # of the program
 MOST_BYTES = 1_000_000
 Read = TypeVar("Read")
@@ -95,9 +96,12 @@ class _Reader:
         words = self._words(setting)
         asked = self._groups(words)
         always = self._always(setting)
+        known: list[Known] = []
+        self._each("known", lambda piece: known.append(counts.known(setting, self.thing_parts, piece.text)))
         self._tell()
         return Case(self.path, self.text, title or re.sub(r"\.case$", "", self.path.rsplit("/", 1)[-1]), tuple(self.things), self.thing_parts,
-                    tuple(self.values), self.value_parts, tuple(asked), tuple(words), tuple(always), plan)
+                    tuple(self.values), self.value_parts, tuple(asked), tuple(words), tuple(always), plan,
+                    tuple(known), tuple(line.text for line in self._of("note")))
 
     def _tell(self) -> None:
         """One fault that has all that were found so far, by their lines; what is missing comes last."""

@@ -63,6 +63,7 @@ class Word:
     example: tuple[int, ...]                # values that break it; () where no values of the case do
     things: tuple[int, ...] = ()            # the only things that it speaks of, in its order; () where of all groups
     shown: str = ""                         # the pattern form, with no thing in it: `differ`, `is never Ann`
+    whole: str = ""                         # the sentence about all of some things, {0} for their names, where each group keeps it
 
     def said_of(self, names: tuple[str, ...]) -> str:
         """The sentence about these things."""
@@ -87,6 +88,35 @@ class Rule:
 
 
 @dataclass(frozen=True)
+class Count:
+    """How many of some things have one of some values."""
+
+    things: tuple[int, ...]
+    values: frozenset[int]
+    least: int
+    most: int
+
+    def violated(self, values: Values) -> bool:
+        """Whether all its things have a value, and these are too many or too few."""
+        if any(thing not in values for thing in self.things):
+            return False
+        return not self.least <= sum(values[thing] in self.values for thing in self.things) <= self.most
+
+
+@dataclass(frozen=True)
+class Known:
+    """What the person knows and isn't asked about: sample plans keep it, and it is never learned."""
+
+    text: str                   # of the `known` line
+    rules: tuple[Rule, ...] = ()
+    counts: tuple[Count, ...] = ()
+
+    def violated(self, values: Values) -> bool:
+        """Whether values break it."""
+        return any(one.violated(values) for one in (*self.rules, *self.counts))
+
+
+@dataclass(frozen=True)
 class Case:
     """A case as its text says it."""
 
@@ -101,6 +131,8 @@ class Case:
     words: tuple[Word, ...]
     always: tuple[Rule, ...]
     plan: str | None                    # of the `plan` line
+    known: tuple[Known, ...] = ()       # kept by sample plans, never learned
+    notes: tuple[str, ...] = ()         # for people alone
 
     def value_at(self, value: int) -> tuple[int, ...]:
         """For each part of the grid of values, the place of the member that this value has."""

@@ -20,7 +20,7 @@ import views
 from files import journal_of, kept_of
 from foreseen import AGAIN, ALWAYS, CARRIED
 from markup import Html, element, joined
-from model import Ending, Fault, Values
+from model import Case, Ending, Fault, Values
 from picture import CLASH, Cells, Grid, Picture, grid_of, sentence
 from sentences import Sentence, grouped
 from session import Session
@@ -105,7 +105,7 @@ def page(session: Session, ending: Ending, certificate: Certificate | None) -> s
     learned = ending.learned if done else () if ending.word == "collapsed" else tuple(session.learned())
     found = grouped(session.vocabulary, learned, session.reduced() if done else None)
     ruled = () if ending.word == "collapsed" else (section("The rules" if done else "Rules so far", *rules(found)),
-                                                   *(plans(session, found) if done else ()), *pattern_view(session))
+                                                   *beside(session.case), *(plans(session, found) if done else ()), *pattern_view(session))
     body = joined(element("h1", session.case.title), element("p", state_text(session, ending), class_="dim"), *ruled, answers(session),
                   proof(certificate, ending.word))
     head = joined(element("meta", name="viewport", content="width=device-width, initial-scale=1"),
@@ -147,6 +147,16 @@ def rule(said: Sentence) -> Html:
     """A sentence, and what of it follows from others."""
     mark = said.whole.removeprefix(said.text)
     return element("li", said.text, *([element("span", mark, class_="dim")] if mark else []))
+
+
+def beside(case: Case) -> Iterator[Html]:
+    """What the case says beside its rules, in the person's own words."""
+    if case.known:
+        yield section("Said, not learned", element("p", "These were never asked about. Sample plans keep them.", class_="dim"),
+                      element("ul", *(element("li", one.text) for one in case.known), class_="rules"))
+    if case.notes:
+        yield section("Notes", element("p", "These are for people alone; no plan was held against them.", class_="dim"),
+                      element("ul", *(element("li", note) for note in case.notes), class_="rules"))
 
 
 # ---------------------------------------------------------------- plans

@@ -145,7 +145,7 @@ class _Groups:
 
     def _cliques(self, word: Word, mine: set[Things]) -> Iterator[list[Things]]:
         """Rules on each two (three, four) of more things; in a grid only where they are all of the word's."""
-        if word.arity < 2 or not word.sentence.startswith(ALL_OF[word.arity]) or len(mine) < 2:
+        if word.arity < 2 or not (word.whole or word.sentence.startswith(ALL_OF[word.arity])) or len(mine) < 2:
             return
         parts = _components(mine)
         if self.along.is_grid and len(parts) > 1:
@@ -170,7 +170,12 @@ class _Groups:
         count = COUNTED[word.arity]
         whole = len(some) == len(self.case.things) > 8
         who = f"each {count} of all {len(some)}" if whole else f"each {count} of {and_list(self._names(tuple(some)))}"
-        text = f"{who} {word.sentence.removeprefix(ALL_OF[word.arity])}{self._but(out)}"
+        if word.whole and not out:
+            text = word.whole.format(f"all {len(some)}" if whole else and_list(self._names(tuple(some))))
+        elif word.whole:
+            text = f"{who}: {word.shown}{self._but(out)}"
+        else:
+            text = f"{who} {word.sentence.removeprefix(ALL_OF[word.arity])}{self._but(out)}"
         return Said(_unescaped(text), tuple(groups), () if self.along.is_grid else tuple(out))
 
     def _but(self, out: Sequence[Things]) -> str:

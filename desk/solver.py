@@ -7,6 +7,7 @@ at here as well. Solutions aren't counted.
 
 from __future__ import annotations
 
+import dataclasses
 import itertools
 import os
 import shutil
@@ -15,7 +16,7 @@ import tempfile
 from collections.abc import Iterable, Sequence
 from dataclasses import dataclass
 
-from model import Rule, Values
+from model import Count, Rule, Values
 from talk import Clock, Late, Program
 from vocabulary import Vocabulary
 
@@ -135,16 +136,44 @@ def far(program: Program, vocabulary: Vocabulary, journal: str, most: int, clock
     """Such plans with their distances: each differs from those before in as many values as any plan does that the solver
     finds in its time."""
     clauses = clauses_of(program, vocabulary, journal, clock)
+    wanted = None if clauses is None else with_known(clauses, vocabulary)
     found: list[Plan] = []
-    while clauses is not None and len(found) < most:
+    while clauses is not None and wanted is not None and len(found) < most:
         if clock is not None:
             clock.doing(f"looking for plan {len(found) + 1} of {most}")
-        true, apart = _farthest(clauses, [plan.values for plan in found], clock)
+        true, apart = _farthest(wanted, [plan.values for plan in found], clock)
         values = None if true is None else checked(program, vocabulary, journal, clauses, true, clock)
         if values is None:
             break
         found.append(Plan(values, apart))
     return found
+
+
+def with_known(clauses: Clauses, vocabulary: Vocabulary) -> Clauses:
+    """The clauses with those that say what the person knows and isn't asked about. The Booleans that they need come last."""
+    made, count = list(clauses.clauses), clauses.count
+    for known in vocabulary.case.known:
+        for rule in known.rules:
+            made += rejected(clauses, rule)
+        for one in known.counts:
+            more, count = counted(clauses, one, count)
+            made += more
+    return Clauses(clauses.number, count, tuple(made), clauses.own)
+
+
+def counted(clauses: Clauses, count: Count, last: int) -> tuple[list[Clause], int]:
+    """A count as clauses, and how many Booleans there are then; each thing has exactly one value."""
+    literals = [number for (thing, value), number in clauses.number.items() if thing in count.things and value in count.values]
+    made: list[Clause] = []
+    if count.most < len(literals):
+        more, last = at_least(literals, len(literals) - count.most, last)
+        made += more
+    if count.least > len(literals):
+        return [(1,), (-1,)], last      # no plan has so many
+    if count.least:
+        more, last = at_least([-literal for literal in literals], count.least, last)
+        made += more
+    return made, last
 
 
 def _farthest(clauses: Clauses, before: list[Values], clock: Clock | None = None) -> tuple[set[int] | None, int | None]:
@@ -198,10 +227,11 @@ def breaking(program: Program, vocabulary: Vocabulary, journal: str, rule: Rule,
     clauses = clauses or clauses_of(program, vocabulary, journal)
     if clauses is None:
         return None
-    extra = list(clauses.clauses[:clauses.own])
+    wanted = with_known(dataclasses.replace(clauses, clauses=clauses.clauses[:clauses.own]), vocabulary)
+    extra = list(wanted.clauses)
     for other in others:
         extra += rejected(clauses, other)
-    picks, count = _one_of(clauses, rule)
+    picks, count = _one_of(wanted, rule)
     true = solved(count, extra + picks)
     if true is None:
         return None

@@ -22,7 +22,10 @@ from model import MOST_RELATIONS, Case, Constraint, Fault, Group, Rule, Values, 
 
 MOST_SCOPES = 8192          # of the program
 MOST_BYTES = 4_194_304      # of the program
+ALL_OF = {2: "all", 3: "all triples", 4: "all fours"}
 SPEAKS_OF = {1: "never V", 2: "different", 3: "all three different", 4: "all four different"}
+
+NOT_ASKED = "write `known` in place of `always`: sample plans keep it then, and it isn't asked about"
 
 # a word at places of a group, as `never Ann` at its second place
 Lifted = tuple[Word, tuple[int, ...]]
@@ -300,7 +303,8 @@ class Vocabulary:
                             f"one that does is `{SPEAKS_OF[arity]}`")
         for word in case.words:
             if not word.things and word.arity > max(self.arities):
-                raise Fault(f"{path}: `{word.text}` speaks of {word.arity} things, and `ask` puts no more than {max(self.arities)} together")
+                raise Fault(f"{path}: `{word.text}` speaks of {word.arity} things, and `ask` puts no more than {max(self.arities)} together: "
+                            f"ask about `{ALL_OF[word.arity]}`, or, if it is known, write it on a line `known`")
 
     def _not_too_many(self) -> None:
         """At most 64 combined relations of each arity; else a fault that says which word to drop."""
@@ -341,10 +345,10 @@ class Vocabulary:
             who = " - ".join(self.case.things[thing].name for thing in sorted(rule.things))
             head = f"{self.case.path}: always: \"{rule.text}\" can't be learned: "
             if not around or (rule.word in self.case.words and tuple(sorted(rule.things)) == rule.things):
-                raise Fault(f"{head}`ask` doesn't put {who} together; add `{who}` to `ask`")
+                raise Fault(f"{head}`ask` doesn't put {who} together; add `{who}` to `ask`, or {NOT_ASKED}")
             if rule.word in self.case.words:
                 raise Fault(f"{head}words read things in the order of the case: {who}; add the word that says it so")
-            raise Fault(f"{head}`{rule.word.text}` isn't among the words; add it to `words`")
+            raise Fault(f"{head}`{rule.word.text}` isn't among the words; add it to `words`, or {NOT_ASKED}")
 
     def _around(self, things: tuple[int, ...]) -> list[tuple[int, ...]]:
         """The scopes that hold some things."""

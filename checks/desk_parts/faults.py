@@ -13,6 +13,9 @@ from vocabulary import Vocabulary
 WARD = "things: day Mon .. Sun x shift early late night\nvalues: Ann Ben Cas Dee Eve\n"
 ASK = "ask: same day\nwords: different\n"
 LIST = "things: maths english sport\nvalues: 1 .. 5\n"
+KNOWN = ", or write `known` in place of `always`: sample plans keep it then, and it isn't asked about"
+FORMS = ("`known: at most 2 of them V`, `at least`, `exactly`, `known: at most 2 alike`, each with `on same day`, `on all` or things behind it, "
+         "or a word as in `always`. What can't be looked for goes into a line `note`")
 REST = "ask: all\nwords: same\n"
 PLANTED = [
     ("synonyms.py", '(rf"(?:not|never|no) {THE_SAME} (.+)", r"different \\1"),', '(rf"(?:not|never|no) {THE_SAME} (.+)", r"same \\1"),'),
@@ -78,13 +81,23 @@ FAULTS = [
      ":4: the word `at least 2 apart` isn't in the catalogue; in a grid it is counted in a part: `at least 2 day apart`"),
     ("thing a: x y\nthing b: z\nwords: a=x not with b=zz\n", ":3: b has no value zz; the nearest is `z`"),
     ("thing a: x y\nthing b: z\nwords: a=x not with c=z\n", ":3: no such thing: c; there are a, b"),
-    (LIST + "ask: all\nwords: same, all three different\n", ": `all three different` speaks of 3 things, and `ask` puts no more than 2 together"),
+    (LIST + "ask: all\nwords: same, all three different\n", ": `all three different` speaks of 3 things, and `ask` puts no more than 2 together: "
+     "ask about `all triples`, or, if it is known, write it on a line `known`"),
     (LIST + "ask: all triples\nwords: four in order\n", ": `all triples` puts 3 things together, and no word speaks of so many; one that does is `all three different`"),
     (LIST + "ask: all\nwords: different\nplan: scops\n", ":5: no such plan: scops; there are scopes, quacq, multi"),
     (LIST + "ask: maths - english\nwords: different\nalways: different on maths - sport\n",
-     ": always: \"maths and sport differ\" can't be learned: `ask` doesn't put maths - sport together; add `maths - sport` to `ask`"),
+     ": always: \"maths and sport differ\" can't be learned: `ask` doesn't put maths - sport together; add `maths - sport` to `ask`"
+     + KNOWN),
     (LIST + "ask: all\nwords: different\nalways: same on maths - sport\n",
-     ": always: \"maths and sport are the same\" can't be learned: `same` isn't among the words; add it to `words`"),
+     ": always: \"maths and sport are the same\" can't be learned: `same` isn't among the words; add it to `words`" + KNOWN),
+    (LIST + "ask: all\nwords: different\nalways: not all three the same on all triples\n",
+     ": always: \"maths, english and sport aren't all the same\" can't be learned: `ask` doesn't put maths - english - sport together; "
+     "add `maths - english - sport` to `ask`" + KNOWN),
+    (LIST + "ask: all\nwords: different\nknown: nobody works on Sunday\n",
+     ":5: the word `nobody works` isn't in the catalogue; `desk words` lists all; what can't be looked for in a plan goes into a line `note`"),
+    (LIST + "ask: all\nwords: different\nknown: no long days\n", ":5: `no long days` can't be looked for in a plan: there are " + FORMS),
+    (LIST + "ask: all\nwords: different\nknown: at most two of them 9\nknown: at most 2 alike on maths - sprot\n",
+     ":5: no such value: 9\nit.case:6: `maths - sprot`: counted is `on all`, `on same day` or on things, as `on maths - sport`; the nearest is `sport`"),
     (LIST + "ask: all\nwords: before\nalways: before on sport - maths\n",
      ": always: \"sport is before maths\" can't be learned: words read things in the order of the case: maths - sport; add the word that says it so"),
     (LIST + "ask: all\nwords: different\nalways: different\n",

@@ -12,17 +12,19 @@ import random
 import shutil
 import stat
 import tempfile
+from collections.abc import Callable
 
 import hands        # desk's folder is on the path now
 import casefile
 import model
+import page
 import review
 import sentences
 import session
 import solver
 import talk
 
-SESSIONS = 5
+SESSIONS = 8
 SMALL = """title: Small
 things: day Mon Tue x shift early late night
 values: Ann Ben Cas
@@ -35,8 +37,25 @@ values: x y z
 ask: a-b-c, b-c-d
 words: all three different, not all three the same, at most one of three x
 """
+# what is known and isn't asked about, as a line of a case and as a test of a plan by names
+KNOWN = {
+    SMALL: ("known: at most one of them Cas on same day, exactly 2 of them Ben, at least 1 of them Ann on Tue\n",
+            lambda plan: all(sum(plan[f"{day} {shift}"] == "Cas" for shift in ("early", "late", "night")) <= 1 for day in ("Mon", "Tue"))
+            and list(plan.values()).count("Ben") == 2 and "Ann" in [plan[f"Tue {shift}"] for shift in ("early", "late", "night")]),
+    TRIO: ("known: at most two letters alike\nknown: different on a - d\n",
+           lambda plan: max(map(list(plan.values()).count, plan.values())) <= 2 and plan["a"] != plan["d"]),
+}
 
 PLANTED = [
+    # what is known isn't kept
+    ("solver.py", "    wanted = None if clauses is None else with_known(clauses, vocabulary)", "    wanted = clauses"),
+    ("solver.py", "at_least(literals, len(literals) - count.most, last)", "at_least(literals, len(literals) - count.most - 1, last)"),
+    ("solver.py", "at_least([-literal for literal in literals], count.least, last)", "at_least(literals, count.least, last)"),
+    ("solver.py", "    wanted = with_known(dataclasses.replace(clauses, clauses=clauses.clauses[:clauses.own]), vocabulary)",
+     "    wanted = dataclasses.replace(clauses, clauses=clauses.clauses[:clauses.own])"),
+    ("page.py", "*beside(session.case), ", ""),
+    ("counts.py", "0 if found[1] == \"at most\" else number, len(row) if", "0 if found[1] != \"at least\" else number, len(row) if"),
+    ("counts.py", "if thing.at[k] == member) for member in", "if thing.at[k] >= member) for member in"),
     # what a solver prints is shown unchecked
     ("solver.py", "    if reply.status != 0 or not reply.lines or not reply.lines[0].startswith(\"solution\"):\n        return None\n"
      "    return vocabulary.values_of(reply.lines[0].split()[1:])", "    return clauses.values(true)"),
@@ -49,7 +68,7 @@ def run(program: str) -> list[str]:
     """The faults that were found."""
     faults: list[str] = []
     installed = [name for name in solver.SOLVERS if shutil.which(name)]
-    counts = [0, 0]
+    counts = [0, 0, 0]      # plans, broken rules, sessions
     for turn in range(SESSIONS):
         for name in installed:
             faults += [f"plans: {name}, session {turn}: {fault}" for fault in one_session(program, turn, name, counts)]
@@ -66,9 +85,10 @@ def one_session(program: str, turn: int, name: str, counts: list[int]) -> list[s
     """The plans of one session."""
     draw = random.Random(turn)
     text = (SMALL, TRIO)[turn % 2]
+    line, keeps = KNOWN[text] if turn >= SESSIONS // 2 else ("", lambda plan: True)
     real, solver.name = solver.name, lambda: name
     try:
-        with hands.room("small", text) as path:
+        with hands.room("small", text + line) as path:
             case = casefile.read(path)
             rules = drawn_rules(draw, case)
             hands.answered(path, program, lambda q: not any(broken(rule, q) for rule in rules))
@@ -76,8 +96,14 @@ def one_session(program: str, turn: int, name: str, counts: list[int]) -> list[s
                 ending = one.state()
                 if ending.word != "converged":
                     return [f"ends {ending.word}"]
-                every = all_plans(one, ending.learned)
-                return far(one, every, counts) + alone(one, ending, every, counts)
+                def kept(plan: model.Values) -> bool:
+                    return keeps({case.things[thing].name: case.values[value] for thing, value in plan.items()})
+                counts[2] += 1
+                said = page.page(one, ending, None) if line and counts[2] == SESSIONS else ""
+                if said and not all(f"<li>{known.text}</li>" in said for known in case.known):
+                    return ["the page doesn't have what is known"]
+                every = [plan for plan in all_plans(one, ending.learned) if kept(plan)]
+                return far(one, every, counts) + alone(one, ending, every, counts, kept)
     finally:
         solver.name = real
 
@@ -128,11 +154,12 @@ def far(one: session.Session, every: list[model.Values], counts: list[int]) -> l
     return found
 
 
-def alone(one: session.Session, ending: model.Ending, every: list[model.Values], counts: list[int]) -> list[str]:
-    """A plan for each rule that can be broken alone, and none else."""
+def alone(one: session.Session, ending: model.Ending, every: list[model.Values], counts: list[int],
+          kept: Callable[[model.Values], bool]) -> list[str]:
+    """A plan for each rule that can be broken alone, while what is known is kept, and none else."""
     said = sentences.grouped(one.vocabulary, ending.learned, one.reduced())
     rules = [rule for sentence in said for rule in sentence.rules]
-    plans = [dict(enumerate(some)) for some in itertools.product(*(thing.allowed for thing in one.case.things))]
+    plans = [plan for some in itertools.product(*(thing.allowed for thing in one.case.things)) if kept(plan := dict(enumerate(some)))]
     found = []
     for rule in rules:
         counts[1] += 1
