@@ -13,6 +13,7 @@ from types import FrameType
 import beforehand
 import casefile
 import end
+import streams
 import trials
 import views
 from face import Face, Sheet, patience
@@ -45,6 +46,7 @@ always a no; how often they did since the last question stands below the questio
 def main(path: str, options: argparse.Namespace) -> int:
     """Puts the questions of a case; the status to end with."""
     case = casefile.read(path)
+    streams.can_show(case)
     program = Program.found(options.acquire)
     before = {number: signal.signal(number, _hung_up) for number in (signal.SIGTERM, signal.SIGHUP)}
     face = face_for(options.plain)
@@ -52,11 +54,15 @@ def main(path: str, options: argparse.Namespace) -> int:
         face.wait("opening the session; for a new one the best way of asking is looked for ..")
         clock = Clock(trials.SECONDS_AT_FIRST if options.seconds is None else options.seconds, moving(face))
         with Session.opened(case, program, options.plan, options.budget, clock=clock) as session:
-            ending = asked(session, face)
-            face.close()
-            end.print_last(session, ending, not face.stays)
-            if session.against():
-                print(beforehand.text(session))
+            try:
+                ending = asked(session, face)
+                face.close()
+                end.print_last(session, ending, not face.stays)
+                if session.against():
+                    print(beforehand.text(session))
+                sys.stdout.flush()
+            except Exception as error:
+                raise Fault(f"{streams.reason(error)}; {kept(session)}") from error
             return STATUS["suspended"] if ending is None else STATUS.get(ending.word, 1)
     except KeyboardInterrupt:
         return STATUS["suspended"]
@@ -64,6 +70,17 @@ def main(path: str, options: argparse.Namespace) -> int:
         face.close()
         for number, handler in before.items():
             signal.signal(number, handler)
+
+
+def kept(session: Session) -> str:
+    """How many answers are kept: those that the program itself has in the journal once it has ended."""
+    given = len(session.answers)
+    try:
+        session.reload()
+    except Fault:
+        return f"what is kept stands in {session.journal}"
+    stand = len(session.answers)
+    return "all answers are kept" if stand >= given else f"{stand} of {given} answers are kept"
 
 
 def moving(face: Face) -> Callable[[str], None]:

@@ -18,12 +18,13 @@ from collections.abc import Callable, Iterator, Sequence
 import casefile
 import files
 import handover
+import streams
 from files import journal_of, kept_of
 from foreseen import CARRIED, Foreseen
 from model import Case, Fault
 from picture import Picture, sentence
 from session import Named, Session, given_back, head_of, locked, named, old_answers, read_kept, said_by
-from talk import Program, is_question
+from talk import Program
 from vocabulary import Vocabulary
 
 FOUND = ("converged", "collapsed", "undecided", "suspended")    # how a run ends that nothing broke off
@@ -33,6 +34,7 @@ def main(old: str, new: str | None, options: argparse.Namespace) -> int:
     """Carries answers over, and says what came of it; the exit status."""
     program = Program.found(options.acquire)
     case = casefile.read(new or old)
+    streams.can_show(case)
     Vocabulary(case)        # a new case that the program can't take is refused before anything is made
     journal = journal_of(case.path)
     to_itself = os.path.realpath(journal) == os.path.realpath(journal_of(old))
@@ -93,13 +95,10 @@ def answers_of(path: str, program: Program) -> list[Named]:
         raise Fault(said_by(journal, reply.status, reply.text))
     found = [named(words.case, dict(one.values), one.yes, CARRIED) for one in foreseen.before
              if one.yes or foreseen.violated(dict(one.values)) is None]
-    for line in reply.lines:
-        head, *tokens = line.split()
-        if is_question(head):
-            values, yes = words.values_of(tokens[:-1]), tokens[-1] == "yes"
-            known = foreseen.answer(values)
-            if known is None or known.yes != yes:
-                found.append(named(words.case, values, yes, CARRIED))
+    for question, yes in filter(None, map(words.answered, reply.lines)):
+        known = foreseen.answer(question.values)
+        if known is None or known.yes != yes:
+            found.append(named(words.case, question.values, yes, CARRIED))
     return list({repr(one): one for one in found}.values())
 
 

@@ -16,6 +16,7 @@ from collections.abc import Iterable, Iterator, Sequence
 import casefile
 import plain
 import solver
+import streams
 import trials
 import vocabulary
 from along import and_list
@@ -55,6 +56,7 @@ class Moving:
 def main(path: str, options: argparse.Namespace) -> int:
     """Prints it all; the exit status."""
     case = casefile.read(path)
+    streams.can_show(case)
     program = Program.found(options.acquire)
     words = vocabulary.build(case)
     width = min(shutil.get_terminal_size((100, 24)).columns, 100)
@@ -231,7 +233,7 @@ def plans_of(words: Vocabulary, program: Program, network: Sequence[Sequence[str
             except Late:
                 return []
             if reply.status:
-                raise Fault(f"{words.case.path}: acquire says: {reply.text.strip()}")
+                raise Fault(f"{words.case.path}: acquire says: {reply.said}")
         return solver.plans(program, words, made, most, clock)
 
 

@@ -9,10 +9,12 @@ import re
 import secrets
 import stat
 from collections.abc import Callable, Iterator, Mapping
+from typing import BinaryIO
 
 from model import Fault
 
 HEAD = 65_536       # so many bytes of a file are looked at to see what it is
+KINDS = {stat.S_IFDIR: "a folder", stat.S_IFIFO: "a pipe", stat.S_IFCHR: "a device", stat.S_IFBLK: "a device", stat.S_IFSOCK: "a socket"}
 
 
 def journal_of(path: str) -> str:
@@ -32,6 +34,21 @@ def told(path: str) -> Iterator[None]:
         yield
     except OSError as error:
         raise Fault(f"{path}: {error.strerror or error}") from None
+
+
+def opened(path: str) -> BinaryIO:
+    """A file to read; a fault where it can't be, and where it is none, as a pipe, at which one would wait."""
+    with told(path):
+        return os.fdopen(only_file(os.open(path, os.O_RDONLY | os.O_NONBLOCK | os.O_NOCTTY), path), "rb")
+
+
+def only_file(handle: int, path: str) -> int:
+    """The same open file; it is closed, and a fault told, where it is something else."""
+    kind = stat.S_IFMT(os.fstat(handle).st_mode)
+    if kind != stat.S_IFREG:
+        os.close(handle)
+        raise Fault(f"{path} is {KINDS.get(kind, 'no file')}, and a file is due there")
+    return handle
 
 
 def write(path: str, content: bytes) -> None:

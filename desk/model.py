@@ -10,6 +10,8 @@ from __future__ import annotations
 from collections.abc import Callable
 from dataclasses import dataclass, field
 
+import letters
+
 PLANS = ("scopes", "quacq", "multi")
 MOST_VALUES = 64        # of the program: values, and combined relations of an arity
 MOST_RELATIONS = 64
@@ -19,11 +21,14 @@ Values = dict[int, int]
 
 
 class Fault(Exception):
-    """What the person has to mend; each text is one thing, for them, and begins with file and line where there are some."""
+    """What the person has to mend; each text is one thing, for them, and begins with file and line where there are some.
+
+    Each is a line that may be printed, whatever stands in the file that it is about.
+    """
 
     def __init__(self, *texts: str) -> None:
-        super().__init__("\n".join(texts))
-        self.texts = texts
+        self.texts = tuple(letters.shown("; ".join(text.split("\n"))) for text in texts)
+        super().__init__("\n".join(self.texts))
 
 
 @dataclass(frozen=True)

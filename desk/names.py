@@ -19,6 +19,7 @@ SEQUENCES = (
     "Mo Di Mi Do Fr Sa So",
     "Montag Dienstag Mittwoch Donnerstag Freitag Samstag Sonntag",
 )
+MOST_FILLED = 200       # names; a case has at most 128 things and 64 values
 GERMAN = str.maketrans({"ä": "ae", "ö": "oe", "ü": "ue", "Ä": "Ae", "Ö": "Oe", "Ü": "Ue", "ß": "ss"})
 
 
@@ -119,7 +120,7 @@ def _of_a_kind(one: str, other: str) -> bool:
 def filled(piece: str) -> list[str]:
     """One piece between commas: a name, or a range."""
     ends = [end.strip() for end in piece.split("..")]
-    return between(*ends) if len(ends) == 2 else [checked(piece)]
+    return [checked(name) for name in (between(*ends) if len(ends) == 2 else [piece])]
 
 
 def checked(name: str) -> str:
@@ -129,8 +130,6 @@ def checked(name: str) -> str:
     for sign in '=,"':
         if sign in name:
             raise Fault(f"`{name}`: a name has no `{sign}` in it")
-    if any(unicodedata.category(letter).startswith("C") for letter in name):
-        raise Fault(f"`{name!r}`: a name has letters that can be seen alone")
     return name
 
 
@@ -141,12 +140,22 @@ def between(first: str, last: str) -> list[str]:
         if first in row and last in row and row.index(first) <= row.index(last):
             return row[row.index(first):row.index(last) + 1]
     one, other = (re.fullmatch(r"(.*?)(\d{1,6})", end) for end in (first, last))
-    if one and other and one[1] == other[1] and 0 <= int(other[2]) - int(one[2]) < 200:
+    if one and other and one[1] == other[1] and int(one[2]) <= int(other[2]):
+        numbers = range(int(one[2]), int(other[2]) + 1)
         width = len(one[2]) if one[2].startswith("0") else 1
-        return [one[1] + str(number).zfill(width) for number in range(int(one[2]), int(other[2]) + 1)]
-    if len(first) == len(last) == 1 and first.isalpha() and last.isalpha() and first.isupper() == last.isupper() and first <= last:
-        return [chr(code) for code in range(ord(first), ord(last) + 1)]
+        return [one[1] + str(number).zfill(width) for number in few(numbers, first, last)]
+    if len(first) == len(last) == 1 and first.isalpha() and last.isalpha() and first <= last:
+        letters = [chr(code) for code in few(range(ord(first), ord(last) + 1), first, last)]
+        if all(letter.isalpha() and letter.isupper() == first.isupper() for letter in letters):
+            return letters
     raise Fault(f"`{first} .. {last}` can't be filled in: write the names out, or count days, months, numbers or letters upwards")
+
+
+def few(numbers: range, first: str, last: str) -> range:
+    """The numbers that stand for a range of names; a fault where they are more than any case has names."""
+    if len(numbers) > MOST_FILLED:
+        raise Fault(f"`{first} .. {last}` are {len(numbers)} names, and `..` fills in {MOST_FILLED} at most: a case has fewer")
+    return numbers
 
 
 def told_apart(text: str, known: Sequence[str], what: str) -> list[str]:

@@ -2,8 +2,10 @@
 
 from __future__ import annotations
 
+import contextlib
 import locale
 import sys
+import termios
 import time
 from collections.abc import Iterator
 from dataclasses import dataclass, replace
@@ -50,8 +52,9 @@ class Screen:
         """Leaves the terminal as it was."""
         if not self.closed:
             self.closed = True
-            self._leave()
-            self.keyboard.__exit__()
+            with contextlib.suppress(OSError, termios.error):       # the terminal may be gone
+                self._leave()
+                self.keyboard.__exit__()
 
     def _enter(self) -> None:
         """On to the screen that is drawn on."""

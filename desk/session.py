@@ -19,13 +19,14 @@ from typing import TypedDict
 import casefile
 import files
 import handover
+import letters
 import trials
 import vocabulary
 from files import journal_of, kept_of
 from foreseen import AGAIN, CARRIED, Foreseen, Old, old
 from model import Answer, Case, Constraint, Ending, Fault, Question, Rule, Values
 from possible import Possible
-from talk import Clock, Program, Run, is_question
+from talk import Clock, Program, Reply, Run, is_question, something_else
 
 PLAN_OF_BYTE = {1: "scopes", 2: "quacq", 3: "multi"}
 FIRST_GATE = 8          # the place in a journal behind which its vocabulary stands
@@ -52,7 +53,7 @@ def head_of(journal: str) -> tuple[str, bytes] | None:
 
     By the form of journals: a magic of 8 bytes, a gate, a kind, a length of 4 bytes, the plan, the vocabulary.
     """
-    with open(journal, "rb") as file:
+    with files.opened(journal) as file:
         head = file.read(15)
         if len(head) < 15 or head[8] != 1:
             return None
@@ -62,11 +63,11 @@ def head_of(journal: str) -> tuple[str, bytes] | None:
 def read_kept(journal: str) -> Kept | None:
     """What desk keeps beside a journal; None where it isn't there."""
     path = kept_of(journal)
-    try:
-        with open(path, encoding="utf-8") as file:
-            kept = json.load(file)
-    except FileNotFoundError:
+    if not os.path.lexists(path):
         return None
+    try:
+        with files.opened(path) as file:
+            kept = json.loads(file.read().decode())
     except (OSError, ValueError, RecursionError) as error:
         raise Fault(f"{path} can't be read: {error}. {BACK}") from None
     if not isinstance(kept, dict) or not isinstance(kept.get("case"), str) or not isinstance(kept.get("before"), list) \
@@ -103,7 +104,7 @@ def old_answers(case: Case, some: Sequence[Named]) -> list[Old]:
     for one in some:
         values: Values = {}
         for name, label in one["values"].items():
-            thing, value = thing_of.get(name), value_of.get(label)
+            thing, value = thing_of.get(letters.composed(name)), value_of.get(letters.composed(label))
             if thing is not None and value is not None and value in thing.allowed:
                 values[thing.place] = value
         if values and (one["yes"] or len(values) == len(one["values"])):
@@ -210,7 +211,8 @@ class Session:
         kept = read_kept(self.journal)
         difference = None
         if kept is not None:
-            difference = changed(casefile.parse(kept["case"], self.case.path), casefile.parse(self.case.text, self.case.path))
+            began = casefile.parse(kept["case"], f"{kept_of(self.journal)}, the text of the case in it")
+            difference = changed(began, casefile.parse(self.case.text, self.case.path))
         if difference is None and text != self.vocabulary.json.encode():
             difference = "it is said to the program in another way"
         if difference is not None:
@@ -247,10 +249,11 @@ class Session:
         lines = self._shown()
         self.answers = []
         self.possible = Possible(self.vocabulary, self.plan)
-        for line in lines:
-            head, *tokens = line.split()
-            if is_question(head):
-                self.added(Question(int(head[1:]), self.vocabulary.values_of(tokens[:-1])), tokens[-1] == "yes")
+        for said in map(self.vocabulary.answered, lines):
+            if said is not None:
+                self.added(*said)
+        if f"answers {len(self.answers)}" not in lines:
+            raise something_else(f"{len(self.answers)} answers without their count")
 
     def added(self, question: Question, yes: bool, by_person: bool = False) -> Answer:
         """An answer that stands now. Where it isn't known who gave it, it counts as given for the person if it is foreseen."""
@@ -298,7 +301,7 @@ class Session:
     def state(self) -> Ending:
         """Where the session stands; `suspended` where a question is open."""
         reply = self.program.call([self.journal, "run", *self.budget_words()])
-        return ending_of(self.vocabulary, [line for line in reply.lines if not is_question(line.split()[0])], reply.status)
+        return ending_of(self.vocabulary, reply.lines, reply.status)
 
     def sit(self) -> Sitting:
         """A sitting in front of it."""
@@ -345,9 +348,8 @@ class Sitting:
         if self._run is None:
             return False
         line = self._run.line()
-        head, *tokens = line.split() or [""]
-        if is_question(head):
-            self.question = Question(int(head[1:]), self.session.vocabulary.values_of(tokens))
+        self.question = self.session.vocabulary.asked(line)
+        if self.question is not None:
             return True
         self._ended([line] if line else [])
         return False
@@ -359,7 +361,7 @@ class Sitting:
         lines = lines + self._run.rest()
         status = self._run.close()
         self._run = None
-        self.ending = ending_of(self.session.vocabulary, [line for line in lines if not is_question(line.split()[0])], status)
+        self.ending = ending_of(self.session.vocabulary, lines, status)
         if self.ending.word == "failed":
             self.session.reload()
 
@@ -430,10 +432,11 @@ class Sitting:
             self._run = None
 
 
-def ending_of(words: vocabulary.Vocabulary, lines: Sequence[str], status: int) -> Ending:
-    """How a run has ended, from its closing lines."""
+def ending_of(words: vocabulary.Vocabulary, printed: Sequence[str], status: int) -> Ending:
+    """How a run has ended, from its closing lines; questions before them don't count."""
+    lines = [line for line in printed if not is_question(line.split(" ", 1)[0])]
     head = lines[0].split() if lines else []
-    if len(head) == 2 and head[0] in ("converged", "collapsed", "undecided", "suspended"):
+    if len(head) == 2 and head[0] in ("converged", "collapsed", "undecided", "suspended") and head[1].isdecimal():
         learned = tuple(words.constraint(line) for line in lines[1:] if not line.startswith("open "))
         left = tuple(words.constraint(line.removeprefix("open ")) for line in lines[1:] if line.startswith("open "))
         return Ending(head[0], int(head[1]), learned, left, status)
@@ -442,11 +445,9 @@ def ending_of(words: vocabulary.Vocabulary, lines: Sequence[str], status: int) -
 
 def said_by(journal: str, status: int, text: str) -> str:
     """What the program said, for people."""
-    reasons = {8: "its input failed", 9: "its output failed", 10: "the file may not be read and written, or the disk is full", 11: "memory was wanting"}
     if status < 0:
         return f"{journal}: acquire was ended by signal {-status}; the answers are kept"
-    lines = text.strip().splitlines()
-    said = lines[-1] if lines else reasons.get(status, f"status {status}")
+    said = Reply(status, text).said
     return f"{journal}: acquire says: {said}{_remedy(journal, said)}"
 
 
@@ -485,11 +486,11 @@ def locked(journal: str) -> int:
 def _opened(journal: str) -> int:
     """The journal, which is made where there is none, for writing where that may be."""
     try:
-        return os.open(journal, os.O_RDWR | os.O_CREAT, 0o666)
+        return files.only_file(os.open(journal, os.O_RDWR | os.O_CREAT | os.O_NONBLOCK, 0o666), journal)
     except OSError as error:
         if isinstance(error, PermissionError):
             with contextlib.suppress(OSError):
-                return os.open(journal, os.O_RDONLY)
+                return files.only_file(os.open(journal, os.O_RDONLY | os.O_NONBLOCK), journal)
         raise Fault(f"{journal}: {error.strerror}") from None
 
 

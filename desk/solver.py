@@ -10,19 +10,19 @@ from __future__ import annotations
 import dataclasses
 import itertools
 import os
+import re
 import shutil
-import subprocess
 import tempfile
 from collections.abc import Iterable, Sequence
 from dataclasses import dataclass
 
 from model import Count, Rule, Values
-from talk import Clock, Late, Program
+from talk import Clock, Endless, Late, Program, called, something_else
 from vocabulary import Vocabulary
 
 # the words behind a solver's name; minisat writes its model to a file, the others print it
 SOLVERS = {"cadical": ("-q",), "minisat": ("-verb=0",), "clasp": ("--verbose=0",)}
-SATISFIABLE = 10
+SATISFIABLE = (10, 30)      # clasp says 30 where it has found all
 SECONDS = 5.0               # for one call
 MOST_LITERALS = 4_000_000   # of all clauses together; above it no solver is asked
 
@@ -64,11 +64,14 @@ def clauses_of(program: Program, vocabulary: Vocabulary, journal: str, clock: Cl
     number: dict[tuple[int, int], int] = {}
     found: list[Clause] = []
     for line in reply.lines:
-        words = line.split()
-        if words[0] == "c":
-            number[next(iter(vocabulary.values_of([words[1]]).items()))] = int(words[2])
-        elif words[0] != "p":
-            found.append(tuple(map(int, words[:-1])))
+        head, *words = line.split() or [""]
+        try:
+            if head == "c":
+                number[next(iter(vocabulary.values_of(words[:1]).items()))] = int(words[1])
+            elif head != "p":
+                found.append(tuple(map(int, [head, *words[:-1]])))
+        except (IndexError, StopIteration, ValueError):
+            raise something_else(f"`{line}`") from None
     things = {thing for thing, _ in number}
     sizes = [sum(thing == other for other, _ in number) for thing in things]
     return Clauses(number, len(number), tuple(found), len(things) + sum(size * (size - 1) // 2 for size in sizes))
@@ -87,21 +90,19 @@ def solved(count: int, clauses: Sequence[Clause], clock: Clock | None = None) ->
             file.writelines(" ".join(map(str, clause)) + " 0\n" for clause in clauses)
         words = [solver, *SOLVERS[solver], given, *([made] if solver == "minisat" else [])]
         try:
-            ran = subprocess.run(words, capture_output=True, text=True, check=False, stdin=subprocess.DEVNULL, timeout=seconds)
-        except (subprocess.TimeoutExpired, OSError):
+            status, printed = called(words, clock=Clock(seconds))
+            if solver == "minisat" and status in SATISFIABLE:
+                with open(made, "rb") as model:
+                    printed = model.read()
+        except (Late, Endless, OSError):
             return None
-        if ran.returncode % 20 != SATISFIABLE:      # clasp says 30 where it has found all
-            return None
-        if solver == "minisat":
-            with open(made, encoding="ascii") as file:
-                return _true(file.read())
-        return _true(ran.stdout)
+        return _true(printed) if status in SATISFIABLE else None
 
 
-def _true(text: str) -> set[int]:
-    """The positive numbers of a solver's model."""
-    lines = [line.split() for line in text.splitlines() if line[:1] not in ("c", "s", "S", "U")]
-    return {int(word) for words in lines for word in words if word.isdigit() and word != "0"}
+def _true(printed: bytes) -> set[int]:
+    """The positive numbers of a solver's model; what else it prints is passed over."""
+    lines = [line.split() for line in printed.decode(errors="replace").splitlines() if line[:1] not in ("c", "s", "S", "U")]
+    return {int(word) for words in lines for word in words if re.fullmatch("[1-9][0-9]{0,8}", word)}
 
 
 def checked(program: Program, vocabulary: Vocabulary, journal: str, clauses: Clauses, true: set[int],

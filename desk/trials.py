@@ -19,7 +19,7 @@ from dataclasses import dataclass, field
 from foreseen import Foreseen
 from model import PLANS, Case, Fault, Rule, Values
 from possible import Possible
-from talk import Clock, Late, Program, Run, is_question
+from talk import Clock, Late, Program, Run, is_question, something_else
 from vocabulary import Vocabulary
 
 MOST_TRIALS = 12
@@ -196,16 +196,19 @@ def played(words: Vocabulary, program: Program, plan: str, network: Drawn, clock
         journal = os.path.join(folder, "trial.journal")
         made = program.call([journal, "new", "--plan", plan], words.json.encode(), clock)
         if made.status:
-            raise Fault(f"{words.case.path}: acquire says: {made.text.strip()}")
+            raise Fault(f"{words.case.path}: acquire says: {made.said}")
         reply = program.call([journal, "play"], network_text(words, network), clock)
     if reply.status not in (0, 5):
-        raise Fault(f"{words.case.path}: acquire says: {reply.text.strip()}")
-    return [line for line in reply.lines if is_question(line.split(" ", 1)[0])]
+        raise Fault(f"{words.case.path}: acquire says: {reply.said}")
+    asked = [line for line in reply.lines if is_question(line.split(" ", 1)[0])]
+    if reply.lines[len(asked):len(asked) + 1] not in ([f"converged {len(asked)}"], [f"undecided {len(asked)}"]):
+        raise something_else(f"{len(asked)} questions without an end")
+    return asked
 
 
 def own_of(words: Vocabulary, lines: Sequence[str], foreseen: Foreseen) -> list[Values]:
     """The questions of some lines that are put to the person, since no rule said beforehand answers them."""
-    asked = (words.values_of(line.split()[1:-1]) for line in lines)
+    asked = (question.values for question, _ in filter(None, map(words.answered, lines)))
     return [values for values in asked if foreseen.violated(values) is None]
 
 
@@ -214,8 +217,8 @@ def slipped(words: Vocabulary, program: Program, plan: str, network: Drawn, slip
     run = Run(program, [":memory:", "try", "--plan", plan], given=words.json.encode() + b"\n", clock=clock)
     own = 0
     try:
-        while is_question((line := run.line()).split(" ")[0]):
-            values = words.values_of(line.split()[1:])
+        while (question := words.asked(line := run.line())) is not None:
+            values = question.values
             yes = accepts(words, network, values)
             if foreseen.violated(values) is None:
                 yes ^= own == slip

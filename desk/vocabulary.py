@@ -18,7 +18,8 @@ import coding
 import names
 from closing import Closing, Relation
 from coding import MOST_BY_ARITY, Coding
-from model import MOST_RELATIONS, Case, Constraint, Fault, Group, Rule, Values, Word
+from model import MOST_RELATIONS, Case, Constraint, Fault, Group, Question, Rule, Values, Word
+from talk import is_question, something_else
 
 MOST_SCOPES = 8192          # of the program
 MOST_BYTES = 4_194_304      # of the program
@@ -73,12 +74,27 @@ class Vocabulary:
         return [f"{self.names[thing]}={self.number(thing, value)}" for thing, value in sorted(values.items())]
 
     def values_of(self, tokens: list[str]) -> Values:
-        """The way back."""
+        """The way back; a fault where a token isn't one that the program has."""
         found = {}
         for token in tokens:
             name, _, number = token.rpartition("=")
+            if name not in self._place or not number.isdecimal() or not 1 <= int(number) <= self.coding.size:
+                raise something_else(f"`{token}`")
             found[self._place[name]] = self.coding.value_of[int(number) - 1]
         return found
+
+    def asked(self, line: str) -> Question | None:
+        """The question of a line, without an answer behind it; None of another line."""
+        head, *tokens = line.split() or [""]
+        return Question(int(head[1:]), self.values_of(tokens)) if is_question(head) else None
+
+    def answered(self, line: str) -> tuple[Question, bool] | None:
+        """The question of a line and the answer behind it; None of another line."""
+        head, _, answer = line.rpartition(" ")
+        question = self.asked(head)
+        if question is not None and answer not in ("yes", "no"):
+            raise something_else(f"`{line}`")
+        return None if question is None else (question, answer == "yes")
 
     def number(self, thing: int, value: int) -> int:
         """The program's number for a value of a thing."""
@@ -86,8 +102,11 @@ class Vocabulary:
 
     def constraint(self, line: str) -> Constraint:
         """A learned line."""
-        head, *variables = line.split()
-        return Constraint(line, tuple(self._place[name] for name in variables), tuple(head.split("&")))
+        head, *variables = line.split() or [""]
+        names_of = tuple(head.split("&"))
+        if not all(name in self._place for name in variables) or not all((len(variables), name) in self._by_name for name in names_of):
+            raise something_else(f"`{line}`")
+        return Constraint(line, tuple(self._place[name] for name in variables), names_of)
 
     def table(self, constraint: Constraint) -> int:
         """What a constraint accepts, within the ranges of its things."""

@@ -63,7 +63,7 @@ FAULTS = [
     ("things: a b a\nvalues: 1 2\n" + REST, ":1: the thing `a` stands twice"),
     ("things: a b\nvalues: 1 2 1\n" + REST, ":2: the value `1` stands twice"),
     ("things: a b\nvalues: 1 .. 65\n" + REST, ":2: there are 65 values, and the program takes 64: leave some out, or split the case"),
-    ("things: 1 .. 129\nvalues: a b\n" + REST, ":2: there are 129 things; the program takes 128"),
+    ("things: 1 .. 129\nvalues: a b\n" + REST, ":1: there are 129 things, and the program takes 128: leave some out, or split the case"),
     ("things: day Mon Tue x shift\nvalues: a\n" + REST, ":1: a side of a grid is its name and its members, as `day Mon Tue`; `shift` has no members"),
     ("things: day Mon .. Foo x shift a b\nvalues: c\n" + REST, ":1: `Mon .. Foo` can't be filled in: write the names out, or count days, months, numbers or letters upwards"),
     ("things: a=b c\nvalues: d e\n" + REST, ":1: `a=b`: a name has no `=` in it"),

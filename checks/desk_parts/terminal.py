@@ -37,7 +37,7 @@ PLANTED = [
     # the guard is off
     ("keys.py", "now - shown >= GUARD", "now - shown >= 0"),
     # the terminal isn't put back
-    ("screen.py", "            self.keyboard.__exit__()\n", ""),
+    ("screen.py", "                self.keyboard.__exit__()\n", ""),
     # yes is taken before all pages were seen
     ("screen.py", "if key in sheet.whole and not all_seen:", "if False:"),
 ]
