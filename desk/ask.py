@@ -32,10 +32,11 @@ whether the empty places can be filled as well isn't asked.
 
 y  yes, it is all right
 n  no, it isn't, whatever stands in the empty places
-b  back: takes your last answer back, and shows that question again
+b  back: takes your last answer back, and shows that question again. Pressed again, it takes the one before back as well, and what you \
+said later counts again where it decides a question
 w  why: which rules a yes rules out
-r  rules so far, and what is odd about them
-s  all answers so far
+r  rules so far, and what is odd about them; letters lead to the answers behind them, and back to one
+s  all answers so far, and by letters back to any of them
 q  stop. Nothing is lost, and the next `desk ask` goes on from here
 ?  this help
 
@@ -156,13 +157,12 @@ class Asking:
             self._back()
         elif key == "q":
             self.sitting.stop()
-        elif key == "r":
-            sheet, choice = views.rules(self.session)
-            place = choice.sure(self.face, self.face.put(sheet))
+        elif key in ("r", "s"):
+            place = (views.rules if key == "r" else views.answers)(self.session, self.face)
             if place is not None:
                 self._back_to(place)
         else:
-            self.face.put(self._view(key, question))
+            self.face.put(views.why(self.session, question) if key == "w" else Sheet("Help", tuple(HELP.split("\n"))))
 
     def _advance(self) -> None:
         """On to the next question for the person."""
@@ -174,7 +174,8 @@ class Asking:
         """Takes the person's last answer back."""
         last = next((answer for answer in reversed(self.session.answers) if answer.said is None), None)
         if last is None or not self.sitting.back():
-            self.note = "There is no answer of yours to take back."
+            self.note = "There is no answer of yours to take back; s leads to those that were given again." if self.session.answers else \
+                "There is no answer of yours to take back."
             return
         self.before, self.taught = None, ""
         self.note = f"Your {'yes' if last.yes else 'no'} to question {last.question.number} is taken back; here it comes again."
@@ -186,14 +187,6 @@ class Asking:
         self.before, self.taught = None, ""
         self.note = (f"Your {'yes' if answer.yes else 'no'} to question {answer.question.number} is taken back. "
                      "Your later answers count again where they decide a question.")
-
-    def _view(self, key: str, question: Question) -> Sheet:
-        """What w, s and ? show."""
-        if key == "w":
-            return views.why(self.session, question)
-        if key == "s":
-            return views.answers(self.session)
-        return Sheet("Help", tuple(HELP.split("\n")))
 
     # ---- how a question looks
 

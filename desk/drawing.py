@@ -17,11 +17,12 @@ from rich.table import Table
 from rich.text import Text
 
 from model import Case, Values
-from picture import ASKED, CHANGED, CLASH, EMPTY, Cell, Grid, Picture, grid_of, shape
+from picture import ASKED, CHANGED, CHOSEN, CLASH, EMPTY, KEPT, Cell, Grid, Picture, grid_of, shape
 
 Lines = list[list[Segment]]
 
-STYLE = {CHANGED: "bold black on bright_yellow", CLASH: "bold white on red", ASKED: "bold", EMPTY: "dim", "": ""}
+STYLE = {CHANGED: "bold black on bright_yellow", CLASH: "bold white on red", KEPT: "bold black on bright_green",
+         CHOSEN: "bold white on red", ASKED: "bold", EMPTY: "dim", "": ""}
 
 
 def utf8(console: Console) -> bool:

@@ -103,7 +103,7 @@ def page(session: Session, ending: Ending, certificate: Certificate | None) -> s
     """The whole page."""
     done = ending.word == "converged"
     learned = ending.learned if done else () if ending.word == "collapsed" else tuple(session.learned())
-    found = grouped(session.vocabulary, learned, session.reduced() if done else None)
+    found = grouped(session.vocabulary, learned, session.reduced() if done else None, session.answers)
     ruled = () if ending.word == "collapsed" else (section("The rules" if done else "Rules so far", *rules(found)),
                                                    *beside(session.case), *(plans(session, found) if done else ()), *pattern_view(session))
     body = joined(element("h1", session.case.title), element("p", state_text(session, ending), class_="dim"), *ruled, answers(session),
@@ -180,8 +180,8 @@ def plans(session: Session, found: Sequence[Sentence]) -> Iterator[Html]:
         else:
             broken.append(drawn(session, one.values, f"Refused: {one.rule.text}", one.marks))
     if broken:
-        hint = element("p", "Each of these plans breaks one rule, in the marked cells, and keeps all others. If one is right, an answer was a slip.",
-                       class_="dim")
+        hint = element("p", "Each of these plans breaks one rule, in the marked cells, and keeps all others. If one is right, an answer was a slip, "
+                       "or the words of the case can't say why.", class_="dim")
         yield section("What each rule alone refuses", hint, element("div", *broken, class_="side"))
     if without:
         yield section("Rules that no plan was found to break alone", element("ul", *without, class_="rules"))
@@ -243,7 +243,8 @@ def pattern_view(session: Session) -> Iterator[Html]:
         lines = [element("tr", element("th", row.name, scope="row"), *(pattern_cell(row, member) for member in range(len(members))))
                  for row in mine]
         tables.append(element("table", element("thead", head), element("tbody", *lines), class_="plan pattern"))
-    hint = element("p", "A marked cell is other than most of its row. That may be right; if it isn't, an answer was a slip.", class_="dim")
+    hint = element("p", "A marked cell is other than most of its row. That may be right; if it isn't, an answer was a slip, or the words "
+                   "of the case can't say it.", class_="dim")
     yield section("The rules along the grid", hint, *(element("div", one, class_="wide") for one in tables))
 
 

@@ -15,8 +15,10 @@ from model import Case, Values
 CHANGED = "changed"         # since the last question
 CLASH = "clash"             # one of the cells that break a rule
 LEFT_OUT = "left out"       # filled in at the last question, and empty now
+KEPT = "kept"               # one of the cells that a rule is about, and that keep it
+CHOSEN = "chosen"           # pointed at by the person
 
-SUFFIX = {CHANGED: "*", CLASH: "!"}
+SUFFIX = {CHANGED: "*", CLASH: "!", KEPT: "+", CHOSEN: "!"}
 ASKED = "asked"             # in a part of a plan, what has a value
 EMPTY = "empty"
 
@@ -28,6 +30,7 @@ class Picture:
     case: Case
     values: Values
     marks: Mapping[int, str] = field(default_factory=dict)
+    letters: Mapping[int, str] = field(default_factory=dict)    # keys by which things can be pointed at
 
     @property
     def part(self) -> bool:
@@ -35,8 +38,13 @@ class Picture:
         return len(self.values) < len(self.case.things)
 
     def label(self, thing: int) -> str:
-        """The value of a thing, with the letter of its mark."""
-        return self.case.label(self.values[thing]) + SUFFIX.get(self.marks.get(thing, ""), "")
+        """The value of a thing, with its key and the letter of its mark."""
+        return self.called(thing, self.case.label(self.values[thing]))
+
+    def called(self, thing: int, text: str) -> str:
+        """What stands for a thing, with its key in front and the letter of its mark behind."""
+        key = f"{self.letters[thing]}) " if thing in self.letters else ""
+        return key + text + SUFFIX.get(self.marks.get(thing, ""), "")
 
     def kind(self, thing: int) -> str:
         """How the value of a thing is drawn. In a full plan only what has a mark is drawn otherwise than the rest."""
@@ -108,7 +116,7 @@ def value_cells(picture: Picture, empty: str) -> dict[tuple[int, ...], Cells]:
     cells: dict[tuple[int, ...], Cells] = {}
     for value in range(len(case.values)):
         mine = [thing for thing in case.things if picture.values.get(thing.place) == value]
-        named = tuple(Cell(thing.name + SUFFIX.get(picture.marks.get(thing.place, ""), ""), picture.kind(thing.place)) for thing in mine)
+        named = tuple(Cell(picture.called(thing.place, thing.name), picture.kind(thing.place)) for thing in mine)
         cells[case.value_at(value)] = named or (Cell(empty, EMPTY),)
     return cells
 

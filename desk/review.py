@@ -1,7 +1,10 @@
 """After the last question: plans that the rules allow, and for each sentence one that breaks it alone, to be judged.
 
-A plan that is judged otherwise than the rules judge it leads to the answers behind it: those of which one alone, turned round,
-lets rules agree with all other answers and with this judgement. Where there are none, the words of the case can't say it.
+First come the rules that no accepted example has kept, in a plan that keeps them: where a word is missing, the nearest one that
+the case has is learned so. A plan that the rules allow and that is wrong can be pointed at, cell by cell. A plan that is judged
+otherwise than the rules judge it leads to the answers behind it: those of which one alone, turned round, lets rules agree with
+all other answers and with this judgement. Where there are none, the words of the case can't say it, and a word is looked for
+that can.
 """
 
 from __future__ import annotations
@@ -9,13 +12,15 @@ from __future__ import annotations
 from collections.abc import Iterator, Sequence
 from dataclasses import dataclass, field
 
+import missing
+import point
 import solver
 import views
-from along import and_list
-from face import Face, Sheet
+from along import Things, and_list
+from face import Face, Sheet, patience
 from goback import Choice, may
 from model import Constraint, Rule, Values
-from picture import CLASH, Picture
+from picture import CLASH, KEPT, Picture
 from sentences import Sentence
 from session import Session
 
@@ -24,9 +29,10 @@ MOST_TRIES = 4              # rules of one sentence of which a plan is looked fo
 JUDGE = (("y", "yes, right"), ("n", "no"), ("q", "enough"))
 BEFOREHAND = "It stands in a line `always` of the case. If it isn't so, take it out there; `desk carry` takes your other answers over."
 UNSAYABLE = (("o", "go on"), ("b", "look at the plan again"), ("q", "enough"))
+SLIP = "If it is as you say, one of these answers was a slip, or your words can't say it:"
 NONE = (("o", "none of these was wrong"), ("b", "look at the plan again"), ("q", "enough"))
-MISSING = ("Your words can't say what is wrong here. Add a word to the case that can, and `desk carry` takes your answers over, so that only what is "
-           "new is asked. What desk can't learn at all, as how often somebody works in a week, stays with you.")
+MISSING = ("With a word that can say it in the case, `desk carry` takes your answers over, so that only what is new is asked. What desk can't "
+           "learn at all, as how often somebody works in a week, stays with you.")
 
 
 @dataclass
@@ -41,7 +47,7 @@ class Review:
 
     def run(self) -> int | None:
         """Shows one plan after the other; the place of an answer to go back to, or None."""
-        for plan in self._allowed():
+        for plan in self._plans():
             done, place = self._judged(plan)
             if done or place is not None:
                 return place
@@ -55,11 +61,16 @@ class Review:
                 return place
         return None
 
-    def _allowed(self) -> Iterator[Shown]:
-        """Plans that the rules allow."""
+    def _plans(self) -> Iterator[Shown]:
+        """Plans that the rules allow: first one of them for each sentence with rules that nobody has seen kept."""
         session = self.session
         self.face.wait("looking for plans that these rules allow ..")
-        for number, plan in enumerate(solver.far(session.program, session.vocabulary, session.journal, MOST_PLANS), 1):
+        plans = solver.far(session.program, session.vocabulary, session.journal, MOST_PLANS)
+        for said in self.sentences:
+            if plans and said.unseen:
+                marks = {thing: KEPT for rule in said.unseen for thing in rule.things}
+                yield Shown(plans[0].values, True, said.text, marks, None)
+        for number, plan in enumerate(plans, 1):
             yield Shown(plan.values, True, f"Plan {number}" + apart_text(plan), {}, None)
 
     def _judged(self, shown: Shown) -> tuple[bool, int | None]:
@@ -72,38 +83,44 @@ class Review:
                 return True, None
             key, place = self._otherwise(shown)
             if key == "b":
-                if shown.title in self.unsayable:
-                    self.unsayable.remove(shown.title)
                 continue
             return key == "q", place
 
     def _otherwise(self, shown: Shown) -> tuple[str, int | None]:
         """What can be done about a plan that the person judges otherwise: the key, and the place to go back to."""
-        places = behind(self.session, shown)
-        choice = Choice(self.session, places, NONE)
-        key = "o"
-        while places:
-            lines = tuple(self._lines(places, choice))
-            key = self.face.put(Sheet("If it is as you say, one of these answers was a slip:", lines, keys=choice.keys))
-            if key not in choice.place_of:
-                break
-            place = choice.sure(self.face, key)
-            if place is not None:
+        key, cells = self._cells(shown)
+        if key != "o":
+            return key, None
+        values = {thing: shown.values[thing] for thing in cells} if cells else shown.values
+        places = behind(self.session, shown, values)
+        if places:
+            choice = Choice(self.session, places, NONE)
+            key, place = choice.put(self.face, lambda: Sheet(SLIP, tuple(self._lines(choice)), keys=choice.keys))
+            if key != "o":
                 return key, place
-        if key == "o" and shown.rule is not None and said_beforehand(self.session, shown.rule):
-            key = self.face.put(Sheet("You said this rule beforehand", (f"{shown.title}. " + BEFOREHAND,), keys=UNSAYABLE))
-        elif key == "o":
-            self.unsayable.append(shown.title)
-            key = self.face.put(Sheet("Your words can't say this", (MISSING,), keys=UNSAYABLE))
+        if shown.rule is not None and (shown.rule.word.text, shown.rule.things) in self.session.beforehand:
+            return self.face.put(Sheet("You said this rule beforehand", (f"{shown.title}. " + BEFOREHAND,), keys=UNSAYABLE)), None
+        with patience(self.face, "looking for a word that can say it .."):
+            lacking = missing.told(self.session, missing.lacking(self.session, values, not shown.allowed))
+        key = self.face.put(Sheet("Your words can't say this", (*lacking, "", MISSING), keys=UNSAYABLE))
+        if key != "b":
+            self.unsayable.append(f"{point.named(self.session, values)} (allowed, and wrong)" if cells else shown.title)
         return key, None
 
-    def _lines(self, places: Sequence[int], choice: Choice) -> Iterator[str]:
-        """Answers to choose from."""
-        for place in places:
-            if choice.letter(place).strip():
-                yield f"{choice.letter(place)}  {views.answer_text(self.session, self.session.answers[place], views.MOST_VALUES)}"
-        if len(choice.place_of) < len(places):
-            yield f"and {len(places) - len(choice.place_of)} others"
+    def _cells(self, shown: Shown) -> tuple[str, Things]:
+        """The cells of an allowed plan that are wrong, none where it isn't known or where a rule says it; and the key."""
+        if not shown.allowed:
+            return "o", ()
+        if 0 < len(shown.marks) <= max(self.session.vocabulary.arities):
+            return "o", tuple(sorted(shown.marks))
+        return point.cells(self.session, self.face, shown.values)
+
+    def _lines(self, choice: Choice) -> Iterator[str]:
+        """Answers to choose from, those that have letters now."""
+        for letter, place in choice.item_of.items():
+            yield f"{letter}  {views.answer_text(self.session, self.session.answers[place], views.MOST_VALUES)}"
+        if len(choice.item_of) < len(choice.items):
+            yield f"and {len(choice.items) - len(choice.item_of)} others"
 
 
 @dataclass(frozen=True)
@@ -119,6 +136,9 @@ class Shown:
     def sheet(self, session: Session) -> Sheet:
         """How it is put to the person."""
         picture = Picture(session.case, self.values, self.marks)
+        if self.allowed and self.marks:
+            return Sheet("No plan that you accepted has shown this rule yet:", (f"{self.title}.", picture),
+                         under=("Here it is kept (marked +). Is that right?",), keys=JUDGE, whole=frozenset("y"))
         if self.allowed:
             return Sheet(f"{self.title}. The rules allow it.", (picture,), under=("Is this right?",), keys=JUDGE, whole=frozenset("y"))
         head = "The rules refuse this plan, for one reason alone (marked !):"
@@ -160,19 +180,14 @@ def broken_alone(session: Session, sentence: Sentence, every: Sequence[Sentence]
     return None
 
 
-def behind(session: Session, shown: Shown) -> list[int]:
-    """The answers behind a plan that is judged otherwise than the rules judge it."""
-    places = [place for place in suspects_with(session, shown.values, not shown.allowed) if may(session, place)]
+def behind(session: Session, shown: Shown, values: Values) -> list[int]:
+    """The answers behind a plan that is judged otherwise than the rules judge it, by these of its values."""
+    places = [place for place in suspects_with(session, values, not shown.allowed) if may(session, place)]
     if places or shown.rule is None:
         return places
     scopes = [scope for scope in session.vocabulary.scopes if set(shown.rule.things) <= set(scope)]
     return [place for place, answer in enumerate(session.answers) if not answer.yes and may(session, place)
             and shown.rule.violated(answer.question.values) and tuple(sorted(answer.question.values)) in scopes]
-
-
-def said_beforehand(session: Session, rule: Rule) -> bool:
-    """Whether a rule is one of the case's own."""
-    return any((one.word.text, one.things) == (rule.word.text, rule.things) for one in session.case.always)
 
 
 def suspects_with(session: Session, values: Values, yes: bool) -> list[int]:

@@ -16,7 +16,7 @@ from dataclasses import dataclass
 
 from along import PLACED, Along, Pattern, Things, and_list
 from blocks import MOST_EXCEPTIONS, Block, blocks
-from model import Case, Constraint, Rule, Word
+from model import Answer, Case, Constraint, Rule, Word
 from vocabulary import Vocabulary
 
 Key = tuple[str, Things]                    # the text of a word, and the things that a rule of it is about
@@ -54,12 +54,14 @@ class Sentence:
     rules: tuple[Rule, ...]
     follows: str            # `all`, `some` or `none` of these rules follow from the others
     out: tuple[Things, ...] = ()        # where the things are a list: those of which the sentence says that it doesn't hold
+    unseen: tuple[Rule, ...] = ()       # those of the rules that no accepted example has kept
 
     @property
     def whole(self) -> str:
-        """The sentence, and what of it follows from others."""
+        """The sentence, what of it follows from others, and what of it was never seen kept."""
         mark = {"all": " (follows from the others)", "some": " (some of it follows from the others)"}
-        return self.text + mark.get(self.follows, "")
+        never = "" if not self.unseen else " (never seen yet)" if len(self.unseen) == len(self.rules) else " (some of it never seen yet)"
+        return self.text + mark.get(self.follows, "") + never
 
 
 @dataclass(frozen=True)
@@ -90,9 +92,20 @@ def holding(vocabulary: Vocabulary, constraints: Iterable[Constraint]) -> set[Ke
     return found
 
 
-def grouped(vocabulary: Vocabulary, constraints: Sequence[Constraint], needed: Sequence[Constraint] | None = None) -> list[Sentence]:
+def unseen(case: Case, rules: Iterable[Rule], answers: Sequence[Answer]) -> tuple[Rule, ...]:
+    """The rules whose things no accepted example has together, so that nobody has seen them kept, without those that were said
+    beforehand: where a word is missing, the nearest one that the case has is learned so."""
+    accepted = [answer.question.values for answer in answers if answer.yes]
+    having = {thing: {place for place, values in enumerate(accepted) if thing in values} for thing in range(len(case.things))}
+    beforehand = {(rule.word.text, rule.things) for rule in case.always}
+    return tuple(rule for rule in rules if (rule.word.text, rule.things) not in beforehand
+                 and not set.intersection(*(having[thing] for thing in rule.things)))
+
+
+def grouped(vocabulary: Vocabulary, constraints: Sequence[Constraint], needed: Sequence[Constraint] | None = None,
+            answers: Sequence[Answer] | None = None) -> list[Sentence]:
     """The sentences that say these constraints. A rule follows from the others where `needed` is given and has no constraint
-    that says it."""
+    that says it; whether a rule was ever seen kept is marked where the answers are given."""
     found = rules_of(vocabulary, constraints)
     kept = None if needed is None else {constraint.line for constraint in needed}
     follows = {key for key, (_, said) in found.items() if kept is not None and not any(c.line in kept for c in said)}
@@ -108,7 +121,8 @@ def grouped(vocabulary: Vocabulary, constraints: Sequence[Constraint], needed: S
             rules = tuple(found[text, things][0] for things in said.things)
             count = sum((text, things) in follows for things in said.things)
             part = "none" if not count else "all" if count == len(rules) else "some"
-            sentences.append(Sentence(said.text, rules, part, said.out))
+            never = () if answers is None else unseen(vocabulary.case, rules, answers)
+            sentences.append(Sentence(said.text, rules, part, said.out, never))
     return sentences
 
 

@@ -321,6 +321,7 @@ class Sitting:
         self.question: Question | None = None
         self.ending: Ending | None = None
         self.given: list[Answer] = []
+        self._aside: list[Old] = []         # what a step back has put aside so that its question waits, until that is answered
         self._run: Run | None = session.run()
 
     def __enter__(self) -> Sitting:
@@ -371,17 +372,18 @@ class Sitting:
         self.session.contradicted(self.question.values, yes)
         self._run.say("yes" if yes else "no")
         self.session.added(self.question, yes, by_person=True)
-        self.question = None
+        self.question, self._aside = None, []
 
     def back(self) -> bool:
         """Takes back the person's last answer and what was given for them behind it; False where they have answered nothing.
 
-        The question that comes again waits then.
+        The question that comes again waits then. Several steps in a row are one step to the answer at which they end: what the
+        person said later counts again where it decides.
         """
         own = [place for place, answer in enumerate(self.session.answers) if answer.said is None]
         if not own:
             return False
-        self._take_back(len(self.session.answers) - own[-1])
+        self.back_to(own[-1])
         return True
 
     def back_to(self, place: int) -> None:
@@ -391,11 +393,14 @@ class Sitting:
         """
         session = self.session
         chosen = session.answers[place]
-        session.foreseen.remember([old(answer.question.values, answer.yes, AGAIN) for answer in session.answers[place + 1:]
-                                   if answer.said is None or answer.said.by == AGAIN])
+        later = [old(answer.question.values, answer.yes, AGAIN) for answer in session.answers[place + 1:]
+                 if answer.said is None or answer.said.by == AGAIN]
+        session.foreseen.remember(later + self._aside)
+        before = list(session.foreseen.before)
         # neither an old answer nor a later one is to decide the question that the person wants to see again
         session.foreseen.forget(chosen.question.values, not chosen.yes)
         session.keep()
+        self._aside = [old(chosen.question.values, chosen.yes, AGAIN), *(one for one in before if one not in session.foreseen.before)]
         self._take_back(len(session.answers) - place)
 
     def _take_back(self, count: int) -> None:
