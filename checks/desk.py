@@ -26,7 +26,7 @@ PARTS_FOLDER = os.path.join(HERE, "desk_parts")
 DESK = os.environ.get("DESK_FOLDER", os.path.join(os.path.dirname(HERE), "desk"))
 
 # those that take longest first
-PARTS = ("terminal", "captured", "pages", "suspects", "known", "bounds", "sitting", "taught", "plans", "screens", "says", "meanings", "runs", "faults", "pace")
+PARTS = ("terminal", "captured", "pages", "suspects", "known", "bounds", "sitting", "taught", "plans", "screens", "says", "meanings", "runs", "faults", "forecast", "pace")
 NEEDS_RICH = ("terminal", "captured", "pages", "sitting", "taught", "screens", "says", "pace")
 # the ten bugs that the gate plants: a part, and which of its list
 GATE = (("bounds", 0), ("bounds", 1), ("suspects", 1), ("meanings", 0), ("meanings", 2), ("known", 0), ("runs", 0), ("faults", 0), ("screens", 0), ("pages", 0))

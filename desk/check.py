@@ -7,6 +7,7 @@ import importlib.util
 import itertools
 import json
 import os
+import re
 import shutil
 import sys
 import tempfile
@@ -14,6 +15,7 @@ import textwrap
 from collections.abc import Iterable, Iterator, Sequence
 
 import casefile
+import offers
 import plain
 import solver
 import streams
@@ -29,7 +31,7 @@ from vocabulary import Vocabulary
 
 PLANS_SHOWN = 3
 SECONDS_FOR_PLANS = 4.0     # for those that are shown
-SECONDS_FOR_PRICES = 3.0    # for what words cost in questions
+SECONDS_FOR_PRICES = 2.0    # for what words cost in questions, and as many for what counts would cost
 SIZES = {1: "single things", 2: "pairs", 3: "groups of three", 4: "groups of four"}
 
 
@@ -67,10 +69,11 @@ def main(path: str, options: argparse.Namespace) -> int:
         for line in made:
             print_wrapped(line, width)
     put((*overview(words), *cannot_say(words, width)))
-    put(first_plans(words, program, width, Clock(SECONDS_FOR_PLANS, moving.tell)))
+    put(first_plans(words, program, width, Clock(options.seconds or SECONDS_FOR_PLANS, moving.tell)))
     some = trials.compared(words, program, Clock(options.seconds or trials.SECONDS, moving.tell))
     put(compared(words, some, width))
-    put(priced(some, trials.prices(case, program, Clock(SECONDS_FOR_PRICES, moving.tell))))
+    put(priced(some, trials.prices(case, program, Clock(options.seconds or SECONDS_FOR_PRICES, moving.tell))))
+    put(offered(case, some, offers.offers(case, program, Clock(options.seconds or SECONDS_FOR_PRICES, moving.tell))))
     return 0
 
 
@@ -109,11 +112,12 @@ def _costs(words: Vocabulary, arity: int, whole: int) -> str:
 
 def cannot_say(words: Vocabulary, width: int) -> Iterator[str]:
     """What no answers can bring about, in words."""
-    case, largest = words.case, max(words.arities)
+    case = words.case
     yield ""
     yield "What this case can't say"
-    yield ("- Counts and sums: \"at most five shifts each\", \"two days off in the week\". A rule here is about "
-           f"{'one thing' if largest == 1 else f'{largest} things at most'}, and none is ever about more than four.")
+    said = offers.counts_said(case)
+    yield ("- Counts above three, as \"at most five shifts each\", and sums: no rule is about more than four things."
+           + (f" The counts that it does say: {and_list([f'`{text}`' for text in said])}." if said else ""))
     lone = [thing.name for thing in case.things if not any(thing.place in scope for scope in words.scopes)]
     if lone:
         yield f"- Nothing is learned of {_some(lone)}: no `ask` line puts them in a group."
@@ -320,6 +324,22 @@ def priced(some: list[Figures], prices: Iterable[Price]) -> Iterator[str]:
     left = [f"`{price.word}`" for price in found if price.without is None]
     if left:
         yield f"Not reckoned, since the time was over: {', '.join(left)}."
+
+
+def offered(case: Case, some: list[Figures], counts: Iterable[offers.Offer]) -> Iterator[str]:
+    """Counts that the case could say, with their price in questions."""
+    whole = next(one for one in some if one.plan == "scopes")
+    yield ""
+    yield "Counts"
+    value = case.values[0]
+    for one in counts:
+        beside = f"; beside your other words some {one.beside} in all, in place of {whole.middle}" if one.beside is not None and not whole.late else ""
+        row = re.match(r"same (\w+)", one.phrase)
+        yield (f"- That no more than {offers.COUNTED[one.most]} of {'one ' + row[1] if row else 'all'} {'is' if one.most == 1 else 'are'} {value}: `words: {one.word}`, "
+               f"`ask: {one.phrase}`. These are {one.groups} group{'s' if one.groups != 1 else ''}, and as many questions in a case of its own{beside}.")
+    yield (f"- A count that you know costs no question, whatever its number: `known: at most 5 of them {value}`. Sample plans keep it, and "
+           "it is never learned.")
+    yield "- `desk words` has the counts that begin with `at least`, and `the same`."
 
 
 def table(rows: list[tuple[str, ...]], width: int) -> Iterator[str]:

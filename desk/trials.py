@@ -312,12 +312,12 @@ def prices(case: Case, program: Program, clock: Clock) -> Iterator[Price]:
             continue
         clock.doing(f"reckoning what `{word.text}` costs")
         try:
-            yield Price(word.text, _middle(words, program, clock))
+            yield Price(word.text, middle(words, program, clock))
         except Late:
             yield Price(word.text, None)
 
 
-def _middle(words: Vocabulary, program: Program, clock: Clock) -> int:
+def middle(words: Vocabulary, program: Program, clock: Clock) -> int:
     """Questions of the middle trial in plan `scopes`; `Late` where the time is over."""
     foreseen = Foreseen(words.case)
     counts = []
