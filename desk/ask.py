@@ -122,6 +122,7 @@ class Asking:
         self.before: Question | None = None         # the last question that the person saw
         self.note = ""                              # what happened since, above the next question
         self.taught = ""                            # what the last answer has taught
+        self.told: set[str] = set()                 # what answers have taught since the last step back
 
     def run(self) -> Ending | None:
         """Asks until the program ends or the person stops; None where they stop in front of a contradiction."""
@@ -152,7 +153,7 @@ class Asking:
             since = len(self.session.answers)
             self.sitting.answer(key == "y")
             self._advance()
-            self.taught = views.taught_text(self.session, since)
+            self.taught = views.taught_text(self.session, since, self.told)
         elif key == "b":
             self._back()
         elif key == "q":
@@ -177,14 +178,14 @@ class Asking:
             self.note = "There is no answer of yours to take back; s leads to those that were given again." if self.session.answers else \
                 "There is no answer of yours to take back."
             return
-        self.before, self.taught = None, ""
+        self.before, self.taught, self.told = None, "", set()
         self.note = f"Your {'yes' if last.yes else 'no'} to question {last.question.number} is taken back; here it comes again."
 
     def _back_to(self, place: int) -> None:
         """Takes back the answer at a place; what was said after it is used again where it decides."""
         answer = self.session.answers[place]
         self.sitting.back_to(place)
-        self.before, self.taught = None, ""
+        self.before, self.taught, self.told = None, "", set()
         self.note = (f"Your {'yes' if answer.yes else 'no'} to question {answer.question.number} is taken back. "
                      "Your later answers count again where they decide a question.")
 

@@ -38,9 +38,12 @@ def given_text(given: Sequence[Answer]) -> str:
     return f"Answered for you: {', '.join(said)}{one}."
 
 
-def taught_text(session: Session, since: int) -> str:
-    """What the answers from a place on have taught, a few rules at most; it is where a word that is missing shows first."""
-    texts = [rule.text for rule in itertools.islice(session.taught(since), MOST_TAUGHT + 1)]
+def taught_text(session: Session, since: int, told: set[str]) -> str:
+    """What the answers from a place on have taught, a few rules at most; it is where a word that is missing shows first. What was
+    told isn't told again, and this is added to it: two groups may have one rule about a thing in both."""
+    new = dict.fromkeys(rule.text for rule in session.taught(since) if rule.text not in told)
+    texts = list(itertools.islice(new, MOST_TAUGHT + 1))
+    told.update(new)
     if not texts:
         return ""
     more = "; and more (r shows them)" if len(texts) > MOST_TAUGHT else ""

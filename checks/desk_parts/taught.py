@@ -37,7 +37,9 @@ PLANTED = [
     # answers that are given for the person teach as well
     ("session.py", "for place, answer in enumerate(self.answers[since:])", "for place, answer in enumerate(self.answers[since:since + 1])"),
     # a rule stands there that was taken back
-    ("ask.py", 'self.before, self.taught = None, ""\n        self.note = f"Your', 'self.before = None\n        self.note = f"Your'),
+    ("ask.py", 'self.before, self.taught, self.told = None, "", set()\n        self.note = f"Your', 'self.before, self.told = None, set()\n        self.note = f"Your'),
+    # a rule that two groups have is said twice
+    ("views.py", "if rule.text not in told)", ")"),
 ]
 Known = set[tuple[tuple[int, ...], int]]
 
@@ -137,7 +139,20 @@ def shown(program: str) -> list[str]:
             sheet = it.sheet()
         it.end()
     faults = [] if said_after == [["Bo", "Cy"]] * 2 else [f"taught: {note!r} stands after {said_after}"]
+    faults += twice(program)
     return faults + ([] if steps == [True, False, True] else [f"taught: after w, b and n it stands there: {steps}"])
+
+
+def twice(program: str) -> list[str]:
+    """A rule about one thing that two groups have is said at the first of them alone."""
+    with hands.room("ward", hands.WARD + "always: different on same day\n") as path:
+        it = hands.Piped(path, program, "--plan", "scopes")
+        while (sheet := it.sheet()) is not None and hands.is_question(sheet):
+            values = hands.plain_values(sheet)
+            it.say("y" if hands.ward(values) and len(set(values.values())) == len(values) else "n")
+        it.end()
+        said = [line for line in it.lines if line.startswith("Your answers have just taught: Mon night is never Ann.")]
+    return [] if len(said) == 1 else [f"taught: {said}"]
 
 
 def pace(program: str) -> list[str]:
@@ -156,7 +171,7 @@ def pace(program: str) -> list[str]:
                     sitting.answer(all(values[thing] != values.get(thing + 7) for thing in values))
                     sitting.advance()
                     began = time.process_time()
-                    views.taught_text(one, since)
+                    views.taught_text(one, since, set())
                     taken.append(time.process_time() - began)
         taken.sort()
         told.append(f"{plan} {1000 * taken[len(taken) // 2]:.2f} ms, at most {1000 * taken[-1]:.1f}")
