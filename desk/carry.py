@@ -23,7 +23,7 @@ from files import journal_of, kept_of
 from foreseen import CARRIED, Foreseen
 from model import Case, Fault
 from picture import Picture, sentence
-from session import Named, Session, given_back, head_of, locked, named, old_answers, read_kept, said_by
+from session import Kept, Named, Session, case_in, given_back, head_of, locked, named, old_answers, read_kept, said_by
 from talk import Program
 from vocabulary import Vocabulary
 
@@ -88,7 +88,7 @@ def answers_of(path: str, program: Program) -> list[Named]:
     kept = read_kept(journal)
     if kept is None:
         raise Fault(f"{kept_of(journal)} isn't there, so it isn't known what the answers of {journal} are about")
-    words = words_of(journal, kept["case"])
+    words = words_of(journal, kept)
     foreseen = Foreseen(words.case, old_answers(words.case, kept["before"]))
     reply = program.call([journal, "show"])
     if reply.status:
@@ -102,13 +102,10 @@ def answers_of(path: str, program: Program) -> list[Named]:
     return list({repr(one): one for one in found}.values())
 
 
-def words_of(journal: str, text: str) -> Vocabulary:
+def words_of(journal: str, kept: Kept) -> Vocabulary:
     """A session's case in the program's terms; a fault where it isn't what the journal has."""
     head = head_of(journal)
-    try:
-        words = Vocabulary(casefile.parse(text, kept_of(journal)))
-    except Fault as fault:
-        raise Fault(f"the case that this session is about isn't one for this desk: {fault}. `acquire {journal} show` prints its answers") from None
+    words = Vocabulary(case_in(journal, kept))
     if head is None or head[1] != words.json.encode():
         raise Fault(f"{kept_of(journal)} isn't about {journal}, or another desk made them: put back a copy of both. "
                     f"`acquire {journal} show` prints the answers")
@@ -133,7 +130,10 @@ def replaced(journal: str, to_itself: bool, make: Callable[[str], list[str]]) ->
         if isinstance(error, Fault):
             raise Fault(f"{error}. Nothing was changed") from None
         raise
-    handover.finished(journal)
+    try:
+        handover.finished(journal)
+    except Fault as fault:
+        raise Fault(f"{fault}. The new session is whole, and the next desk that opens it puts it in its place") from None
     if aside:
         yield f"The session so far is kept in {aside[-1]}."
     yield from told

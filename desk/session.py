@@ -76,6 +76,16 @@ def read_kept(journal: str) -> Kept | None:
     return Kept(case=kept["case"], before=kept["before"])
 
 
+def case_in(journal: str, kept: Kept) -> Case:
+    """The case for which a session stands; a fault where this desk doesn't take its text any more."""
+    path = kept_of(journal)
+    try:
+        return casefile.parse(kept["case"], "line")
+    except Fault as fault:
+        raise Fault(f"{path}: this desk doesn't take the text of the case in it, with which the session began ({fault}). Where the case says "
+                    f"the same in another way now, move {path} away, and the session goes on") from None
+
+
 def _is_named(one: object) -> bool:
     """Whether this is an old answer by names."""
     return (isinstance(one, dict) and isinstance(one.get("yes"), bool) and one.get("by") in (CARRIED, AGAIN)
@@ -211,8 +221,7 @@ class Session:
         kept = read_kept(self.journal)
         difference = None
         if kept is not None:
-            began = casefile.parse(kept["case"], f"{kept_of(self.journal)}, the text of the case in it")
-            difference = changed(began, casefile.parse(self.case.text, self.case.path))
+            difference = changed(case_in(self.journal, kept), casefile.parse(self.case.text, self.case.path))
         if difference is None and text != self.vocabulary.json.encode():
             difference = "it is said to the program in another way"
         if difference is not None:

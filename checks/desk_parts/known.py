@@ -16,16 +16,22 @@ import casefile
 import drawn
 from drawn import Owner
 from model import PLANS, Fault, Rule, Values
-from session import Session
+from session import Named, Session
 from talk import Program
 from vocabulary import Vocabulary
 
 SESSIONS = 40
 PLANTED = [
     ("foreseen.py", "return Said(False, ALWAYS, rule.text)", "return Said(True, ALWAYS, rule.text)"),
-    ("foreseen.py", "if one.yes and asked <= one.items", "if one.yes and one.items <= asked"),
-    ("foreseen.py", "if not one.yes and one.items <= asked", "if not one.yes and asked <= one.items"),
+    ("foreseen.py", "for one in self._accepted if asked <= one.items", "for one in self._accepted if one.items <= asked"),
+    ("foreseen.py", "for one in self._refused if one.items <= asked", "for one in self._refused if asked <= one.items"),
     ("session.py", "session.foreseen.forget(chosen.question.values, not chosen.yes)", "pass"),
+    # of two old answers that disagree one decides
+    ("foreseen.py", "if said is None or (yes and no):", "if said is None:"),
+    # what the person says in such a quarrel counts as given for them
+    ("session.py", "said = None if by_person else self.foreseen.answer(question.values)", "said = self.foreseen.answer(question.values)"),
+    # an old answer that was contradicted counts on
+    ("session.py", "        if self.foreseen.forget(values, yes):\n            self.keep()", "        pass"),
 ]
 Truth = Callable[[Values], bool]
 
@@ -170,6 +176,28 @@ def again(program: Program, folder: str, seed: int, words: Vocabulary, text: str
         return sat(session, truth)
 
 
+def disagreeing(program: Program) -> list[str]:
+    """A question about which two old answers disagree is put to the person, whose answer then is their own, and ends the quarrel."""
+    with tempfile.TemporaryDirectory() as folder:
+        path, faults = os.path.join(folder, "w.case"), []
+        with open(path, "w", encoding="utf-8") as file:
+            file.write("things: a b c\nvalues: p q r\nask: all\nwords: different, never p\n")
+        before: list[Named] = [{"yes": True, "by": "carried", "values": {"a": "p", "b": "p", "c": "q"}},
+                               {"yes": False, "by": "carried", "values": {"b": "p"}}]
+        with Session.opened(casefile.read(path), program, "scopes", before=before) as session, session.sit() as sitting:
+            sitting.advance()
+            asked, given = sitting.question, sitting.given
+            if asked is None or asked.values != {0: 0, 1: 0} or given:
+                return [f"it puts {asked} and answers {given}"]
+            sitting.answer(True)
+            if session.answers[-1].said is not None or [one.yes for one in session.foreseen.before] != [True]:
+                faults.append(f"the person's answer is {session.answers[-1]}, and {session.foreseen.before} are left")
+            sitting.advance()
+            if not sitting.back() or sitting.question != asked:
+                faults.append(f"back leads to {sitting.question} and not to {asked}")
+    return faults
+
+
 def fresh_most(session: Session) -> int:
     """The bound as it is counted anew from the journal."""
     most, answers = session.possible.most, session.answers
@@ -191,6 +219,7 @@ def run(program: str) -> list[str]:
                 counts[what] += given
         if len(faults) > drawn.ENOUGH:
             break
+    faults += named(disagreeing(it), "disagreeing")
     faults += [f"{what}: nothing was ever given, which tests little" for what, count in counts.items() if not count]
     print("known: answers given for the person, all as the person would: " + ", ".join(f"{count} {what}" for what, count in counts.items()))
     return faults

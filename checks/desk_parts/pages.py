@@ -62,7 +62,7 @@ def run(program: str) -> list[str]:
             ending = hands.answered(path, program, owner, plan, most)
             looked += 1
             faults += [f"pages: {name} in {plan}, {ending}: {fault}" for fault in one_page(program, path, ending, browser if looked != 4 else None)]
-    for row in (clash, unwritable, no_session):
+    for row in (clash, given, unwritable, no_session):
         faults += [f"pages: {row.__name__}: {fault}" for fault in row(program)]
     print(f"pages: {looked} pages" + ("" if browser else "; no chromium is installed, so no browser looked at them"))
     return faults
@@ -318,6 +318,35 @@ def clash(program: str) -> list[str]:
         if ending != "collapsed" or ran.returncode != 0:
             return [f"{ending}, {ran.returncode}, {ran.stderr}"]
         return [] if "The answers clash" in content and "rules" not in "".join(page.texts["h2"]) else [f"it says {page.texts['h2']}"]
+
+
+def given(program: str) -> list[str]:
+    """How many answers were given one by one, again after going back, and otherwise is what stands beside each of them."""
+    with hands.room("w", hands.TEAM + "always: different on Bär - Öz\n") as path:
+        one = casefile.read(path)
+        with session.Session.opened(one, talk.Program(program), "scopes") as it, it.sit() as sitting:
+            sitting.advance()
+            own = 0
+            while own < 12 and sitting.question is not None:
+                sitting.answer(hands.team({one.things[thing].name: one.values[value] for thing, value in sitting.question.values.items()}))
+                own += 1
+                sitting.advance()
+            places = [place for place, answer in enumerate(it.answers) if answer.said is None]
+            yes = it.answers[places[-6]].yes
+            sitting.back_to(places[-6])
+            sitting.answer(yes)
+            sitting.advance()
+        target = path + ".html"
+        hands.report(program, path, target)
+        with open(target, encoding="utf-8") as file:
+            page = Page(file.read())
+    came = [row[3] for row in page.tables[-1][1:]]
+    counts = [came.count("asked"), sum(how.startswith("said before you went back") for how in came), sum(how.startswith("said beforehand") for how in came)]
+    wanted = (f"{len(came)} answers, {counts[0]} of them given one by one, {counts[1]} again as before you went back, "
+              f"{counts[2]} said beforehand or carried over")
+    if min(counts) == 0 or sum(counts) != len(came) or counts[0] != own - 5:
+        return [f"the answers came as {came}"]
+    return [] if wanted in " ".join(page.texts["p"]) else [f"it says {page.texts['p'][0]!r} and not {wanted!r}"]
 
 
 def unwritable(program: str) -> list[str]:

@@ -370,6 +370,37 @@ def changed(program: str) -> list[str]:
         return []
 
 
+def contradicted(program: str) -> list[str]:
+    """A line `always` that was added and says otherwise than an answer: it is shown with that answer before anything is asked, and
+    `report` refuses; q leaves all as it was, and b goes back."""
+    found = []
+    with room("two", TWO) as path:
+        it = Piped(path, program, "--plan", "scopes")
+        it.sheet()
+        it.say("y")
+        it.end()
+        with open(path, "a", encoding="utf-8") as file:
+            file.write("always: different on all\n")
+        told = hands.report(program, path, path + ".html").stderr
+        if any(said not in told for said in ("a and b differ", "question 1 (a x, b x)", "desk ask", "take the line out")):
+            found.append(f"report says {told!r}")
+        it = Piped(path, program)
+        sheet = it.sheet() or [""]
+        it.say("q")
+        status = it.end()
+        if "your answer to question 1" not in sheet[0] or "a: x (this breaks it)" not in sheet or status != 6 or "take the line out" not in it.lines[-1]:
+            found.append(f"{sheet}, {status}, {it.lines[-1]}")
+        it = Piped(path, program)
+        it.sheet()
+        it.say("b")
+        end = it.sheet() or []
+        it.say("q")
+        it.end()
+        if hands.acquire(program, path, "show")[1:2] != ["q1 a=1 b=1 no"] or "- a and b differ" not in end:
+            found.append(f"after b: {end}")
+    return found
+
+
 def undecided(program: str) -> list[str]:
     """A search that is too long: what was learned, what is open, status 5, and no question goes lost."""
     with room() as path:
@@ -528,5 +559,5 @@ def pointed(program: str) -> list[str]:
 
 
 WITH_SOLVER = (allowed_plan, refused_plan, refused_beforehand, never_seen, pointed)
-ROWS = (keys, always, minimal, allowed_plan, refused_plan, refused_beforehand, why_is_capped, clash, goes_on, clash_kept, odd_one, changed, undecided,
+ROWS = (keys, always, minimal, allowed_plan, refused_plan, refused_beforehand, why_is_capped, clash, goes_on, clash_kept, odd_one, changed, contradicted, undecided,
         from_rules, from_answers, step_by_step, never_seen, pointed)
