@@ -32,6 +32,7 @@ whether the empty places can be filled as well isn't asked.
 
 y  yes, it is all right
 n  no, it isn't, whatever stands in the empty places
+   If it is wrong only because of something that your words can't say, as a count over all, say yes, and note it
 b  back: takes your last answer back, and shows that question again. Pressed again, it takes the one before back as well, and what you \
 said later counts again where it decides a question
 w  why: which rules a yes rules out
@@ -41,7 +42,8 @@ q  stop. Nothing is lost, and the next `desk ask` goes on from here
 ?  this help
 
 * stands at what has changed since the last question. Rules that you said beforehand answer for you where a question breaks one, which is \
-always a no; how often they did since the last question stands below the question."""
+always a no; how often they did since the last question stands below the question. A group of things is finished where nothing is open \
+any more of what your words can say about it; often fewer questions come than can come at most."""
 
 
 def main(path: str, options: argparse.Namespace) -> int:
@@ -193,15 +195,14 @@ class Asking:
 
     def sheet(self, question: Question) -> Sheet:
         """A question as it is shown."""
-        case, possible = self.session.case, self.session.possible
+        case = self.session.case
         picture = Picture(case, question.values, marks(question.values, self.before))
         head = f"{case.title}: question {question.number}"
         if question.part_of(self.before):
             head += ", a part of the one before"
         ask = PART if picture.part else WHOLE
-        count = f"settled {possible.settled} of {possible.total}; at most {possible.most} more question{'s' if possible.most != 1 else ''}"
         notes = tuple(filter(None, (self.taught, self.note)))
-        return Sheet(head, (picture,), legend(picture), (*notes, ask), (count,), KEYS, frozenset("y"))
+        return Sheet(head, (picture,), legend(picture), (*notes, ask), (self.session.possible.progress,), KEYS, frozenset("y"))
 
 
 def marks(values: Values, before: Question | None) -> dict[int, str]:

@@ -132,7 +132,7 @@ def state_text(session: Session, ending: Ending) -> str:
     if ending.word == "collapsed":
         return f"The answers clash: no rules agree with all of them. There are {said}."
     possible = session.possible
-    return f"Not finished: {said} so far; settled {possible.settled} of {possible.total}, at most {possible.most} more questions."
+    return f"Not finished: {said} so far; {possible.progress}."
 
 
 def rules(found: Sequence[Sentence]) -> Iterator[Html]:

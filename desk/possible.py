@@ -57,7 +57,18 @@ class Possible:
             self._by_last.setdefault(scope.things[-1], []).append(scope)
         self.total = sum(scope.every.bit_count() for scope in self._scopes)
         self._unsettled = self.total
+        self._unfinished = sum(self._share(scope)[0] > 0 for scope in self._scopes)
         self.most = sum(self._share(scope)[1] for scope in self._scopes)
+
+    @property
+    def finished(self) -> int:
+        """On how many of the groups nothing is open any more."""
+        return len(self._scopes) - self._unfinished
+
+    @property
+    def progress(self) -> str:
+        """How far it is, for people."""
+        return (f"{self.finished} of {len(self._scopes)} groups finished; at most {self.most} more question{'s' if self.most != 1 else ''}")
 
     @property
     def settled(self) -> int:
@@ -126,6 +137,7 @@ class Possible:
         scope.left, scope.needed = left, needed
         now_unsettled, now_most = self._share(scope)
         self._unsettled += now_unsettled - unsettled
+        self._unfinished += (now_unsettled > 0) - (unsettled > 0)
         self.most += now_most - most
 
     def back(self) -> None:

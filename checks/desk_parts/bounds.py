@@ -37,7 +37,7 @@ def session(program: str, words: drawn.Vocabulary, plan: str, draw: random.Rando
     owner = Owner(words, draw)
     coin = draw.random() < 0.25
     possible = Possible(words, plan)
-    before = [(possible.most, possible.settled)]
+    before = [(possible.most, possible.settled, possible.finished)]
     faults = []
     run = tried(program, words, plan)
     while is_question((line := run.line()).split(" ")[0]):
@@ -49,15 +49,19 @@ def session(program: str, words: drawn.Vocabulary, plan: str, draw: random.Rando
         possible.take(values, yes)
         if draw.random() < 0.1:         # a step back leaves everything as it was
             possible.back()
-            if (possible.most, possible.settled) != before[-1]:
-                faults.append(f"{words.case.path} {plan}: a step back leaves {possible.most}, {possible.settled} and not {before[-1]}")
+            if (possible.most, possible.settled, possible.finished) != before[-1]:
+                faults.append(f"{words.case.path} {plan}: a step back leaves {possible.most}, {possible.settled}, {possible.finished} "
+                              f"and not {before[-1]}")
             possible.take(values, yes)
-        before.append((possible.most, possible.settled))
+        before.append((possible.most, possible.settled, possible.finished))
+        finished = sum(not possible.open(scope) for scope in words.scopes)
+        if not possible.progress.startswith(f"{finished} of {len(words.scopes)} groups finished; at most {possible.most} more question"):
+            faults.append(f"{words.case.path} {plan}: it says `{possible.progress}`, and {finished} groups are finished")
     run.close()
     came = len(before) - 1
-    faults += [f"{words.case.path} {plan}: before question {k + 1} the bound is {most}, and {came - k} came" for k, (most, _) in enumerate(before) if most < came - k]
-    faults += [f"{words.case.path} {plan}: settled {settled} of {possible.total}" for _, settled in before if not 0 <= settled <= possible.total]
-    if line.startswith("converged") and plan == "scopes" and before[-1] != (0, possible.total):
+    faults += [f"{words.case.path} {plan}: before question {k + 1} the bound is {most}, and {came - k} came" for k, (most, *_) in enumerate(before) if most < came - k]
+    faults += [f"{words.case.path} {plan}: settled {settled} of {possible.total}" for _, settled, _ in before if not 0 <= settled <= possible.total]
+    if line.startswith("converged") and plan == "scopes" and before[-1] != (0, possible.total, len(words.scopes)):
         faults.append(f"{words.case.path} {plan}: converged with {before[-1]} of {possible.total}")
     return faults, came, before[0][0]
 

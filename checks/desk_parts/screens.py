@@ -265,7 +265,7 @@ def notes() -> list[str]:
     case = casefile.parse(hands.WARD, "ward.case")
     class Still:
         """A session that is asked how far it is."""
-        settled, total, most = 120, 231, 114
+        progress = "6 of 21 groups finished; at most 114 more questions"
     class Quiet:
         """What a sheet is made of."""
         possible = Still()
@@ -279,7 +279,7 @@ def notes() -> list[str]:
         found.append(f"a part: {part}")
     if "don't think of the rest" in " ".join(whole.under):
         found.append("a whole plan has the note for a part")
-    if part.foot != ("settled 120 of 231; at most 114 more questions",) or part.whole != frozenset("y"):
+    if part.foot != (Still.progress,) or part.whole != frozenset("y"):
         found.append(f"how far: {part.foot}")
     said = io.StringIO()
     plain.Lines(io.StringIO("y\n"), said).put(part)

@@ -103,7 +103,7 @@ def one_session(program: str, name: str, plan: str, most: int, size: tuple[int, 
                     continue
                 if got != wanted or not re.search(rf"question {number}\b", screens):
                     return [f"question {number} shows {got} and not {wanted}:\n{screens}"]
-                if "at most" not in shown.replace("\n", " ") or "settled" not in shown:
+                if "at most" not in shown.replace("\n", " ") or "groups finished" not in shown:
                     return [f"question {number} doesn't say how far it is:\n{shown}"]
                 press(tmux, "y" if CASES[name][1](wanted) else "n", rf"{beyond(number)}|{OVER}")
             return [] if number > 8 else [f"only {number} questions came:\n{tmux.capture()}"]
