@@ -167,7 +167,7 @@ def said(one: session.Session, page: Page, state: object, ending: str) -> list[s
     if page.texts["title"] != [one.case.title] or page.texts["h1"] != [one.case.title]:
         found.append(f"the title is {page.texts['title']} and {page.texts['h1']}")
     learned = one.learned()
-    wanted = [it.whole for it in sentences.grouped(one.vocabulary, learned, one.reduced() if ending == "converged" else None)]
+    wanted = [it.whole for it in sentences.grouped(one.vocabulary, learned, one.reduced() if ending == "converged" else None, one.answers)]
     lines = page.texts.get("li", [])
     found += [f"{text!r} isn't among the rules" for text in wanted if text not in lines]
     if ending != "converged" and "Not finished: 30 answers" not in " ".join(page.texts["p"]):

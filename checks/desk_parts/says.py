@@ -15,6 +15,8 @@ import casefile
 import model
 import patterns
 import sentences
+import session
+import talk
 import vocabulary
 
 DRAWN = 540
@@ -70,7 +72,7 @@ def run(program: str) -> list[str]:
         said = sentences.grouped(words, constraints, needed)
         count += len(said)
         faults += [f"sentences: case {turn}: {fault}" for fault in wrong(words, constraints, needed, said)]
-    for row in (worked, odd_ones):
+    for row in (worked, odd_ones, odd_in_list):
         faults += [f"sentences: {row.__name__}: {fault}" for fault in row(program)]
     print(f"sentences: {count} sentences of {DRAWN} drawn networks, read back")
     return faults[:20]
@@ -310,8 +312,6 @@ def odd_ones(program: str) -> list[str]:
     def all_days(q: hands.Named) -> bool:
         """The ward's rules without their exception."""
         return hands.ward(q) and not ("Sun early" in q and q.get("Sun early") == q.get("Sun late"))
-    import session
-    import talk
     for slip in (None, 1, 9, 30, 61):
         with hands.room() as path:
             hands.answered(path, program, all_days, slip=slip)
@@ -324,4 +324,32 @@ def odd_ones(program: str) -> list[str]:
                 for it in odd:
                     if len(it.behind) > 4 or any(not set(it.scope) <= set(one.answers[place].question.values) for place in it.behind):
                         found.append(f"slip {slip}: {it.behind} are said to be behind {it.scope}")
+    return found
+
+
+def odd_in_list(program: str) -> list[str]:
+    """Where things are a list, wrong answers about a pair show as what a sentence excepts or as a rule that stands alone, with the
+    wrong answer behind it; without one there are none."""
+    acids, others = ("nitric", "sulfuric"), ("bleach", "lye", "ammonia")
+    def owner(wrong: tuple[str, ...]) -> hands.Owner:
+        """Acids on other shelves than others; of the pairs in `wrong` the opposite is said."""
+        def answers(q: hands.Named) -> bool:
+            one, other = q
+            apart = (one in acids and other in others) != (f"{one} {other}" in wrong)
+            return q[one] != q[other] or not apart
+        return answers
+    found = []
+    text = STORE.replace("different, before, at least 2 apart, not both 5, no 4 after 2", "different")
+    for wrong, wanted in (((), []), (("nitric lye",), ["nitric, lye: no rule. As 5 others of its pattern it would be: nitric and lye differ."]),
+                          (("ether ethanol",), ["ether, ethanol: ether and ethanol differ. It stands alone, and the other rules of this kind are "
+                                                "between sets of things."])):
+        with hands.room("store", text) as path:
+            hands.answered(path, program, owner(wrong))
+            with session.Session.opened(casefile.read(path), talk.Program(program)) as one:
+                odd = patterns.odd(one.vocabulary, one.learned(), one.answers, one.possible.open)
+                names = [thing.name for thing in one.case.things]
+                got = [it.text(names) for it in odd]
+                about = [" ".join(names[thing] for thing in one.answers[place].question.values) for it in odd for place in it.behind]
+        if got != wanted or about != list(wrong):
+            found.append(f"{wrong}: {got}, and the answers about {about}")
     return found
