@@ -27,7 +27,7 @@ PARTS_FOLDER = os.path.join(HERE, "desk_parts")
 DESK = os.environ.get("DESK_FOLDER", os.path.join(os.path.dirname(HERE), "desk"))
 
 # those that take longest first
-PARTS = ("terminal", "kept", "captured", "pages", "changes", "suspects", "known", "bounds", "sitting", "cases", "taught", "plans", "screens", "says",
+PARTS = ("terminal", "kept", "captured", "pages", "changes", "suspects", "known", "bounds", "sitting", "cases", "lacking", "taught", "plans", "screens", "says",
          "meanings", "runs", "faults", "forecast", "pace")
 NEEDS_RICH = ("terminal", "captured", "pages", "sitting", "taught", "screens", "says", "pace")
 # the bugs that the gate plants: a part, and which of its list

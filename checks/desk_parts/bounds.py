@@ -18,6 +18,8 @@ PLANTED = [
     ("possible.py", "            return left, left\n", "            return left, left - 1\n"),
     ("possible.py", "        for scope, left, needed in reversed(self._undo.pop()):", "        for scope, left, needed in self._undo.pop()[1:]:"),
     ("possible.py", "                if len(scope.things) == len(values):\n", "                if len(scope.things) <= len(values):\n"),
+    # a settled rule is shown as one that is at stake
+    ("possible.py", " or (scope.needed and scope.left.bit_count() == 1):\n                continue", ":\n                continue"),
 ]
 
 
@@ -30,6 +32,23 @@ def created(program: str, words: drawn.Vocabulary) -> list[str]:
         shown += any(table & inside == inside for table in words.closings[len(scope)].tables)
     wanted = f"created variables {len(words.case.things)} scopes {len(words.scopes)} candidates {shown}"
     return [] if reply.text.strip() == wanted else [f"{words.case.path}: {reply.text.strip()}, and desk counts: {wanted}"]
+
+
+def at_stake(words: drawn.Vocabulary, possible: Possible, draw: random.Random) -> list[str]:
+    """What a yes to some plan would rule out: the rules that it breaks, that some candidate of a group says which is still possible,
+    and none of a group on which the rule is settled; counted here from the answers."""
+    values = {thing: words.coding.value_of[draw.randint(*ends) - 1] for thing, ends in enumerate(words.coding.ranges)}
+    wanted = set()
+    for scope in words.scopes:
+        inside = words.inside(scope)
+        refused = [words.place(scope, some) for some, yes in possible.answers if not yes and set(some) == set(scope)]
+        accepted = [words.place(scope, some) for some, yes in possible.answers if yes and set(scope) <= set(some)]
+        left = {table & inside for table in words.closings[len(scope)].tables if table & inside != inside}
+        left = {table for table in left if all(table >> place & 1 for place in accepted) and not any(table >> place & 1 for place in refused)}
+        if not refused or len(left) > 1:
+            wanted |= {rule.text for rule, table in words.rules_on(scope) if rule.violated(values) and any(one & table == one for one in left)}
+    got = {rule.text for rule in possible.at_stake(values, 1000)}
+    return [] if got == wanted else [f"{words.case.path}: at stake are {sorted(wanted)}, and desk says {sorted(got)}"]
 
 
 def session(program: str, words: drawn.Vocabulary, plan: str, draw: random.Random) -> tuple[list[str], int, int]:
@@ -54,6 +73,7 @@ def session(program: str, words: drawn.Vocabulary, plan: str, draw: random.Rando
                               f"and not {before[-1]}")
             possible.take(values, yes)
         before.append((possible.most, possible.settled, possible.finished))
+        faults += at_stake(words, possible, draw) if len(before) % 3 == 0 else []
         finished = sum(not possible.open(scope) for scope in words.scopes)
         if not possible.progress.startswith(f"{finished} of {len(words.scopes)} groups finished; at most {possible.most} more question"):
             faults.append(f"{words.case.path} {plan}: it says `{possible.progress}`, and {finished} groups are finished")

@@ -57,6 +57,20 @@ PLANTED = [
     ("sentences.py", "out = [part.members[member] for member in one.might if", "out = [part.members[member] for member in one.might[1:] if"),
     # a yes that has nothing to do with it is said to be behind an odd one
     ("patterns.py", "        if answer.yes and breaks:", "        if answer.yes:"),
+    # patterns are said together that hold at other places
+    ("sentences.py", "best.every, holds]", "best.every]"),
+    # a block says more than what holds
+    ("blocks.py", "holds[one] & some == some", "True"),
+    # a block excepts what nobody asks about
+    ("blocks.py", " if not _unasked(*side, holds, may)", ""),
+    # an exception isn't named
+    ("blocks.py", "out = {_pair(one, other, even) for one, other in every if not holds[one] >> other & 1}", "out = set()"),
+    # what a sentence excepts isn't odd
+    ("patterns.py", "        for things in said.out:", "        for things in ():"),
+    # what stands alone isn't odd
+    ("patterns.py", "if 4 * len(alone) <= sum(", "if 4 * len(alone) > sum("),
+    # each three are said to be each two
+    ("sentences.py", 'COUNTED = {2: "two", 3: "three", 4: "four"}', 'COUNTED = {2: "two", 3: "two", 4: "four"}'),
 ]
 
 

@@ -31,6 +31,23 @@ PLANTED = [
     # another answer is gone back to than the one that was chosen
     ("goback.py", "super().__init__([place for place in places if may(session, place)], keys,",
      "super().__init__([place - 1 for place in places if may(session, place) and place], keys,"),
+    # behind a broken plan only a single answer that explains it is shown
+    ("review.py", "    if places or shown.rule is None:\n        return places", "    return places"),
+    # a second step back forgets what the first one took
+    ("session.py", "session.foreseen.remember(later + self._aside)", "session.foreseen.remember(later)"),
+    # what a step back put aside counts after the next answer
+    ("session.py", "self.question, self._aside = None, []", "self.question = None"),
+    # what decides the question that waits is dropped for good
+    ("session.py", "self._aside = [old(chosen.question.values, chosen.yes, AGAIN), *(one for one in before if one not in session.foreseen.before)]",
+     "self._aside = [old(chosen.question.values, chosen.yes, AGAIN)]"),
+    # letters stay at the first answers
+    ("goback.py", "self._first += len(self._letters)", "self._first += 0"),
+    # rules that nobody saw kept don't come first
+    ("review.py", "            if plans and said.unseen:", "            if False:"),
+    # cells that are pointed at are judged with all others
+    ("review.py", "values = {thing: shown.values[thing] for thing in cells} if cells else shown.values", "values = shown.values"),
+    # the answers behind a sentence are those about anything
+    ("views.py", "if asked in scopes and any(", "if asked not in scopes or any("),
 ]
 
 
@@ -41,7 +58,7 @@ def run(program: str) -> list[str]:
 
 def quick(program: str) -> list[str]:
     """The same in little."""
-    return looked(program, (keys, odd_one))
+    return looked(program, (keys, odd_one, refused_twice, from_rules, from_answers, step_by_step, never_seen, pointed))
 
 
 def looked(program: str, rows: Iterable[object]) -> list[str]:
@@ -311,6 +328,26 @@ def refused_plan(program: str) -> list[str]:
         return [] if learned(program, path) == [] and "No rule is needed" in " ".join(end) else [f"{end}, {learned(program, path)}"]
 
 
+def refused_twice(program: str) -> list[str]:
+    """Behind a refused plan that is right stand all answers that refuse what its rule refuses, where no single one explains it."""
+    with room("two", TWO.replace("different", "different, not both x")) as path:
+        it = Piped(path, program, "--plan", "scopes")
+        sat(it, lambda q: len(set(q.values())) == len(q))
+        it.say("g")
+        sheet = it.sheet() or []
+        while "Is it right that it is refused?" not in sheet:
+            it.say("y")
+            sheet = it.sheet() or []
+        it.say("n")
+        behind = it.sheet() or [""]
+        it.say("q")
+        it.end()
+        refused = sorted(line.split()[1] for line in behind if ". no: " in line)
+        noes = sorted(line.split()[0].removeprefix("q") + "." for line in hands.acquire(program, path, "show") if line.endswith(" no"))
+        right = behind[0].startswith("If it is as you say, one of these answers was a slip, or your words can't say it") and len(noes) == 2
+        return [] if right and refused == noes else [f"{behind}, and the noes are {noes}"]
+
+
 def refused_beforehand(program: str) -> list[str]:
     """A plan that is refused for a rule said beforehand: no answer is blamed, and it is said where the rule stands."""
     with room("two", TWO + "always: different on all\n") as path:
@@ -558,6 +595,6 @@ def pointed(program: str) -> list[str]:
         return [] if "`ask` doesn't put Mon early and Wed early together" in "".join(sheet) else [f"{sheet}"]
 
 
-WITH_SOLVER = (allowed_plan, refused_plan, refused_beforehand, never_seen, pointed)
-ROWS = (keys, always, minimal, allowed_plan, refused_plan, refused_beforehand, why_is_capped, clash, goes_on, clash_kept, odd_one, changed, contradicted, undecided,
+WITH_SOLVER = (allowed_plan, refused_plan, refused_twice, refused_beforehand, never_seen, pointed)
+ROWS = (keys, always, minimal, allowed_plan, refused_plan, refused_twice, refused_beforehand, why_is_capped, clash, goes_on, clash_kept, odd_one, changed, contradicted, undecided,
         from_rules, from_answers, step_by_step, never_seen, pointed)
