@@ -30,8 +30,9 @@ from trials import WAYS, Figures, Price
 from vocabulary import Vocabulary
 
 PLANS_SHOWN = 3
-SECONDS_FOR_PLANS = 4.0     # for those that are shown
-SECONDS_FOR_PRICES = 2.0    # for what words cost in questions, and as many for what counts would cost
+SECONDS_FOR_PLANS = 3.0     # for those that are shown
+SECONDS_FOR_PRICES = 3.0    # for what words cost in questions
+SECONDS_FOR_COUNTS = 2.0    # for what counts would cost
 SIZES = {1: "single things", 2: "pairs", 3: "groups of three", 4: "groups of four"}
 
 
@@ -73,7 +74,7 @@ def main(path: str, options: argparse.Namespace) -> int:
     some = trials.compared(words, program, Clock(options.seconds or trials.SECONDS, moving.tell))
     put(compared(words, some, width))
     put(priced(some, trials.prices(case, program, Clock(options.seconds or SECONDS_FOR_PRICES, moving.tell))))
-    put(offered(case, some, offers.offers(case, program, Clock(options.seconds or SECONDS_FOR_PRICES, moving.tell))))
+    put(offered(case, some, offers.offers(case, program, Clock(options.seconds or SECONDS_FOR_COUNTS, moving.tell))))
     return 0
 
 

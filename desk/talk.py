@@ -46,6 +46,7 @@ class Clock:
         self._end = time.monotonic() + seconds
         self._tell = tell
         self._doing = ""
+        self._told = 0.0        # when it was said last
 
     @property
     def left(self) -> float:
@@ -59,12 +60,14 @@ class Clock:
 
     def doing(self, what: str) -> None:
         """Says what is being done from now on."""
-        self._doing = what
+        self._doing, self._told = what, 0.0
         self.tick()
 
     def tick(self) -> None:
-        """Says what is being done, and how many seconds that may last."""
-        self._tell(f"{self._doing}, at most {math.ceil(self.left)} s more ..")
+        """Says what is being done, and how many seconds that may last, where it wasn't said just before."""
+        if time.monotonic() - self._told >= TICK:
+            self._told = time.monotonic()
+            self._tell(f"{self._doing}, at most {math.ceil(self.left)} s more ..")
 
     def pause(self) -> float:
         """How long to wait before the next tick."""
@@ -175,7 +178,7 @@ def _printed(process: subprocess.Popen[bytes], given: bytes, clock: Clock | None
             if not some:
                 return bytes(printed)
             printed += some
-        elif clock is not None and not free:
+        if clock is not None:
             clock.tick()
         if len(printed) > MOST_PRINTED:
             raise Endless
@@ -243,11 +246,14 @@ class Run:
         return text_of(line)
 
     def _wait(self) -> None:
-        """Waits until something has come, where there is a clock."""
-        while self._clock is not None and not select.select([self._from], [], [], self._clock.pause())[0]:
+        """Waits until something has come, where there is a clock; `Late` also where lines come and come."""
+        while self._clock is not None:
+            came = select.select([self._from], [], [], self._clock.pause())[0]
             self._clock.tick()
             if self._clock.over:
                 raise Late
+            if came:
+                return
 
     def say(self, word: str) -> None:
         """Writes an answer line. Where the program has ended, the next `line` shows it."""

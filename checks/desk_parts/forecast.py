@@ -7,7 +7,10 @@ import contextlib
 import io
 import itertools
 import math
+import os
 import re
+import tempfile
+import time
 import types
 
 import drawn        # desk's folder is on the path now
@@ -16,6 +19,7 @@ import check
 import offers
 import talk
 import trials
+from foreseen import Foreseen
 from vocabulary import Vocabulary
 
 TALKS = "things: a b c d e f\nvalues: 1 2 3\nask: all\nwords: different, not next to, same\n"
@@ -33,6 +37,10 @@ PLANTED = [
     ("trials.py", "        if fits:\n", "        if some:\n            fits = fits or [some[0][1]]\n"),
     ("trials.py", "return careful if careful.effort <= DEAR * cheapest.effort else cheapest", "return careful"),
     ("trials.py", "return [values for values in asked if foreseen.violated(values) is None]", "return list(asked)"),
+    ("talk.py", "            self._clock.tick()\n            if self._clock.over:\n                raise Late\n            if came:\n                return\n",
+     "            if came:\n                return\n            self._clock.tick()\n            if self._clock.over:\n                raise Late\n"),
+    ("talk.py", "        if clock is not None:\n            clock.tick()\n", "        if clock is not None and not came:\n            clock.tick()\n"),
+    ("talk.py", "        if clock is not None and clock.over:\n            raise Late(", "        if clock is not None and clock.over and not came:\n            raise Late("),
     ("offers.py", "if most + 1 in have or not some", "if not some"),
     ("offers.py", "return min(found, key=", "return max(found, key="),
 ]
@@ -135,6 +143,42 @@ def time_over(program: str) -> list[str]:
     return faults
 
 
+ASKS_ON = """#!/bin/sh
+# questions without an end, each as soon as the one before is answered; or all at once, where nobody answers
+k=0
+[ "$2" = play ] && yes=" yes"
+while [ $k -lt 100000 ]; do k=$((k + 1)); echo "q$k a=1 b=1$yes"; [ "$yes" ] || read -r answer; done
+echo converged
+"""
+
+
+def deadlines(program: str) -> list[str]:
+    """A call and a run that go on and on are ended when their time is over, and somebody who waits is told so again and again."""
+    words = Vocabulary(casefile.parse(TALKS, "talks"))
+    faults = []
+    with tempfile.TemporaryDirectory() as folder:
+        path = os.path.join(folder, "asks_on")
+        with open(path, "w", encoding="utf-8") as file:
+            file.write(ASKS_ON)
+        os.chmod(path, 0o755)
+        it = talk.Program(path)
+        for what, tried in (("play", lambda clock: it.call(["x", "play"], b"", clock)),
+                            ("try", lambda clock: trials.slipped(words, it, "scopes", trials.Drawn({}), 99999, Foreseen(words.case), clock))):
+            told: list[str] = []
+            clock = talk.Clock(1.2, told.append)
+            clock.doing("trying it")
+            began = time.monotonic()
+            try:
+                tried(clock)
+                faults.append(f"{what} without an end came to one after {time.monotonic() - began:.1f} s")
+            except talk.Late as late:
+                if what == "play" and not late.lines:
+                    faults.append("what had come until the time was over is lost")
+            if len(told) < 3 or not told[0].startswith("trying it, at most 2 s more"):
+                faults.append(f"who waits for {what} is told {told}")
+    return faults
+
+
 def counts(program: str) -> list[str]:
     """Counts are offered on as many groups as it says, each with one question; none that the case says already."""
     faults = []
@@ -208,7 +252,7 @@ def run(program: str) -> list[str]:
     pairs = ["different", "same", "before", "different, same", "different, before", "not both 1", "not both 1, not both 2", "at least 2 apart, same"]
     texts = [f"things: a b\nvalues: {values}\nask: all\nwords: {some}\n" for some in pairs for values in ("1 2", "1 2 3")]
     texts += ["things: a b\nvalues: 1 2\nask: all\nwords: if 1 then 2, not both 1\n", "things: a b\nvalues: 1 2 3\nask: all\nwords: no 2 after 1\n"]
-    faults = advice() + owners() + prices(program) + time_over(program) + counts(program) + whole(program)
+    faults = advice() + owners() + prices(program) + time_over(program) + deadlines(program) + counts(program) + whole(program)
     for text in texts:
         faults += dull(text)
     print(f"forecast: 12 made-up owners, 4 words with their prices, 8 counts, {len(texts)} cases with what can't be forbidden")

@@ -29,7 +29,6 @@ PLANTED = [
     ("trials.py", "SECONDS = 10.0 ", "SECONDS = 60.0 "),
     ("trials.py", "        if clock.over:\n            late = True\n            break\n", ""),
     ("trials.py", "if words.lifted or any(one.late for one in some):", "if words.lifted:"),
-    ("talk.py", "        clock.tick()\n        if clock.over:\n            process.kill()", "        if clock is None:\n            process.kill()"),
 ]
 EXAMS = f"title: Exams\nthings: {' '.join(f'exam{k}' for k in range(100))}\nvalues: 1 .. 15\nask: all\nwords: different, at least 2 apart, before\n"
 
