@@ -36,6 +36,7 @@ KEYS = ("title", "things", "values", "ask", "words", "always", "known", "note", 
 MOST_THINGS = 128       # of the program
 MOST_BYTES = 1_000_000
 MOST_TITLE = 200        # letters
+MOST_WORDS = 256        # more have no room: the program takes 64 rules for groups of each of four sizes
 MOST_FAULTS = 20        # that are told at once
 Read = TypeVar("Read")
 Sized = TypeVar("Sized", bound=HasLength)
@@ -98,6 +99,7 @@ class _Reader:
         title, plan = self._try(self._title), self._try(self._plan)
         if self._try(self._things):
             self._try(self._only)
+        self._try(self._few_words)
         setting = catalogue.Setting(tuple(self.things), tuple(self.values), self.value_parts)
         if not self.things or self.faults:
             self._tell()
@@ -351,8 +353,14 @@ class _Reader:
             low, high = min(setting.value_set(before[-1]) or ()), max(setting.value_set(behind[0]) or ())
             if low > high:
                 raise Fault(f"`{before[-1]} .. {behind[0]}` goes backwards")
-            allowed.update(range(low, high + 1))
+            allowed.update(range(low, high))       # both ends are named
         return allowed
+
+    def _few_words(self) -> None:
+        """A fault where there are more words than any case has room for."""
+        for line in self._of("words")[:1]:
+            self._at(line)
+        self._few({piece.text for piece in self._pieces("words")}, MOST_WORDS, "words")
 
     def _words(self, setting: catalogue.Setting) -> list[Word]:
         """The words, each once."""

@@ -29,6 +29,8 @@ from talk import Program
 
 # how each page begins, by which desk knows its own
 START = '<!DOCTYPE html>\n<html lang="en"><head><meta charset="utf-8"><meta name="generator" content="desk">'
+# what a browser may do for a page: nothing but show it in its own style
+POLICY = "default-src 'none'; style-src 'unsafe-inline'"
 # how pages began before they had this mark: desk's title, and its own style right behind
 OLD_START = re.compile(rb'<!DOCTYPE html>\n<html lang="en"><head><meta charset="utf-8"><meta name="viewport" '
                        rb'content="width=device-width, initial-scale=1"><title>[^<]*</title><style>\n'
@@ -108,7 +110,8 @@ def page(session: Session, ending: Ending, certificate: Certificate | None) -> s
                                                    *beside(session.case), *(plans(session, found) if done else ()), *pattern_view(session))
     body = joined(element("h1", session.case.title), element("p", state_text(session, ending), class_="dim"), *ruled, answers(session),
                   proof(certificate, ending.word))
-    head = joined(element("meta", name="viewport", content="width=device-width, initial-scale=1"),
+    head = joined(element("meta", http_equiv="Content-Security-Policy", content=POLICY),
+                  element("meta", name="viewport", content="width=device-width, initial-scale=1"),
                   element("title", session.case.title), element("style", Html(STYLE)))
     return START + head + "</head>" + element("body", element("main", body)) + "</html>\n"
 

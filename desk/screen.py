@@ -123,7 +123,7 @@ class Screen:
         said = self._text(message, "bold")[:len(layout.foot)] if message else layout.foot
         foot = said + [[] for _ in layout.foot[len(said):]] + self._text(self._keys(sheet, page, len(layout.pages)), "reverse")
         spare = height - len(lines) - len(layout.under) - len(foot)
-        above = [[]] if spare > 1 and layout.under else []
+        above: Lines = [[]] if spare > 1 and layout.under else []
         lines = lines + above + layout.under
         self._print(lines + [[] for _ in range(height - len(lines) - len(foot))] + foot, width, height)
 

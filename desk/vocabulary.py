@@ -24,6 +24,7 @@ from talk import is_question, something_else
 MOST_SCOPES = 8192          # of the program
 MOST_BYTES = 4_194_304      # of the program
 ALL_OF = {2: "all", 3: "all triples", 4: "all fours"}
+MOST_TRIED = 20             # words of which it is looked for which to drop
 SPEAKS_OF = {1: "never V", 2: "different", 3: "all three different", 4: "all four different"}
 
 NOT_ASKED = "write `known` in place of `always`: sample plans keep it then, and it isn't asked about"
@@ -344,6 +345,9 @@ class Vocabulary:
         """Which words to drop, one after the other, until the others are few enough."""
         self._tables = {}
         texts = [word.text for word in self.case.words]
+        if len(texts) > MOST_TRIED:
+            return (f"the {len(texts)} words combine to more rules on groups of {arity} than the {MOST_RELATIONS} that the program takes: "
+                    f"keep the few that matter most. With {MOST_TRIED} or fewer desk says which to drop")
         dropped: tuple[str, ...] = ()
         count = first = self.cost(arity)
         while count > MOST_RELATIONS and len(dropped) < len(texts):

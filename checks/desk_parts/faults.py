@@ -29,6 +29,9 @@ PLANTED = [
     ("names.py", "return None if ranged and _of_a_kind(first, others[0]) else Heading", "return Heading"),
     ("casefile.py", "self.line_number = number\n", "self.line_number = number - 1\n"),
     ("names.py", 'return f"; the nearest is `{found[0]}`" if found else ""', 'return ""'),
+    ("casefile.py", "allowed.update(range(low, high))", "allowed.update(range(low, high - 1))"),
+    ("casefile.py", 'self._once((member for part in parts for member in part.members), "`{}` stands in two sides of the grid")', "pass"),
+    ("names.py", "if len(numbers) > MOST_FILLED:", "if len(numbers) > 2 * MOST_FILLED:"),
 ]
 
 # a text, and what is said of it behind the file's name
@@ -67,6 +70,16 @@ FAULTS = [
     ("things: day Mon Tue x shift\nvalues: a\n" + REST, ":1: a side of a grid is its name and its members, as `day Mon Tue`; `shift` has no members"),
     ("things: day Mon .. Foo x shift a b\nvalues: c\n" + REST, ":1: `Mon .. Foo` can't be filled in: write the names out, or count days, months, numbers or letters upwards"),
     ("things: a=b c\nvalues: d e\n" + REST, ":1: `a=b`: a name has no `=` in it"),
+    ("things: day Mon Tue x shift Mon late\nvalues: c\nask: all\nwords: same\n", ":1: `Mon` stands in two sides of the grid"),
+    ("things: day Mon Mon x shift early late\nvalues: c\nask: all\nwords: same\n", ":1: the member `Mon` stands twice"),
+    ("things: day Mon Tue x day early late\nvalues: c\nask: all\nwords: same\n", ":1: the side `day` stands twice"),
+    ("things: 1 .. 200\nvalues: c\nask: all\nwords: same\n", ":1: there are 200 things, and the program takes 128: leave some out, or split the case"),
+    ("things: 1 .. 201\nvalues: c\nask: all\nwords: same\n", ":1: `1 .. 201` are 201 names, and `..` fills in 200 at most: a case has fewer"),
+    ("things: Z .. a\nvalues: c\nask: all\nwords: same\n",
+     ":1: `Z .. a` can't be filled in: write the names out, or count days, months, numbers or letters upwards"),
+    ("things: a=1 .. a=3, b\nvalues: c\nask: all\nwords: same\n", ":1: `a=1`: a name has no `=` in it"),
+    (WARD + "only Sun: Eve .. Cas\n" + ASK, ":3: `Eve .. Cas` goes backwards"),
+    (WARD + "only Sun: Cas ..\n" + ASK, ":3: `..` stands between two values"),
     (WARD + "only Mno early: Ann\n" + ASK, ":3: no such thing: Mno early; the nearest is `Mon early`"),
     (WARD + "only Mon early: Anne\n" + ASK, ":3: no such value: Anne; the nearest is `Ann`"),
     (WARD + "only Mon: Ann\nonly Mon early: Ben\n" + ASK, ":4: `Mon early` would have no value left"),
@@ -192,6 +205,23 @@ def right() -> list[str]:
         if words.values_of(words.tokens_of(values)) != values:
             faults.append(f"{values} come back as {words.values_of(words.tokens_of(values))}")
     return faults
+
+
+def allowed() -> list[str]:
+    """`only` lines: the values that a thing may take, with both ends of a range, also where they are members of a grid."""
+    ward = WARD + ASK
+    grid = "things: a b\nvalues: day Mon Tue Wed x hour 1 2\nask: all\nwords: same\n"
+    found = []
+    for text, wanted in ((ward + "only Sun: Cas .. Eve\n", (2, 3, 4)), (ward + "only Sun: Ann Cas .. Dee\n", (0, 2, 3)), (ward + "only Sun: Ann .. Ben Dee .. Eve\n", (0, 1, 3, 4)),
+                         (ward + "only Sun late: Eve .. Eve\n", (4,)), (ward + "only Sun: Ann, Eve\n", (0, 4)), (ward + "only Sun: Ann .. Dee\nonly Sun late: Cas .. Eve\n", (2, 3)),
+                         (grid + "only b: Mon .. Tue\n", (0, 1, 2, 3)), (grid + "only b: Mon 2 .. Wed 1\n", (1, 2, 3, 4)), (grid + "only b: 2\n", (1, 3, 5)), (grid + "only b: Wed\n", (4, 5))):
+        things = casefile.parse(text, "it.case").things
+        thing = next(thing for thing in things if thing.name in ("Sun late", "b"))
+        whole = tuple(range(5 if "day Mon .. Sun" in text else 6))
+        others = [other.allowed for other in things if not other.name.startswith("Sun") and other.name != "b"]
+        if thing.allowed != wanted or any(other != whole for other in others):
+            found.append(f"{text.splitlines()[-1]} allows {thing.name} {thing.allowed} and not {wanted}, and others {others[0]}")
+    return found
 
 
 def run(program: str) -> list[str]:

@@ -16,6 +16,9 @@ from vocabulary import Vocabulary
 
 import casefile
 import catalogue
+import hands
+import solver
+from session import Session
 import sentences
 
 LIST = ["p", "q", "r", "s", "t"]
@@ -29,6 +32,7 @@ PLANTED = [
     ("catalogue.py", "return y == x + 1 and (not last or y % last != 0)", "return y == x + 1"),
     ("coding.py", "first = len(value_of) + 1", "first = len(value_of)"),
     ("vocabulary.py", "return lambda some: holds(*(value_of[some[place] - 1] for place in places))", "return lambda some: holds(*(value_of[some[-1 - place] - 1] for place in places))"),
+    ("coding.py", "loose.append(thing)", "pass"),
 ]
 
 
@@ -212,6 +216,26 @@ def counted_over_all(program: str) -> list[str]:
     return faults
 
 
+def loose(program: str) -> list[str]:
+    """Where what each thing may take can't be made one range of numbers, a value in a thing's range that it mustn't take is never
+    put to a person, and no plan has it."""
+    text = ("things: t1 t2 t3 t4 t5 t6\nvalues: 1 .. 20\nonly t1: 1 2\nonly t2: 2 3\nonly t3: 1 3\nask: t1 - t3, t2 - t3, t3 - t4\nwords: different\n")
+    with hands.room("loose", text) as path, Session.opened(casefile.read(path), Program(program), "scopes") as session, session.sit() as sitting:
+        case, outside, faults = casefile.read(path), [], []
+        if len(session.vocabulary.coding.loose) != 1:
+            faults.append(f"loose: the ranges are {session.vocabulary.coding.ranges}")
+        sitting.advance()
+        while sitting.question is not None:
+            outside += [values for values in [sitting.question.values] if any(value not in case.things[thing].allowed for thing, value in values.items())]
+            sitting.answer(len(set(sitting.question.values.values())) == len(sitting.question.values))
+            sitting.advance()
+        plans = solver.plans(session.program, session.vocabulary, session.journal, 3) if solver.name() else [{0: 0, 1: 1, 2: 2, 3: 5, 4: 5, 5: 5}]
+        outside += [plan for plan in plans if any(value not in case.things[thing].allowed for thing, value in plan.items())]
+        if outside or not plans:
+            faults.append(f"loose: a thing has a value that `only` forbids: {outside[:2]}, in {len(plans)} plans")
+    return faults
+
+
 def too_many() -> list[str]:
     """Too many words: desk says which to drop, and without that one the program takes the others."""
     head = "things: a b\nvalues: p q r s t\nask: all\n"
@@ -237,7 +261,7 @@ def listed() -> list[str]:
 
 def run(program: str) -> list[str]:
     """Faults of all words."""
-    faults = listed() + named_things(program) + lifted(program) + counted_over_all(program) + too_many()
+    faults = listed() + named_things(program) + lifted(program) + loose(program) + counted_over_all(program) + too_many()
     for text, (arity, meaning) in ON_LIST.items():
         faults += one(program, text, arity, meaning, LIST, "p q r s t")
     for text, (arity, meaning) in ON_GRID.items():

@@ -24,12 +24,22 @@ import style
 import talk
 
 VOID = {"meta", "br"}
+TAGS = {"html", "head", "meta", "title", "style", "body", "main", "section", "h1", "h2", "p", "ul", "li", "span", "div", "figure", "figcaption",
+        "table", "thead", "tbody", "tr", "th", "td", "br", "details", "summary", "pre", "code"}
+ATTRIBUTES = {"lang", "charset", "name", "content", "http-equiv", "class", "scope"}
+POLICY = "default-src 'none'; style-src 'unsafe-inline'"
 BROWSERS = ("chromium", "chromium-browser", "google-chrome")
 MARKED = """title: Bäckerei <b>&"'</b> &amp; ünd
 things: day Mo Di x schicht früh spät nachts
 values: Änne <i>Ben</i> "Cas" D&D
 ask: same day
 words: different, never <i>Ben</i>
+"""
+HOSTILE = """title: </title></style><script>alert(1)</script><!-- &lt;b&gt; ]]> <?php
+things: </td><td onclick>, '><script>alert(1)</script>, &#60;i&#62;, <svg/onload>
+values: </ul></section>, javascript:alert(1), <!--
+ask: all
+words: different, never <!--
 """
 TEMPER = """title: Leer
 thing a: x y
@@ -62,7 +72,7 @@ def run(program: str) -> list[str]:
             ending = hands.answered(path, program, owner, plan, most)
             looked += 1
             faults += [f"pages: {name} in {plan}, {ending}: {fault}" for fault in one_page(program, path, ending, browser if looked != 4 else None)]
-    for row in (clash, given, unwritable, no_session):
+    for row in (hostile, clash, given, unwritable, no_session):
         faults += [f"pages: {row.__name__}: {fault}" for fault in row(program)]
     print(f"pages: {looked} pages" + ("" if browser else "; no chromium is installed, so no browser looked at them"))
     return faults
@@ -107,6 +117,15 @@ class Page(HTMLParser):
         if tag in ("td", "th"):
             self.tables[-1][-1].append("")
 
+    def handle_comment(self, data: str) -> None:
+        self.faults.append(f"a comment: {data[:40]}")
+
+    def unknown_decl(self, data: str) -> None:
+        self.faults.append(f"a declaration: {data[:40]}")
+
+    def handle_pi(self, data: str) -> None:
+        self.faults.append(f"an instruction: {data[:40]}")
+
     def handle_endtag(self, tag: str) -> None:
         if not self.open or self.open.pop() != tag:
             self.faults.append(f"</{tag}> closes something else")
@@ -148,10 +167,13 @@ def form(content: str) -> list[str]:
     found = list(page.faults)
     if not content.startswith("<!DOCTYPE html>\n<html lang=\"en\"><head><meta charset=\"utf-8\">"):
         found.append(f"begins {content[:60]!r}")
-    if names & {"script", "link", "img", "iframe", "object", "b", "i"} or "http" in content or "url(" in content or "@import" in content:
-        found.append(f"has {names & {'script', 'link', 'img', 'iframe', 'b', 'i'}} or fetches something")
-    if any(key.startswith("on") for _, attrs in page.tags for key in attrs):
-        found.append("has an attribute that runs something")
+    if names - TAGS or re.search(r"https?:", content) or "url(" in content or "@import" in content:
+        found.append(f"has {names - TAGS} or fetches something")
+    if other := {key for _, attrs in page.tags for key in attrs} - ATTRIBUTES:
+        found.append(f"has attributes that no page needs: {other}")
+    policies = [place for place, (tag, attrs) in enumerate(page.tags) if attrs.get("http-equiv") == "Content-Security-Policy" and attrs["content"] == POLICY]
+    if len(policies) != 1 or policies[0] > [tag for tag, _ in page.tags].index("title"):
+        found.append("no policy says in front of all else that a browser only shows it")
     heads = [attrs.get("scope") for tag, attrs in page.tags if tag == "th"]
     if not all(scope in ("col", "row") for scope in heads) or page.texts.get("thead", []) == [] != page.texts.get("table", []):
         found.append("a table has no heads")
@@ -304,6 +326,21 @@ def contrast() -> list[str]:
     if used - set(style.COLOURS) or "prefers-color-scheme:dark" not in style.STYLE or "@page{size:A4" not in style.STYLE:
         found.append(f"colours without a meaning: {used - set(style.COLOURS)}")
     return found
+
+
+def hostile(program: str) -> list[str]:
+    """Names, a title and a file name that look like a page's own tags are text of it, wherever they stand."""
+    with hands.room("hostile", HOSTILE) as path:
+        ending = hands.answered(path, program, lambda q: len(set(q.values())) == len(q))
+        found = one_page(program, path, ending, None)
+        target = os.path.join(os.path.dirname(path), "<script>alert(1)<!--\"'&.html")
+        ran = hands.report(program, path, target)
+        with open(target, encoding="utf-8") as file:
+            page = Page(file.read())
+        codes = page.texts.get("code", [])
+        if ran.returncode or page.faults or {tag for tag, _ in page.tags} - TAGS or os.path.basename(target).replace(".html", ".certificate") not in codes:
+            found.append(f"a file name that looks like a tag: {page.faults}, {codes}, {ran.stderr}")
+        return found
 
 
 def clash(program: str) -> list[str]:
