@@ -26,6 +26,8 @@ from talk import Clock, Program
 KEYS = (("y", "yes"), ("n", "no"), ("b", "back"), ("w", "why"), ("r", "rules"), ("s", "answers"), ("q", "stop"), ("?", "help"))
 PART = "Judge what is filled in, don't think of the rest."
 WHOLE = "Everything is filled in. Is this all right?"
+YOURS = ("Question {number} had been answered for you from what you have just answered otherwise, so it is yours to answer now. "
+         "Your later answers count again where they decide a question.")
 STATUS = {"converged": 0, "collapsed": 4, "undecided": 5, "suspended": 6}
 HELP = """A question shows a plan, or a part of one. Say whether what is filled in is all right, as far as it goes. Don't think of the rest: \
 whether the empty places can be filled as well isn't asked.
@@ -154,6 +156,8 @@ class Asking:
             self.before = question
             since = len(self.session.answers)
             self.sitting.answer(key == "y")
+            if self.sitting.question is not None:
+                self.before, self.note = None, YOURS.format(number=self.sitting.question.number)
             self._advance()
             self.taught = views.taught_text(self.session, since, self.told)
         elif key == "b":

@@ -9,11 +9,13 @@ from __future__ import annotations
 
 import contextlib
 import fcntl
+import itertools
 import json
 import os
 import re
 import shlex
 from collections.abc import Iterator, Sequence
+from dataclasses import dataclass
 from typing import TypedDict
 
 import casefile
@@ -23,7 +25,7 @@ import letters
 import trials
 import vocabulary
 from files import journal_of, kept_of
-from foreseen import AGAIN, CARRIED, Foreseen, Old, old
+from foreseen import AGAIN, ALWAYS, CARRIED, Foreseen, Old, old
 from model import Answer, Case, Constraint, Ending, Fault, Question, Rule, Values
 from possible import Possible
 from talk import Clock, Program, Reply, Run, is_question, something_else
@@ -277,10 +279,27 @@ class Session:
         self.possible.back()
         return self.answers.pop()
 
-    def contradicted(self, values: Values, yes: bool) -> None:
-        """Drops the old answers that a new one contradicts."""
-        if self.foreseen.forget(values, yes):
+    def contradicted(self, values: Values, yes: bool) -> bool:
+        """Drops the old answers that a new one contradicts; whether there were some."""
+        dropped = self.foreseen.forget(values, yes)
+        if dropped:
             self.keep()
+        return dropped
+
+    def trusted(self, some: Sequence[Old]) -> None:
+        """Takes old answers back in, which the person's new one bears out."""
+        if some:
+            self.foreseen.remember(some)
+            self.keep()
+
+    def groundless(self) -> int | None:
+        """The place of the first answer that was given for the person and wouldn't be now; None where there is none."""
+        for place, answer in enumerate(self.answers):
+            if answer.said is not None and answer.said.by != ALWAYS:
+                said = self.foreseen.answer(answer.question.values)
+                if said is None or said.yes != answer.yes:
+                    return place
+        return None
 
     def taught(self, since: int) -> Iterator[Rule]:
         """The rules that were settled by a no from a place on, without those that were said beforehand; answers that were given
@@ -321,6 +340,20 @@ class Session:
         return Run(self.program, [self.journal, "run", *self.budget_words()], self._lock)
 
 
+@dataclass(frozen=True)
+class Aside:
+    """What a step back has put aside so that its question waits."""
+
+    yes: bool               # how it was answered
+    reasons: list[Old]      # the old answers that would answer it
+    mine: list[Old]         # the person's own answer to it, if it was theirs
+
+    @property
+    def every(self) -> list[Old]:
+        """All of it, for one more step back."""
+        return self.mine + self.reasons
+
+
 class Sitting:
     """A person in front of a session; a context manager. Either a question waits, or it has ended."""
 
@@ -330,7 +363,7 @@ class Sitting:
         self.question: Question | None = None
         self.ending: Ending | None = None
         self.given: list[Answer] = []
-        self._aside: list[Old] = []         # what a step back has put aside so that its question waits, until that is answered
+        self._aside: Aside | None = None    # while the question of a step back waits
         self._run: Run | None = session.run()
 
     def __enter__(self) -> Sitting:
@@ -351,6 +384,7 @@ class Sitting:
                 return
             self._run.say("yes" if said.yes else "no")
             self.given.append(self.session.added(self.question, said.yes))
+            self._aside = None
             self._next()
 
     def _next(self) -> bool:
@@ -376,12 +410,24 @@ class Sitting:
             self.session.reload()
 
     def answer(self, yes: bool) -> None:
-        """The person's answer to the question; `advance` goes on."""
+        """The person's answer to the question; `advance` goes on.
+
+        Where it takes their reason from answers that were given for them, the first of these is gone back to, and its question
+        waits then.
+        """
         assert self.question is not None and self._run is not None
-        self.session.contradicted(self.question.values, yes)
+        aside, self._aside = self._aside, None
+        dropped = self.session.contradicted(self.question.values, yes)
+        if aside is not None and aside.yes == yes:
+            self.session.trusted(aside.reasons)
+        elif aside is not None:
+            dropped = dropped or bool(aside.reasons)
         self._run.say("yes" if yes else "no")
         self.session.added(self.question, yes, by_person=True)
-        self.question, self._aside = None, []
+        self.question = None
+        place = self.session.groundless() if dropped else None
+        if place is not None:
+            self.back_to(place)
 
     def back(self) -> bool:
         """Takes back the person's last answer and what was given for them behind it; False where they have answered nothing.
@@ -402,14 +448,14 @@ class Sitting:
         """
         session = self.session
         chosen = session.answers[place]
-        later = [old(answer.question.values, answer.yes, AGAIN) for answer in session.answers[place + 1:]
-                 if answer.said is None or answer.said.by == AGAIN]
-        session.foreseen.remember(later + self._aside)
+        mine, *later = [[old(answer.question.values, answer.yes, AGAIN)] if answer.said is None or answer.said.by == AGAIN else []
+                        for answer in session.answers[place:]]
+        session.foreseen.remember([*itertools.chain(*later), *(self._aside.every if self._aside else ())])
         before = list(session.foreseen.before)
         # neither an old answer nor a later one is to decide the question that the person wants to see again
         session.foreseen.forget(chosen.question.values, not chosen.yes)
         session.keep()
-        self._aside = [old(chosen.question.values, chosen.yes, AGAIN), *(one for one in before if one not in session.foreseen.before)]
+        self._aside = Aside(chosen.yes, [one for one in before if one not in session.foreseen.before], mine)
         self._take_back(len(session.answers) - place)
 
     def _take_back(self, count: int) -> None:

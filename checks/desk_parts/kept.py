@@ -194,14 +194,21 @@ def after_carry(program: str, path: str, before: Files, wanted: list[str]) -> li
 
 
 def told(program: str, path: str) -> list[str] | None:
-    """The answers of a session of the changed case; None where the old one stands."""
-    try:
-        with session.Session.opened(casefile.read(path), talk.Program(program), make=False) as one:
-            return [f"{answer.yes} {sorted(answer.question.values.items())}" for answer in one.answers]
-    except Fault as fault:
-        if "desk carry" in str(fault):
-            return None
-        raise
+    """The answers of a session of the changed case; None where the old one stands.
+
+    Where desk was killed, its program may hold the lock for a moment.
+    """
+    patience = time.monotonic() + hands.PATIENCE
+    while True:
+        try:
+            with session.Session.opened(casefile.read(path), talk.Program(program), make=False) as one:
+                return [f"{answer.yes} {sorted(answer.question.values.items())}" for answer in one.answers]
+        except Fault as fault:
+            if "desk carry" in str(fault):
+                return None
+            if "another desk works on it" not in str(fault) or time.monotonic() > patience:
+                raise
+            time.sleep(0.05)
 
 
 def after_report(program: str, path: str, before: Files) -> list[str]:

@@ -31,7 +31,9 @@ PLANTED = [
     # what the person says in such a quarrel counts as given for them
     ("session.py", "said = None if by_person else self.foreseen.answer(question.values)", "said = self.foreseen.answer(question.values)"),
     # an old answer that was contradicted counts on
-    ("session.py", "        if self.foreseen.forget(values, yes):\n            self.keep()", "        pass"),
+    ("session.py", "        dropped = self.foreseen.forget(values, yes)\n", "        dropped = False\n"),
+    # what an old answer gave stays where that one counts no more
+    ("session.py", "place = self.session.groundless() if dropped else None", "place = None"),
 ]
 Truth = Callable[[Values], bool]
 
@@ -134,6 +136,33 @@ def carried(program: Program, folder: str, seed: int, words: Vocabulary, text: s
     return faults + found + put_again(program, new), given
 
 
+def earlier(program: Program, folder: str, seed: int, words: Vocabulary, text: str) -> tuple[list[str], int]:
+    """A slip of an earlier session is carried over. The person goes back to the last answer that it gave: what it gave elsewhere is
+    asked anew then."""
+    draw = random.Random(seed)
+    truth = truth_of(words, Owner(words, draw, 0.9))
+    old, new = os.path.join(folder, "slip.case"), os.path.join(folder, "mended.case")
+    for path, plan in ((old, "scopes"), (new, "quacq")):
+        with open(path, "w", encoding="utf-8") as file:
+            file.write(f"{text}plan: {plan}\n")
+    with Session.opened(casefile.read(old), program) as session:
+        sat(session, truth, draw.randrange(4))
+    with contextlib.redirect_stdout(io.StringIO()):
+        carry.main(old, new, argparse.Namespace(acquire=program.path, budget=None))
+    with Session.opened(casefile.read(new), program) as session, session.sit() as sitting:
+        def wrong() -> list[int]:
+            while sitting.question is not None:
+                sitting.answer(truth(sitting.question.values))
+                sitting.advance()
+            return [place for place, answer in enumerate(session.answers) if answer.yes != truth(answer.question.values)]
+        sitting.advance()
+        places = wrong()
+        if not places:
+            return [], 0
+        sitting.back_to(places[-1])
+        return [f"{session.answers[place]} is left" for place in wrong()], 1
+
+
 def put_again(program: Program, path: str) -> list[str]:
     """Who goes back to an answer that was carried over is asked, also on another day: it isn't given again."""
     with Session.opened(casefile.read(path), program) as session:
@@ -209,17 +238,18 @@ def fresh_most(session: Session) -> int:
 def run(program: str) -> list[str]:
     """Faults of all drawn sessions."""
     faults: list[str] = []
-    counts = {"always": 0, "carried": 0, "again": 0}
+    counts = {"always": 0, "carried": 0, "earlier": 0, "again": 0}
     it = Program(program)
     for seed, case, words in drawn.cases(range(9000, 9000 + SESSIONS)):
         with tempfile.TemporaryDirectory() as folder:
-            for what, part in (("always", always), ("carried", carried), ("again", again)):
+            for what, part in (("always", always), ("carried", carried), ("earlier", earlier), ("again", again)):
                 found, given = part(it, folder, seed, words, case.text)
                 faults += named(found, f"{what}, drawn{seed}")
                 counts[what] += given
         if len(faults) > drawn.ENOUGH:
             break
     faults += named(disagreeing(it), "disagreeing")
-    faults += [f"{what}: nothing was ever given, which tests little" for what, count in counts.items() if not count]
-    print("known: answers given for the person, all as the person would: " + ", ".join(f"{count} {what}" for what, count in counts.items()))
+    faults += [f"{what}: nothing was ever given, or gone back to, which tests little" for what, count in counts.items() if not count]
+    print("known: answers given for the person, all as the person would: " + ", ".join(f"{count} {what}" for what, count in counts.items() if what != "earlier")
+          + f"; {counts['earlier']} steps back to slips of an earlier session")
     return faults
