@@ -10,6 +10,7 @@ from __future__ import annotations
 import json
 import os
 import random
+import re
 import shutil
 import signal
 import stat
@@ -386,7 +387,8 @@ def a_page_again(program: str) -> list[str]:
             found.append(f"under the umask 027 it has mode {os.stat(target).st_mode:o}")
         with open(target, encoding="utf-8") as file:
             first = file.read()
-        old = first.replace('<meta name="generator" content="desk">', "")
+        head = '<meta charset="utf-8"><meta name="viewport" content="width=device-width, initial-scale=1"><title>'
+        old = re.sub('<meta charset="utf-8">.*?<title>', head, first, count=1, flags=re.DOTALL)
         with open(target, "w", encoding="utf-8") as file:
             file.write(old)
         os.chmod(target, 0o600)
