@@ -8,7 +8,7 @@ another may be right, as on a Sunday, and may be a slip; so it is shown, with th
 from __future__ import annotations
 
 from collections import Counter, defaultdict
-from collections.abc import Callable, Iterable, Sequence
+from collections.abc import Callable, Iterable, Iterator, Sequence
 from dataclasses import dataclass
 
 import sentences
@@ -79,13 +79,29 @@ def _odd_in_list(vocabulary: Vocabulary, learned: Iterable[Constraint], answers:
                 has = on.get(scope, ())
                 found[scope] = Odd(scope, has, would, len(said.rules), behind(scope, has, would, answers))
     for some in by_word.values():
-        alone = [said.rules[0] for said in some if len(said.rules) == 1]
-        if 4 * len(alone) <= sum(len(said.rules) for said in some):
-            for rule in alone:
-                scope = tuple(sorted(rule.things))
-                if scope in on:
-                    found.setdefault(scope, Odd(scope, on[scope], (), 0, behind(scope, on[scope], (), answers)))
+        for scope in _alone(some):
+            if scope in on:
+                found.setdefault(scope, Odd(scope, on[scope], (), 0, behind(scope, on[scope], (), answers)))
     return [found[scope] for scope in sorted(found)]
+
+
+def _alone(some: Sequence[Sentence]) -> Iterator[Things]:
+    """The pairs of a word's rules that stand alone: few of many, and no thing that is like one of the pair, in that it has the rule
+    with a third one as well, has it with the other one of the pair."""
+    if some[0].rules[0].word.arity != 2:
+        return
+    beside: dict[int, set[int]] = defaultdict(set)
+    for one, other in (rule.things for said in some for rule in said.rules):
+        beside[one].add(other)
+        beside[other].add(one)
+    alone = [said.rules[0].things for said in some if len(said.rules) == 1]
+    if 4 * len(alone) > sum(len(said.rules) for said in some):
+        return
+    for pair in alone:
+        thirds = (beside[pair[0]] | beside[pair[1]]) - set(pair)
+        like = {thing for thing in beside if beside[thing] & thirds} - set(pair)
+        if not any(beside[thing] & set(pair) for thing in like):
+            yield tuple(sorted(pair))
 
 
 def _patterns(along: Along, scopes: Iterable[Things]) -> dict[Pattern, list[Things]]:

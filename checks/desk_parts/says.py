@@ -20,6 +20,7 @@ import talk
 import vocabulary
 
 DRAWN = 540
+FEW = 60            # where a bug is planted
 HALL = """title: Hall
 things: day Mon Tue Wed Thu x hour 9 10 x room A B
 values: chess choir yoga none
@@ -68,7 +69,9 @@ PLANTED = [
     # what a sentence excepts isn't odd
     ("patterns.py", "        for things in said.out:", "        for things in ():"),
     # what stands alone isn't odd
-    ("patterns.py", "if 4 * len(alone) <= sum(", "if 4 * len(alone) > sum("),
+    ("patterns.py", "if 4 * len(alone) > sum(", "if 4 * len(alone) <= sum("),
+    # what is like others that aren't finished yet is odd
+    ("patterns.py", "if not any(beside[thing] & set(pair) for thing in like):", "if True:"),
     # each three are said to be each two
     ("sentences.py", 'COUNTED = {2: "two", 3: "three", 4: "four"}', 'COUNTED = {2: "two", 3: "two", 4: "four"}'),
 ]
@@ -76,10 +79,20 @@ PLANTED = [
 
 def run(program: str) -> list[str]:
     """The faults that were found."""
+    return looked(program, DRAWN)
+
+
+def quick(program: str) -> list[str]:
+    """The same of fewer networks."""
+    return looked(program, FEW)
+
+
+def looked(program: str, drawn: int) -> list[str]:
+    """The faults of so many drawn networks, and of the rows."""
     faults: list[str] = []
     draw = random.Random(5)
     count = 0
-    for turn in range(DRAWN):
+    for turn in range(drawn):
         words = vocabulary.build(casefile.parse(CASES[turn % len(CASES)], "drawn.case"))
         constraints = drawn_constraints(draw, words)
         needed = [one for one in constraints if draw.random() < 0.7]
@@ -88,7 +101,7 @@ def run(program: str) -> list[str]:
         faults += [f"sentences: case {turn}: {fault}" for fault in wrong(words, constraints, needed, said)]
     for row in (worked, odd_ones, odd_in_list):
         faults += [f"sentences: {row.__name__}: {fault}" for fault in row(program)]
-    print(f"sentences: {count} sentences of {DRAWN} drawn networks, read back")
+    print(f"sentences: {count} sentences of {drawn} drawn networks, read back")
     return faults[:20]
 
 
@@ -366,4 +379,9 @@ def odd_in_list(program: str) -> list[str]:
                 about = [" ".join(names[thing] for thing in one.answers[place].question.values) for it in odd for place in it.behind]
         if got != wanted or about != list(wrong):
             found.append(f"{wrong}: {got}, and the answers about {about}")
+    with hands.room("store", text) as path:
+        hands.answered(path, program, lambda q: len(set(q.values())) == len(q), most=13)    # all differ, as far as they were asked
+        with session.Session.opened(casefile.read(path), talk.Program(program)) as one:
+            if odd := patterns.odd(one.vocabulary, one.learned(), one.answers, one.possible.open):
+                found.append(f"half on the way: {[(it.scope, it.of) for it in odd]}")
     return found
