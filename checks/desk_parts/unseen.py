@@ -146,6 +146,18 @@ def in_calls(program: str) -> list[str]:
     return found
 
 
+def from_the_program(program: str) -> list[str]:
+    """What the program says at the end of a run is shown with the numbers of such letters."""
+    with hands.room() as path:
+        mocking = os.path.join(os.path.dirname(path), "mocking")
+        with open(mocking, "w", encoding="utf-8") as file:
+            file.write(f"#!/bin/sh\nif [ \"$2\" = run ]; then printf 'refused {TERMINAL[0]}\\n'; exit 7; fi\nexec {program} \"$@\"\n")
+        os.chmod(mocking, stat.S_IRWXU)
+        ran = hands.desk("ask", path, "--acquire", mocking, "--plan", "scopes")
+        good = ran.returncode == 1 and "acquire says: refused <U+001B>]0;PWNED<U+0007>" in ran.stdout and plain(ran.stdout + ran.stderr)
+        return [] if good else [str(ran)]
+
+
 def plain(text: str) -> bool:
     """Whether a text has nothing but letters that are shown, and lines."""
     return all(letter.isprintable() or letter == "\n" for letter in text)
@@ -185,5 +197,5 @@ def run(program: str) -> list[str]:
 def quick(program: str) -> list[str]:
     """The same without a terminal."""
     faults = [f"{part.__name__}: {fault}" for part in (in_lines, ends, joiners, faults_are_lines) for fault in part()]
-    return faults + [f"{part.__name__}: {fault}" for part in (composed, in_calls) for fault in part(program)]
+    return faults + [f"{part.__name__}: {fault}" for part in (composed, in_calls, from_the_program) for fault in part(program)]
 
