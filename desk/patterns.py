@@ -18,6 +18,7 @@ from sentences import Sentence
 from vocabulary import Vocabulary
 
 LEAST_GROUPS = 3            # settled ones of a pattern, from which on one can be odd
+MANY = 5                    # so many rules a sentence says for each pair that it excepts, where this is odd
 Said = tuple[str, Things]          # a rule's word, and the places of its things in the group
 
 
@@ -72,7 +73,7 @@ def _odd_in_list(vocabulary: Vocabulary, learned: Iterable[Constraint], answers:
     by_word: dict[str, list[Sentence]] = defaultdict(list)
     for said in sentences.grouped(vocabulary, learned):
         by_word[said.rules[0].word.text].append(said)
-        for things in said.out:
+        for things in said.out if len(said.rules) >= MANY * len(said.out) else ():
             scope, word = tuple(sorted(things)), said.rules[0].word
             if scope in scopes and (scope in on or not is_open(scope)):
                 would = (Rule(word, things, word.said_of(tuple(names[thing] for thing in things))),)

@@ -31,8 +31,8 @@ BEFOREHAND = "It stands in a line `always` of the case. If it isn't so, take it 
 UNSAYABLE = (("o", "go on"), ("b", "look at the plan again"), ("q", "enough"))
 SLIP = "If it is as you say, one of these answers was a slip, or your words can't say it:"
 NONE = (("o", "none of these was wrong"), ("b", "look at the plan again"), ("q", "enough"))
-MISSING = ("With a word that can say it in the case, `desk carry` takes your answers over, so that only what is new is asked. What desk can't "
-           "learn at all, as how often somebody works in a week, stays with you.")
+STAYS = "What desk can't learn at all, as how often somebody works in a week, stays with you."
+MISSING = "With a word that can say it in the case, `desk carry` takes your answers over, so that only what is new is asked. " + STAYS
 
 
 @dataclass
@@ -102,7 +102,7 @@ class Review:
             return self.face.put(Sheet("You said this rule beforehand", (f"{shown.title}. " + BEFOREHAND,), keys=UNSAYABLE)), None
         with patience(self.face, "looking for a word that can say it .."):
             lacking = missing.told(self.session, missing.lacking(self.session, values, not shown.allowed))
-        key = self.face.put(Sheet("Your words can't say this", (*lacking, "", MISSING), keys=UNSAYABLE))
+        key = self.face.put(Sheet("Your words can't say this", (*lacking, "", STAYS), keys=UNSAYABLE))
         if key != "b":
             self.unsayable.append(f"{point.named(self.session, values)} (allowed, and wrong)" if cells else shown.title)
         return key, None

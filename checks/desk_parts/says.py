@@ -67,7 +67,7 @@ PLANTED = [
     # an exception isn't named
     ("blocks.py", "out = {_pair(one, other, even) for one, other in every if not holds[one] >> other & 1}", "out = set()"),
     # what a sentence excepts isn't odd
-    ("patterns.py", "        for things in said.out:", "        for things in ():"),
+    ("patterns.py", "        for things in said.out if", "        for things in () if"),
     # what stands alone isn't odd
     ("patterns.py", "if 4 * len(alone) > sum(", "if 4 * len(alone) <= sum("),
     # what is like others that aren't finished yet is odd
