@@ -78,7 +78,8 @@ def main(path: str, options: argparse.Namespace) -> int:
 
 
 def kept(session: Session) -> str:
-    """How many answers are kept: those that the program itself has in the journal once it has ended."""
+    """How many answers are kept: those that the program itself has in the journal once it has
+    ended."""
     given = len(session.answers)
     try:
         session.reload()
@@ -89,7 +90,8 @@ def kept(session: Session) -> str:
 
 
 def moving(face: Face) -> Callable[[str], None]:
-    """What shows how far something is that takes a while; nothing where each line stays, and would be read out."""
+    """What shows how far something is that takes a while; nothing where each line stays, and would
+    be read out."""
     return (lambda _: None) if face.stays else face.wait
 
 
@@ -129,7 +131,8 @@ class Asking:
         self.told: set[str] = set()                 # what answers have taught since the last step back
 
     def run(self) -> Ending | None:
-        """Asks until the program ends or the person stops; None where they stop in front of a contradiction."""
+        """Asks until the program ends or the person stops; None where they stop in front of a
+        contradiction."""
         if self.session.answers:
             self.note = f"It goes on where it was, after {len(self.session.answers)} answer{'s' if len(self.session.answers) != 1 else ''}."
         if self.session.against():
@@ -188,7 +191,8 @@ class Asking:
         self.note = f"Your {'yes' if last.yes else 'no'} to question {last.question.number} is taken back; here it comes again."
 
     def _back_to(self, place: int) -> None:
-        """Takes back the answer at a place; what was said after it is used again where it decides."""
+        """Takes back the answer at a place; what was said after it is used again where it
+        decides."""
         answer = self.session.answers[place]
         self.sitting.back_to(place)
         self.before, self.taught, self.told = None, "", set()
@@ -210,8 +214,9 @@ class Asking:
 
 
 def marks(values: Values, before: Question | None) -> dict[int, str]:
-    """What differs from the last question: other values, and places that are empty now. Where the two have no place in common
-    there is nothing to compare, and where all places are new as well."""
+    """What differs from the last question: other values, and places that are empty now. Where the
+    two have no place in common there is nothing to compare, and where all places are new as
+    well."""
     if before is None or not set(values) & set(before.values):
         return {}
     changed = {thing: CHANGED for thing, value in values.items() if before.values.get(thing) != value}

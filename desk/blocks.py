@@ -1,6 +1,8 @@
-"""Rules of one word between two sets of things, as `each of a and b differs from each of c, d and e`.
+"""Rules of one word between two sets of things, as `each of a and b differs from each of c, d and
+e`.
 
-A set of things is a whole number here, a bit a thing: there may be 128 things and 8,128 pairs of them.
+A set of things is a whole number here, a bit a thing: there may be 128 things and 8,128 pairs of
+them.
 """
 
 from __future__ import annotations
@@ -17,19 +19,23 @@ MOST_EXCEPTIONS = 3
 
 @dataclass(frozen=True)
 class Block:
-    """Two sets of things such that a rule holds of each of the first with each of the second, but for a few pairs."""
+    """Two sets of things such that a rule holds of each of the first with each of the second, but
+    for a few pairs."""
 
     firsts: tuple[int, ...]
     seconds: tuple[int, ...]
-    says: tuple[Pair, ...]      # the pairs that no block before it says, rising
-    out: tuple[Pair, ...]       # the pairs of which the rule doesn't hold, rising
+    says: tuple[Pair, ...]  # the pairs that no block before it says, rising
+    out: tuple[Pair, ...]  # the pairs of which the rule doesn't hold, rising
 
 
-def blocks(pairs: Iterable[Pair], held: Iterable[Pair], asked: Iterable[Pair], even: bool) -> Iterator[Block]:
+def blocks(
+    pairs: Iterable[Pair], held: Iterable[Pair], asked: Iterable[Pair], even: bool
+) -> Iterator[Block]:
     """Blocks that say pairs, the one that says most first, as long as one says two and more.
 
-    `held` are the pairs of which the word holds, `pairs` among them, and `asked` those of which it may hold: a block excepts no
-    others. `even` says that a word says the same either way round; pairs rise within themselves where it does.
+    `held` are the pairs of which the word holds, `pairs` among them, and `asked` those of which it
+    may hold: a block excepts no others. `even` says that a word says the same either way round;
+    pairs rise within themselves where it does.
     """
     left, holds, may = _rows(pairs, even), _rows(held, even), _rows(asked, even)
     while (found := _largest(left, holds, even)) is not None:
@@ -62,7 +68,8 @@ def _turned(rows: dict[int, int]) -> dict[int, int]:
 
 
 def _largest(left: dict[int, int], holds: dict[int, int], even: bool) -> tuple[int, int] | None:
-    """The block without exceptions that says most, of those in which some thing has just these beside it."""
+    """The block without exceptions that says most, of those in which some thing has just these
+    beside it."""
     found = [(one, seconds) for one, seconds in _found(left, holds)]
     if not even:
         found += [(firsts, one) for one, firsts in _found(_turned(left), _turned(holds))]
@@ -73,27 +80,47 @@ def _largest(left: dict[int, int], holds: dict[int, int], even: bool) -> tuple[i
 def _found(left: dict[int, int], holds: dict[int, int]) -> Iterator[tuple[int, int]]:
     """For each thing a block of all that is left beside it."""
     for some in sorted(set(left.values()) - {0}):
-        yield sum(1 << one for one, mine in left.items() if mine & some and holds[one] & some == some), some
+        yield sum(
+            1 << one for one, mine in left.items() if mine & some and holds[one] & some == some
+        ), some
 
 
-def _wider(firsts: int, seconds: int, left: dict[int, int], holds: dict[int, int], may: dict[int, int],
-           even: bool) -> tuple[int, int]:
-    """A block with the things that fit it but for a few pairs, as long as these are a quarter of all at most."""
+def _wider(
+    firsts: int,
+    seconds: int,
+    left: dict[int, int],
+    holds: dict[int, int],
+    may: dict[int, int],
+    even: bool,
+) -> tuple[int, int]:
+    """A block with the things that fit it but for a few pairs, as long as these are a quarter of
+    all at most."""
     turned, left_turned = (holds, left) if even else (_turned(holds), _turned(left))
     while True:
-        sides = [(firsts | 1 << one, seconds) for one in sorted(left)
-                 if not (firsts | seconds) >> one & 1 and _joins(one, seconds, left, holds)]
-        sides += [(firsts, seconds | 1 << one) for one in sorted(left_turned)
-                  if not (firsts | seconds) >> one & 1 and _joins(one, firsts, left_turned, turned)]
+        sides = [
+            (firsts | 1 << one, seconds)
+            for one in sorted(left)
+            if not (firsts | seconds) >> one & 1 and _joins(one, seconds, left, holds)
+        ]
+        sides += [
+            (firsts, seconds | 1 << one)
+            for one in sorted(left_turned)
+            if not (firsts | seconds) >> one & 1 and _joins(one, firsts, left_turned, turned)
+        ]
         fits = [(_out(*side, holds), side) for side in sides if not _unasked(*side, holds, may)]
-        fits = [(out, side) for out, side in fits if out <= min(MOST_EXCEPTIONS, side[0].bit_count() * side[1].bit_count() // 4)]
+        fits = [
+            (out, side)
+            for out, side in fits
+            if out <= min(MOST_EXCEPTIONS, side[0].bit_count() * side[1].bit_count() // 4)
+        ]
         if not fits:
             return firsts, seconds
         _, (firsts, seconds) = min(fits, key=lambda it: it[0])
 
 
 def _joins(one: int, side: int, left: dict[int, int], holds: dict[int, int]) -> bool:
-    """Whether the rule holds of a thing with half of a side at least, and something of that isn't said yet."""
+    """Whether the rule holds of a thing with half of a side at least, and something of that isn't
+    said yet."""
     return bool(left[one] & side) and 2 * (holds[one] & side).bit_count() >= side.bit_count()
 
 

@@ -125,7 +125,8 @@ def undecided_lines(session: Session, ending: Ending) -> list[str]:
 
 
 def print_last(session: Session, ending: Ending | None, rules: bool = True) -> None:
-    """What stays in the terminal after the sitting; the rules only where they don't stand there already."""
+    """What stays in the terminal after the sitting; the rules only where they don't stand there
+    already."""
     case = session.case
     if ending is None or ending.word == "suspended":
         count = len(session.answers)

@@ -1,4 +1,5 @@
-"""Letters for what can be chosen on a sheet, and going back to an answer: which ones can be, and whether the person is sure."""
+"""Letters for what can be chosen on a sheet, and going back to an answer: which ones can be, and
+whether the person is sure."""
 
 from __future__ import annotations
 
@@ -23,7 +24,8 @@ def may(session: Session, place: int) -> bool:
 
 
 class Letters(Generic[Item]):
-    """Letters for items, in front of other keys; where there are more items than letters, a key moves these on to the next."""
+    """Letters for items, in front of other keys; where there are more items than letters, a key
+    moves these on to the next."""
 
     def __init__(self, items: Iterable[Item], keys: Keys, does: Callable[[Item], str]) -> None:
         """Takes the items, the other keys, and what the letter of an item does."""
@@ -60,12 +62,14 @@ class Choice(Letters[int]):
     """Letters for answers to go back to, by their places."""
 
     def __init__(self, session: Session, places: Iterable[int], keys: Keys) -> None:
-        """Takes the answers' places, those that can't be gone back to among them, and the other keys."""
+        """Takes the answers' places, those that can't be gone back to among them, and the other
+        keys."""
         super().__init__([place for place in places if may(session, place)], keys, lambda _: "go back to it")
         self.session = session
 
     def put(self, face: Face, sheet: Callable[[], Sheet]) -> tuple[str, int | None]:
-        """Shows a sheet until an answer is gone back to, whose place it gives, or one of the other keys is pressed."""
+        """Shows a sheet until an answer is gone back to, whose place it gives, or one of the other
+        keys is pressed."""
         while True:
             key = face.put(sheet())
             place = self.item_of.get(key)

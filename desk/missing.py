@@ -1,8 +1,9 @@
 """The word that a case lacks: which words of the catalogue would let rules agree with all answers.
 
-A refused example that no possible rule explains is explained by a further word where that word refuses it on some things that
-are asked about together, and no accepted example breaks the word there. Words about a PART of the values come first, since these
-are what is forgotten most; words that name values are tried with the values of the example.
+A refused example that no possible rule explains is explained by a further word where that word
+refuses it on some things that are asked about together, and no accepted example breaks the word
+there. Words about a PART of the values come first, since these are what is forgotten most; words
+that name values are tried with the values of the example.
 """
 
 from __future__ import annotations
@@ -22,9 +23,9 @@ from model import Case, Fault, Values, Word
 from session import Session
 from vocabulary import Vocabulary
 
-SECONDS = 2.0           # for the search
-FIRST = "different PART"    # is tried: of all words about a part it is meant most
-MOST_OFFERED = 4        # words
+SECONDS = 2.0  # for the search
+FIRST = "different PART"  # is tried: of all words about a part it is meant most
+MOST_OFFERED = 4  # words
 WORDS_OF = {1: "one thing", 2: "two things", 3: "three things", 4: "four things"}
 
 
@@ -32,9 +33,9 @@ WORDS_OF = {1: "one thing", 2: "two things", 3: "three things", 4: "four things"
 class Search:
     """What came of a search."""
 
-    words: tuple[str, ...]      # that explain all, a few at most, the likeliest first
-    things: Things              # things that `ask` doesn't put together, where these words are about them; else ()
-    whole: bool                 # whether it wasn't cut for want of time
+    words: tuple[str, ...]  # that explain all, a few at most, the likeliest first
+    things: Things  # those that `ask` doesn't put together, where the words are about them; else ()
+    whole: bool  # whether it wasn't cut for want of time
 
 
 def lacking(session: Session, values: Values | None = None, yes: bool = False) -> Search:
@@ -49,7 +50,11 @@ def lacking(session: Session, values: Values | None = None, yes: bool = False) -
             possible.back()
     refused = _smallest([answers[place][0] for place in clash])
     accepted = [some for some, accepts in answers if accepts]
-    things = tuple(sorted(values)) if values is not None and not yes and not _together(session.case, values) else ()
+    things = (
+        tuple(sorted(values))
+        if values is not None and not yes and not _together(session.case, values)
+        else ()
+    )
     return _search(session, refused, accepted, things)
 
 
@@ -63,7 +68,9 @@ def _together(case: Case, values: Values) -> bool:
     return any(set(values) <= set(group.things) for group in case.groups)
 
 
-def _search(session: Session, refused: list[Values], accepted: list[Values], things: Things) -> Search:
+def _search(
+    session: Session, refused: list[Values], accepted: list[Values], things: Things
+) -> Search:
     """The words that refuse each of some examples and are broken by no accepted one."""
     if not refused:
         return Search((), things, True)
@@ -82,7 +89,7 @@ def _search(session: Session, refused: list[Values], accepted: list[Values], thi
         try:
             word = catalogue.word(setting, form)
         except Fault:
-            continue        # a form that this case has no meaning for
+            continue  # a form that this case has no meaning for
         if all(seen.explains(word, values) for values in refused) and _taken(case, form, things):
             found.append(form)
     return Search(tuple(found), things, True)
@@ -91,7 +98,11 @@ def _search(session: Session, refused: list[Values], accepted: list[Values], thi
 def _taken(case: Case, form: str, things: Things) -> bool:
     """Whether the program takes the case with this word."""
     try:
-        Vocabulary(casefile.parse(case.text + "\n" + "\n".join(lines(case, form, things)) + "\n", case.path))
+        Vocabulary(
+            casefile.parse(
+                case.text + "\n" + "\n".join(lines(case, form, things)) + "\n", case.path
+            )
+        )
     except Fault:
         return False
     return True
@@ -100,7 +111,9 @@ def _taken(case: Case, form: str, things: Things) -> bool:
 class _Seen:
     """What accepted examples have on the groups of things that refused ones have."""
 
-    def __init__(self, groups: Sequence[Things], refused: Sequence[Values], accepted: Sequence[Values]) -> None:
+    def __init__(
+        self, groups: Sequence[Things], refused: Sequence[Values], accepted: Sequence[Values]
+    ) -> None:
         self._groups, self._accepted = groups, accepted
         self._within = {thing for values in refused for thing in values}
         self._of: dict[int, dict[Things, set[tuple[int, ...]]]] = {}
@@ -108,15 +121,25 @@ class _Seen:
     def explains(self, word: Word, values: Values) -> bool:
         """Whether a word refuses an example on things on which no accepted one breaks it."""
         of = self._of_size(word.arity)
-        return any(not word.holds(*(values[thing] for thing in things)) and all(word.holds(*some) for some in seen)
-                   for things, seen in of.items() if (not word.things or word.things == things) and all(thing in values for thing in things))
+        return any(
+            not word.holds(*(values[thing] for thing in things))
+            and all(word.holds(*some) for some in seen)
+            for things, seen in of.items()
+            if (not word.things or word.things == things)
+            and all(thing in values for thing in things)
+        )
 
     def _of_size(self, size: int) -> dict[Things, set[tuple[int, ...]]]:
-        """The things of this number that are asked about together, and the values that accepted examples have there."""
+        """The things of this number that are asked about together, and the values that accepted
+        examples have there."""
         if size not in self._of:
             exact = [group for group in self._groups if len(group) == size]
-            groups = exact or [some for group in self._groups for some in itertools.combinations(group, size)]
-            of: dict[Things, set[tuple[int, ...]]] = {things: set() for things in groups if self._within.issuperset(things)}
+            groups = exact or [
+                some for group in self._groups for some in itertools.combinations(group, size)
+            ]
+            of: dict[Things, set[tuple[int, ...]]] = {
+                things: set() for things in groups if self._within.issuperset(things)
+            }
             for values in self._accepted:
                 for things in itertools.combinations(sorted(self._within & values.keys()), size):
                     if things in of:
@@ -127,10 +150,16 @@ class _Seen:
 
 # ---------------------------------------------------------------- the forms of words
 
+
 def forms(case: Case, setting: Setting, refused: Sequence[Values]) -> Iterator[str]:
-    """The words that may be missing: about a part first, then about no value, then about the values of the refused examples."""
+    """The words that may be missing: about a part first, then about no value, then about the values
+    of the refused examples."""
     values = list(dict.fromkeys(value for some in refused for value in some.values()))
-    members = [part.members[setting.at(value)[place]] for value in values for place, part in enumerate(case.value_parts)]
+    members = [
+        part.members[setting.at(value)[place]]
+        for value in values
+        for place, part in enumerate(case.value_parts)
+    ]
     names = list(dict.fromkeys([*members, *(case.values[value] for value in values)]))
     named = [entry.form for entry in ENTRIES if re.search(r"\b[VW]\b", entry.form)]
     plain = [entry.form for entry in ENTRIES if entry.form not in named and "=" not in entry.form]
@@ -145,12 +174,19 @@ def _filled(case: Case, form: str, names: Sequence[str]) -> Iterator[str]:
     """A form of the catalogue with names and numbers for its capitals."""
     if "three" in form:
         yield from _filled(case, form.replace("three", "four"), names)
-    sides = [(part.name, len(part.members)) for part in case.value_parts] if "PART" in form else [("", len(case.values))]
+    sides = (
+        [(part.name, len(part.members)) for part in case.value_parts]
+        if "PART" in form
+        else [("", len(case.values))]
+    )
     for name, size in sides:
         counts = [str(k) for k in range(1, size)] if "apart" in form else list(NUMBERS)[:3]
         for count in counts if re.search(r"\bK\b", form) else [""]:
             text = re.sub(r"\bK\b", count, form.replace("PART", name))
-            for v, w in itertools.product(names if re.search(r"\bV\b", text) else [""], names if re.search(r"\bW\b", text) else [""]):
+            for v, w in itertools.product(
+                names if re.search(r"\bV\b", text) else [""],
+                names if re.search(r"\bW\b", text) else [""],
+            ):
                 yield re.sub(r"\bW\b", lambda _: w, re.sub(r"\bV\b", lambda _: v, text))
 
 
@@ -158,10 +194,14 @@ def _of_things(case: Case, refused: Sequence[Values]) -> Iterator[str]:
     """`x=A not with y=B` for the pairs of refused examples."""
     for values in refused:
         for one, other in itertools.combinations(sorted(values), 2):
-            yield (f"{case.things[one].name}={case.values[values[one]]} not with {case.things[other].name}={case.values[values[other]]}")
+            first, second = (
+                f"{case.things[thing].name}={case.values[values[thing]]}" for thing in (one, other)
+            )
+            yield f"{first} not with {second}"
 
 
 # ---------------------------------------------------------------- what is said of it
+
 
 def lines(case: Case, form: str, things: Things) -> Iterable[str]:
     """The lines to write into the case."""
@@ -174,16 +214,32 @@ def lines(case: Case, form: str, things: Things) -> Iterable[str]:
 def told(session: Session, search: Search) -> list[str]:
     """What a search says to the person."""
     case = session.case
-    cut = [] if search.whole else ["The search for a word was cut after two seconds, so there may be others."]
+    cut = (
+        []
+        if search.whole
+        else ["The search for a word was cut after two seconds, so there may be others."]
+    )
     if search.things:
         who = " and ".join(case.things[thing].name for thing in search.things)
         cut = [f"`ask` doesn't put {who} together, so no rule about them was looked for.", *cut]
     if not search.words:
-        largest = max(len(group.things) for group in case.groups) if not search.things else len(search.things)
+        largest = (
+            max(len(group.things) for group in case.groups)
+            if not search.things
+            else len(search.things)
+        )
         about = " or ".join(WORDS_OF[size] for size in range(1, largest + 1))
-        return [*cut, f"No word of the catalogue about {about} explains it. Is it a count, as how many may have one value? Or is it about more things?"]
+        return [
+            *cut,
+            f"No word of the catalogue about {about} explains it. Is it a count, as how many may have "
+            "one value? Or is it about more things?",
+        ]
     offered = ", ".join(f"`{form}`" for form in search.words)
     write = "; ".join(f"`{line}`" for line in lines(case, search.words[0], search.things))
     one = "This word" if len(search.words) == 1 else "One of these words"
-    return [*cut, f"{one} would explain it: {offered}. Where it is what you mean, write it into the case as a line, {write}; "
-            f"`desk carry {shlex.quote(case.path)}` then takes your answers over, and asks only what is new."]
+    return [
+        *cut,
+        f"{one} would explain it: {offered}. Where it is what you mean, write it into the case as a "
+        f"line, {write}; `desk carry {shlex.quote(case.path)}` then takes your answers over, and "
+        "asks only what is new.",
+    ]

@@ -1,8 +1,9 @@
 """The odd one out: groups whose rule is another than that of most groups of their pattern.
 
-In a grid, groups make a pattern where they differ in one part of it alone, as early and late of each day do. In a list, those
-make one that one sentence is about, as each of some things with each of others. That most of them have one rule and a few
-another may be right, as on a Sunday, and may be a slip; so it is shown, with the answers behind it, and no answer is changed.
+In a grid, groups make a pattern where they differ in one part of it alone, as early and late of
+each day do. In a list, those make one that one sentence is about, as each of some things with each
+of others. That most of them have one rule and a few another may be right, as on a Sunday, and may
+be a slip; so it is shown, with the answers behind it, and no answer is changed.
 """
 
 from __future__ import annotations
@@ -65,7 +66,8 @@ def odd(vocabulary: Vocabulary, learned: Iterable[Constraint], answers: Sequence
 
 def _odd_in_list(vocabulary: Vocabulary, learned: Iterable[Constraint], answers: Sequence[Answer],
                  is_open: Callable[[Things], bool]) -> list[Odd]:
-    """The groups that a sentence about many excepts, and those whose rule stands alone where the others of its word don't."""
+    """The groups that a sentence about many excepts, and those whose rule stands alone where the
+    others of its word don't."""
     learned = list(learned)
     on = {constraint.scope: vocabulary.claims(constraint) for constraint in learned}
     names = [thing.name for thing in vocabulary.case.things]
@@ -87,8 +89,9 @@ def _odd_in_list(vocabulary: Vocabulary, learned: Iterable[Constraint], answers:
 
 
 def _alone(some: Sequence[Sentence]) -> Iterator[Things]:
-    """The pairs of a word's rules that stand alone: few of many, and no thing that is like one of the pair, in that it has the rule
-    with a third one as well, has it with the other one of the pair."""
+    """The pairs of a word's rules that stand alone: few of many, and no thing that is like one of
+    the pair, in that it has the rule with a third one as well, has it with the other one of the
+    pair."""
     if some[0].rules[0].word.arity != 2:
         return
     beside: dict[int, set[int]] = defaultdict(set)
@@ -125,8 +128,9 @@ def _moved(rule: Rule, scope: Things, to: Things, vocabulary: Vocabulary) -> Rul
 
 
 def behind(scope: Things, has: Sequence[Rule], would: Sequence[Rule], answers: Sequence[Answer]) -> Things:
-    """The answers that made a group's rules what they are: each no about exactly this group that one of its own rules
-    explains and none of the others does, and each yes that breaks one of the others."""
+    """The answers that made a group's rules what they are: each no about exactly this group that
+    one of its own rules explains and none of the others does, and each yes that breaks one of the
+    others."""
     found = []
     for place, answer in enumerate(answers):
         values = answer.question.values
@@ -158,7 +162,8 @@ class Row:
 
 
 def rows(vocabulary: Vocabulary, learned: Sequence[Constraint], answers: Sequence[Answer], is_open: Callable[[Things], bool]) -> list[Row]:
-    """Each pattern of two groups and more, with the rules of its groups; each group stands in one row alone."""
+    """Each pattern of two groups and more, with the rules of its groups; each group stands in one
+    row alone."""
     along = Along(vocabulary.case)
     if not along.is_grid:
         return []

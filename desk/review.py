@@ -1,10 +1,12 @@
-"""After the last question: plans that the rules allow, and for each sentence one that breaks it alone, to be judged.
+"""After the last question: plans that the rules allow, and for each sentence one that breaks it
+alone, to be judged.
 
-First come the rules that no accepted example has kept, in a plan that keeps them: where a word is missing, the nearest one that
-the case has is learned so. A plan that the rules allow and that is wrong can be pointed at, cell by cell. A plan that is judged
-otherwise than the rules judge it leads to the answers behind it: those of which one alone, turned round, lets rules agree with
-all other answers and with this judgement. Where there are none, the words of the case can't say it, and a word is looked for
-that can.
+First come the rules that no accepted example has kept, in a plan that keeps them: where a word is
+missing, the nearest one that the case has is learned so. A plan that the rules allow and that is
+wrong can be pointed at, cell by cell. A plan that is judged otherwise than the rules judge it leads
+to the answers behind it: those of which one alone, turned round, lets rules agree with all other
+answers and with this judgement. Where there are none, the words of the case can't say it, and a
+word is looked for that can.
 """
 
 from __future__ import annotations
@@ -62,7 +64,8 @@ class Review:
         return None
 
     def _plans(self) -> Iterator[Shown]:
-        """Plans that the rules allow: first one of them for each sentence with rules that nobody has seen kept."""
+        """Plans that the rules allow: first one of them for each sentence with rules that nobody
+        has seen kept."""
         session = self.session
         self.face.wait("looking for plans that these rules allow ..")
         plans = solver.far(session.program, session.vocabulary, session.journal, MOST_PLANS)
@@ -74,7 +77,8 @@ class Review:
             yield Shown(plan.values, True, f"Plan {number}" + apart_text(plan), {}, None)
 
     def _judged(self, shown: Shown) -> tuple[bool, int | None]:
-        """Has one plan judged: whether that was enough, and the place of an answer to go back to."""
+        """Has one plan judged: whether that was enough, and the place of an answer to go back
+        to."""
         while True:
             key = self.face.put(shown.sheet(self.session))
             if key == "y":
@@ -87,7 +91,8 @@ class Review:
             return key == "q", place
 
     def _otherwise(self, shown: Shown) -> tuple[str, int | None]:
-        """What can be done about a plan that the person judges otherwise: the key, and the place to go back to."""
+        """What can be done about a plan that the person judges otherwise: the key, and the place to
+        go back to."""
         key, cells = self._cells(shown)
         if key != "o":
             return key, None
@@ -108,7 +113,8 @@ class Review:
         return key, None
 
     def _cells(self, shown: Shown) -> tuple[str, Things]:
-        """The cells of an allowed plan that are wrong, none where it isn't known or where a rule says it; and the key."""
+        """The cells of an allowed plan that are wrong, none where it isn't known or where a rule
+        says it; and the key."""
         if not shown.allowed:
             return "o", ()
         if 0 < len(shown.marks) <= max(self.session.vocabulary.arities):
@@ -181,7 +187,8 @@ def broken_alone(session: Session, sentence: Sentence, every: Sequence[Sentence]
 
 
 def behind(session: Session, shown: Shown, values: Values) -> list[int]:
-    """The answers behind a plan that is judged otherwise than the rules judge it, by these of its values."""
+    """The answers behind a plan that is judged otherwise than the rules judge it, by these of its
+    values."""
     places = [place for place in suspects_with(session, values, not shown.allowed) if may(session, place)]
     if places or shown.rule is None:
         return places
@@ -191,7 +198,8 @@ def behind(session: Session, shown: Shown, values: Values) -> list[int]:
 
 
 def suspects_with(session: Session, values: Values, yes: bool) -> list[int]:
-    """The answers of which one alone, turned round, lets rules agree with all others and with one more answer."""
+    """The answers of which one alone, turned round, lets rules agree with all others and with one
+    more answer."""
     session.possible.take(values, yes)
     try:
         return [place for place in session.possible.suspects() if place < len(session.answers)]

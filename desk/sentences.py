@@ -1,9 +1,11 @@
-"""Learned rules as few sentences: what is the same along a grid is said once, with its exceptions by name.
+"""Learned rules as few sentences: what is the same along a grid is said once, with its exceptions
+by name.
 
-Nothing is added or left out: the rules of all sentences together are the rules that were learned. In a grid case rules make a
-pattern where they differ in one part alone, as in the day: `every day: early and late differ, but not on Sun`. Where each two
-(or three, or four) of some things have one rule, that is one sentence as well, and so is a rule between two sets of things:
-`each of acid and bleach differs from each of lye and soap`. What a sentence excepts is what doesn't hold.
+Nothing is added or left out: the rules of all sentences together are the rules that were learned.
+In a grid case rules make a pattern where they differ in one part alone, as in the day: `every day:
+early and late differ, but not on Sun`. Where each two (or three, or four) of some things have one
+rule, that is one sentence as well, and so is a rule between two sets of things: `each of acid and
+bleach differs from each of lye and soap`. What a sentence excepts is what doesn't hold.
 """
 
 from __future__ import annotations
@@ -84,7 +86,8 @@ def rules_of(vocabulary: Vocabulary, constraints: Iterable[Constraint]) -> dict[
 
 
 def holding(vocabulary: Vocabulary, constraints: Iterable[Constraint]) -> set[Key]:
-    """The rules that some constraint has hold, also those that it needn't say since others of its rules say more."""
+    """The rules that some constraint has hold, also those that it needn't say since others of its
+    rules say more."""
     found: set[Key] = set()
     for constraint in constraints:
         table = vocabulary.table(constraint)
@@ -93,8 +96,9 @@ def holding(vocabulary: Vocabulary, constraints: Iterable[Constraint]) -> set[Ke
 
 
 def unseen(case: Case, rules: Iterable[Rule], answers: Sequence[Answer]) -> tuple[Rule, ...]:
-    """The rules whose things no accepted example has together, so that nobody has seen them kept, without those that were said
-    beforehand: where a word is missing, the nearest one that the case has is learned so."""
+    """The rules whose things no accepted example has together, so that nobody has seen them kept,
+    without those that were said beforehand: where a word is missing, the nearest one that the case
+    has is learned so."""
     accepted = [answer.question.values for answer in answers if answer.yes]
     having = {thing: {place for place, values in enumerate(accepted) if thing in values} for thing in range(len(case.things))}
     beforehand = {(rule.word.text, rule.things) for rule in case.always}
@@ -104,8 +108,9 @@ def unseen(case: Case, rules: Iterable[Rule], answers: Sequence[Answer]) -> tupl
 
 def grouped(vocabulary: Vocabulary, constraints: Sequence[Constraint], needed: Sequence[Constraint] | None = None,
             answers: Sequence[Answer] | None = None) -> list[Sentence]:
-    """The sentences that say these constraints. A rule follows from the others where `needed` is given and has no constraint
-    that says it; whether a rule was ever seen kept is marked where the answers are given."""
+    """The sentences that say these constraints. A rule follows from the others where `needed` is
+    given and has no constraint that says it; whether a rule was ever seen kept is marked where the
+    answers are given."""
     found = rules_of(vocabulary, constraints)
     kept = None if needed is None else {constraint.line for constraint in needed}
     follows = {key for key, (_, said) in found.items() if kept is not None and not any(c.line in kept for c in said)}
@@ -158,7 +163,8 @@ class _Groups:
     # ---- each two, three or four of some things
 
     def _cliques(self, word: Word, mine: set[Things]) -> Iterator[list[Things]]:
-        """Rules on each two (three, four) of more things; in a grid only where they are all of the word's."""
+        """Rules on each two (three, four) of more things; in a grid only where they are all of the
+        word's."""
         if word.arity < 2 or not (word.whole or word.sentence.startswith(ALL_OF[word.arity])) or len(mine) < 2:
             return
         parts = _components(mine)
@@ -241,7 +247,8 @@ class _Groups:
         return Found(pattern, tuple(sorted(held[pattern])), might, might == fits)
 
     def _along(self, word: Word, some: list[Found]) -> Said:
-        """`every day: early and late differ, but not on Sun`. The patterns hold at the same places, wherever they are said."""
+        """`every day: early and late differ, but not on Sun`. The patterns hold at the same places,
+        wherever they are said."""
         one = some[0]
         part = self.case.thing_parts[one.pattern.part]
         out = [part.members[member] for member in one.might if member not in one.held and not self._holds(word, one.pattern, member)]

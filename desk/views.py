@@ -39,8 +39,9 @@ def given_text(given: Sequence[Answer]) -> str:
 
 
 def taught_text(session: Session, since: int, told: set[str]) -> str:
-    """What the answers from a place on have taught, a few rules at most; it is where a word that is missing shows first. What was
-    told isn't told again, and this is added to it: two groups may have one rule about a thing in both."""
+    """What the answers from a place on have taught, a few rules at most; it is where a word that is
+    missing shows first. What was told isn't told again, and this is added to it: two groups may
+    have one rule about a thing in both."""
     new = dict.fromkeys(rule.text for rule in session.taught(since) if rule.text not in told)
     texts = list(itertools.islice(new, MOST_TAUGHT + 1))
     told.update(new)
@@ -70,7 +71,8 @@ def why(session: Session, question: Question) -> Sheet:
 
 
 def rules(session: Session, face: Face) -> int | None:
-    """Shows the rules so far in sentences, and the odd ones; the place of an answer to go back to, or None."""
+    """Shows the rules so far in sentences, and the odd ones; the place of an answer to go back to,
+    or None."""
     learned = session.learned()
     found = sentences.grouped(session.vocabulary, learned, answers=session.answers)
     odd = odd_ones(session, learned)
@@ -122,7 +124,8 @@ def odd_ones(session: Session, learned: Sequence[Constraint]) -> list[Odd]:
 
 
 def odd_lines(session: Session, odd: Sequence[Odd], letter: Callable[[int], str]) -> list[str]:
-    """The odd ones out, and the answers behind them with their letters; nothing where there are none."""
+    """The odd ones out, and the answers behind them with their letters; nothing where there are
+    none."""
     names = [thing.name for thing in session.case.things]
     lines = ["", "Other than most of their pattern. That may be right; if it isn't, an answer was a slip, or your words can't say it:"] if odd else []
     for one in odd:

@@ -1,5 +1,6 @@
-"""Counts and bounds of desk beside the program: candidates beside `created`, and at every question of drawn sessions the bound
-beside the questions that came. All arities, ranges, three plans, people who follow a network and people who toss a coin."""
+"""Counts and bounds of desk beside the program: candidates beside `created`, and at every question
+of drawn sessions the bound beside the questions that came. All arities, ranges, three plans, people
+who follow a network and people who toss a coin."""
 
 from __future__ import annotations
 
@@ -35,8 +36,9 @@ def created(program: str, words: drawn.Vocabulary) -> list[str]:
 
 
 def at_stake(words: drawn.Vocabulary, possible: Possible, draw: random.Random) -> list[str]:
-    """What a yes to some plan would rule out: the rules that it breaks, that some candidate of a group says which is still possible,
-    and none of a group on which the rule is settled; counted here from the answers."""
+    """What a yes to some plan would rule out: the rules that it breaks, that some candidate of a
+    group says which is still possible, and none of a group on which the rule is settled; counted
+    here from the answers."""
     values = {thing: words.coding.value_of[draw.randint(*ends) - 1] for thing, ends in enumerate(words.coding.ranges)}
     wanted = set()
     for scope in words.scopes:

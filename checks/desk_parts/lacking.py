@@ -1,12 +1,13 @@
-"""The search for a missing word beside trial: at clashes of drawn sessions, whose owner has a word more than the case, each word of
-the catalogue is added to the case, and the bounds' own count of what is possible says whether a clash is left."""
+"""The search for a missing word beside trial: at clashes of drawn sessions, whose owner has a word
+more than the case, each word of the catalogue is added to the case, and the bounds' own count of
+what is possible says whether a clash is left."""
 
 from __future__ import annotations
 
 import random
 from types import SimpleNamespace
 
-import drawn        # desk's folder is on the path now
+import drawn  # desk's folder is on the path now
 import casefile
 import missing
 from catalogue import Setting
@@ -18,6 +19,7 @@ from vocabulary import Vocabulary
 
 SESSIONS = 120
 FURTHER = ("different", "before", "same", "next to", "all three different", "not after")
+MORE = ("different day", "earlier hour", "at least 1 hour apart", "not both Mon")
 GRID = """title: Grid
 things: a b c d
 values: day Mon Tue x hour 1 2 3
@@ -28,11 +30,23 @@ PLANTED = [
     # an accepted example doesn't keep a word off
     ("missing.py", " and all(word.holds(*some) for some in seen)", ""),
     # a word has to explain one of the refused examples, and not all of them
-    ("missing.py", "if all(seen.explains(word, values) for values in refused)", "if any(seen.explains(word, values) for values in refused)"),
+    (
+        "missing.py",
+        "if all(seen.explains(word, values) for values in refused)",
+        "if any(seen.explains(word, values) for values in refused)",
+    ),
     # words about a part are tried last
-    ("missing.py", "parted + [form for form in plain if form not in parted] + named", "[form for form in plain if form not in parted] + named + parted"),
+    (
+        "missing.py",
+        "parted + [form for form in plain if form not in parted] + named",
+        "[form for form in plain if form not in parted] + named + parted",
+    ),
     # of things that aren't asked about together nothing is said
-    ("missing.py", "and not yes and not _together(session.case, values) else ()", "and not yes and False else ()"),
+    (
+        "missing.py",
+        "and not yes and not _together(session.case, values)",
+        "and not yes and False",
+    ),
 ]
 
 
@@ -42,12 +56,14 @@ def texts(draw: random.Random) -> tuple[str, str]:
         few = draw.sample(("different", "same day", "before", "not next to"), 2)
         ask = draw.choice(("all", "all triples"))
         case = GRID.format(ask=ask, words=", ".join(few))
-        return case, case + f"words: {draw.choice(('different day', 'earlier hour', 'at least 1 hour apart', 'not both Mon'))}\n"
+        return case, case + f"words: {draw.choice(MORE)}\n"
     case = drawn.case_text(draw)
     return case, case + f"words: {draw.choice(FURTHER)}\n"
 
 
-def answered(program: str, words: Vocabulary, richer: Vocabulary, plan: str, draw: random.Random) -> Possible:
+def answered(
+    program: str, words: Vocabulary, richer: Vocabulary, plan: str, draw: random.Random
+) -> Possible:
     """A session of the poorer case that an owner answers who has the richer one's words."""
     owner = Owner(richer, draw, 0.9)
     possible = Possible(words, plan)
@@ -62,7 +78,8 @@ def answered(program: str, words: Vocabulary, richer: Vocabulary, plan: str, dra
 
 
 def by_trial(words: Vocabulary, answers: list[tuple[Values, bool]]) -> list[str]:
-    """The words with which no clash is left, in the order in which they are tried, a few at most."""
+    """The words with which no clash is left, in the order in which they are tried, a few at
+    most."""
     case = words.case
     possible = Possible(words, "multi")
     for values, yes in answers:
@@ -93,11 +110,18 @@ def sessions(program: str) -> list[str]:
         draw = random.Random(seed)
         text, more = texts(draw)
         try:
-            words, richer = Vocabulary(casefile.parse(text, "it.case")), Vocabulary(casefile.parse(more, "it.case"))
+            words, richer = Vocabulary(casefile.parse(text, "it.case")), Vocabulary(
+                casefile.parse(more, "it.case")
+            )
         except Fault:
             continue
         possible = answered(program, words, richer, PLANS[1 + seed % 2], draw)
-        if not possible.clash() or words.scopes != richer.scopes or words.lifted != richer.lifted and words.lifted:
+        if (
+            not possible.clash()
+            or words.scopes != richer.scopes
+            or words.lifted != richer.lifted
+            and words.lifted
+        ):
             continue
         search = missing.lacking(SimpleNamespace(case=words.case, possible=possible))
         wanted = by_trial(words, possible.answers)
@@ -107,18 +131,29 @@ def sessions(program: str) -> list[str]:
         if len(faults) > drawn.ENOUGH:
             break
     if clashes < 8 or not 0 < named:
-        faults.append(f"lacking: only {clashes} sessions clashed, {named} with a word, which tests little")
+        faults.append(
+            f"lacking: only {clashes} sessions clashed, {named} with a word, which tests little"
+        )
     print(f"lacking: {clashes} clashes, of which {named} are explained by a word")
     return faults
 
 
 def apart(program: str) -> list[str]:
-    """Things that `ask` doesn't put together: that is said, with the line that does. And a search that is cut says so."""
-    words = Vocabulary(casefile.parse("things: a b c\nvalues: x y\nask: a - b\nwords: different\n", "apart.case"))
+    """Things that `ask` doesn't put together: that is said, with the line that does. And a search
+    that is cut says so."""
+    words = Vocabulary(
+        casefile.parse("things: a b c\nvalues: x y\nask: a - b\nwords: different\n", "apart.case")
+    )
     one = SimpleNamespace(case=words.case, possible=Possible(words, "scopes"))
     one.possible.take({0: 0, 1: 0}, True)
     told = " ".join(missing.told(one, missing.lacking(one, {0: 0, 2: 0}, False)))
-    faults = [] if "doesn't put a and c together" in told and "`ask: a - c`" in told and "`different`" in told else [f"lacking: {told}"]
+    faults = (
+        []
+        if "doesn't put a and c together" in told
+        and "`ask: a - c`" in told
+        and "`different`" in told
+        else [f"lacking: {told}"]
+    )
     before, missing.SECONDS = missing.SECONDS, -1.0
     try:
         cut = " ".join(missing.told(one, missing.lacking(one, {0: 0, 1: 0}, False)))

@@ -1,7 +1,8 @@
 """Rules as sentences, and the odd ones out.
 
-Random sets of constraints of four cases are said in sentences, and the sentences are read back by a small reader of their own
-that knows English and the case's names: what they say has to be exactly what the constraints say. Then rows worked by hand.
+Random sets of constraints of four cases are said in sentences, and the sentences are read back by a
+small reader of their own that knows English and the case's names: what they say has to be exactly
+what the constraints say. Then rows worked by hand.
 """
 
 from __future__ import annotations
@@ -106,8 +107,9 @@ def looked(program: str, drawn: int) -> list[str]:
 
 
 def drawn_constraints(draw: random.Random, words: vocabulary.Vocabulary) -> list[model.Constraint]:
-    """A constraint on some of the scopes; mostly one and the same, so that there are patterns with exceptions. Often they stand
-    between the first three things and the others alone, and often two groups of one kind alone have something else."""
+    """A constraint on some of the scopes; mostly one and the same, so that there are patterns with
+    exceptions. Often they stand between the first three things and the others alone, and often two
+    groups of one kind alone have something else."""
     share, usual, blocks = draw.choice((0.2, 0.8, 0.95, 1.0)), draw.random(), draw.random() < 0.4
     off: set[tuple[int, ...]] = set()
     if draw.random() < 0.4:
@@ -126,8 +128,8 @@ def drawn_constraints(draw: random.Random, words: vocabulary.Vocabulary) -> list
 
 def wrong(words: vocabulary.Vocabulary, constraints: list[model.Constraint], needed: list[model.Constraint],
           said: list[sentences.Sentence]) -> list[str]:
-    """What is wrong with sentences: their rules aren't those of the constraints, or their text doesn't say their rules, or
-    excepts what holds."""
+    """What is wrong with sentences: their rules aren't those of the constraints, or their text
+    doesn't say their rules, or excepts what holds."""
     found = []
     claimed = {(rule.word.text, rule.things) for one in constraints for rule in words.claims(one)}
     told = [(rule.word.text, rule.things) for one in said for rule in one.rules]
@@ -189,7 +191,8 @@ def names_of(text: str) -> list[str]:
 
 
 def each_of_all(text: str, known: list[str]) -> set[str]:
-    """`each two of a, b and c differ` as its pairs, `each three of a, b, c and d ..` as its threes, where these are known names."""
+    """`each two of a, b and c differ` as its pairs, `each three of a, b, c and d ..` as its threes,
+    where these are known names."""
     who = "|".join(map(re.escape, sorted(known, key=len, reverse=True)))
     step = r"(?: (?:on|at|in|of) the (?:next \w+|\w+ before))?"
     m = re.match(rf"each (two|three|four) of (?:all \d+|(.*) and ((?:{who}){step})) (.*)", text)
@@ -208,7 +211,8 @@ BETWEEN = (
 
 
 def between(case: model.Case, text: str) -> set[str]:
-    """`each of a and b differs from each of c and d` as its pairs; nothing where it isn't of this form."""
+    """`each of a and b differs from each of c and d` as its pairs; nothing where it isn't of this
+    form."""
     who = "|".join(re.escape(thing.name) for thing in case.things)
     side = rf"((?:{who})|each of (?:(?:{who}), )*(?:{who}) and (?:{who}))"
     m = re.fullmatch(rf"{side} with {side}: (.*)", text) or re.fullmatch(rf"{side} (.*?) {side}", text)
@@ -245,7 +249,8 @@ def read_along(case: model.Case, m: re.Match[str], but: str) -> Read:
 
 
 def at_member(case: model.Case, part: int, at: int, text: str, others: list[str]) -> str:
-    """A sentence about `night` and `early on the next day` as one about a day's night and the next day's early."""
+    """A sentence about `night` and `early on the next day` as one about a day's night and the next
+    day's early."""
     name = case.thing_parts[part].name
     fits = True
     def place(m: re.Match[str]) -> str:
@@ -334,7 +339,8 @@ def side_by_side() -> list[str]:
 
 
 def odd_ones(program: str) -> list[str]:
-    """A slip in a ward's session is the odd one out with its own answer behind it; without one there are none."""
+    """A slip in a ward's session is the odd one out with its own answer behind it; without one
+    there are none."""
     found = []
     def all_days(q: hands.Named) -> bool:
         """The ward's rules without their exception."""
@@ -355,8 +361,8 @@ def odd_ones(program: str) -> list[str]:
 
 
 def odd_in_list(program: str) -> list[str]:
-    """Where things are a list, wrong answers about a pair show as what a sentence excepts or as a rule that stands alone, with the
-    wrong answer behind it; without one there are none."""
+    """Where things are a list, wrong answers about a pair show as what a sentence excepts or as a
+    rule that stands alone, with the wrong answer behind it; without one there are none."""
     acids, others = ("nitric", "sulfuric"), ("bleach", "lye", "ammonia")
     def owner(wrong: tuple[str, ...]) -> hands.Owner:
         """Acids on other shelves than others; of the pairs in `wrong` the opposite is said."""

@@ -1,7 +1,8 @@
-"""A sitting from end to end, over pipes: keys, going back, what is answered for the person, a clash, the plans at the end.
+"""A sitting from end to end, over pipes: keys, going back, what is answered for the person, a
+clash, the plans at the end.
 
-The person of each row knows the rules of the case and may slip once. What the journal holds at the end is compared with the
-session of a person who never slipped.
+The person of each row knows the rules of the case and may slip once. What the journal holds at the
+end is compared with the session of a person who never slipped.
 """
 
 from __future__ import annotations
@@ -141,7 +142,8 @@ def keys(program: str) -> list[str]:
 
 
 def goes_on(program: str) -> list[str]:
-    """A second sitting begins at the question at which the first ended, and ends with the same rules."""
+    """A second sitting begins at the question at which the first ended, and ends with the same
+    rules."""
     with room() as path:
         it = Piped(path, program, "--plan", "quacq")
         sat(it, hands.ward, most=20)
@@ -158,7 +160,8 @@ def goes_on(program: str) -> list[str]:
 
 
 def clash(program: str) -> list[str]:
-    """A slip that collapses: it is among the suspects, going back to it in the same sitting mends it, and little is asked anew."""
+    """A slip that collapses: it is among the suspects, going back to it in the same sitting mends
+    it, and little is asked anew."""
     wanted, found = right(program, "quacq"), []
     for slip in (60, 90):
         with room() as path:
@@ -263,7 +266,8 @@ def why_is_capped(program: str) -> list[str]:
 
 
 def allowed_plan(program: str) -> list[str]:
-    """A plan that is judged wrong leads to the answers behind it, or to what the words can't say."""
+    """A plan that is judged wrong leads to the answers behind it, or to what the words can't
+    say."""
     found = []
     with room("two", TWO) as path:
         it = Piped(path, program, "--plan", "scopes")
@@ -300,7 +304,8 @@ def allowed_plan(program: str) -> list[str]:
 
 
 def refused_plan(program: str) -> list[str]:
-    """A refused plan that is judged right leads to the no behind it; going back to that takes the rule away."""
+    """A refused plan that is judged right leads to the no behind it; going back to that takes the
+    rule away."""
     with room("two", TWO) as path:
         it = Piped(path, program, "--plan", "scopes")
         sat(it, lambda q: len(set(q.values())) == len(q))
@@ -329,7 +334,8 @@ def refused_plan(program: str) -> list[str]:
 
 
 def refused_twice(program: str) -> list[str]:
-    """Behind a refused plan that is right stand all answers that refuse what its rule refuses, where no single one explains it."""
+    """Behind a refused plan that is right stand all answers that refuse what its rule refuses,
+    where no single one explains it."""
     with room("two", TWO.replace("different", "different, not both x")) as path:
         it = Piped(path, program, "--plan", "scopes")
         sat(it, lambda q: len(set(q.values())) == len(q))
@@ -349,7 +355,8 @@ def refused_twice(program: str) -> list[str]:
 
 
 def refused_beforehand(program: str) -> list[str]:
-    """A plan that is refused for a rule said beforehand: no answer is blamed, and it is said where the rule stands."""
+    """A plan that is refused for a rule said beforehand: no answer is blamed, and it is said where
+    the rule stands."""
     with room("two", TWO + "always: different on all\n") as path:
         it = Piped(path, program, "--plan", "scopes")
         sat(it, lambda q: True)
@@ -366,7 +373,8 @@ def refused_beforehand(program: str) -> list[str]:
 
 
 def odd_one(program: str) -> list[str]:
-    """A slip in plan scopes ends in rules; the odd one out shows it, at any time, and going back to it mends them."""
+    """A slip in plan scopes ends in rules; the odd one out shows it, at any time, and going back to
+    it mends them."""
     def all_days(q: hands.Named) -> bool:
         """The ward's rules without an exception."""
         return hands.ward(q) and not ("Sun early" in q and q.get("Sun early") == q.get("Sun late"))
@@ -408,8 +416,9 @@ def changed(program: str) -> list[str]:
 
 
 def contradicted(program: str) -> list[str]:
-    """A line `always` that was added and says otherwise than an answer: it is shown with that answer before anything is asked, and
-    `report` refuses; q leaves all as it was, and b goes back."""
+    """A line `always` that was added and says otherwise than an answer: it is shown with that
+    answer before anything is asked, and `report` refuses; q leaves all as it was, and b goes
+    back."""
     found = []
     with room("two", TWO) as path:
         it = Piped(path, program, "--plan", "scopes")
@@ -439,7 +448,8 @@ def contradicted(program: str) -> list[str]:
 
 
 def undecided(program: str) -> list[str]:
-    """A search that is too long: what was learned, what is open, status 5, and no question goes lost."""
+    """A search that is too long: what was learned, what is open, status 5, and no question goes
+    lost."""
     with room() as path:
         it = Piped(path, program, "--plan", "quacq", "--budget", "1")
         count, _ = sat(it, hands.ward)
@@ -452,7 +462,8 @@ def undecided(program: str) -> list[str]:
 # ---------------------------------------------------------------- back from anywhere
 
 def from_rules(program: str) -> list[str]:
-    """From a sentence among the rules so far to the answers about its things, and back to one; what was said later counts again."""
+    """From a sentence among the rules so far to the answers about its things, and back to one; what
+    was said later counts again."""
     with room() as path:
         it = Piped(path, program, "--plan", "scopes")
         sat(it, hands.ward, most=40)
@@ -480,7 +491,8 @@ def from_rules(program: str) -> list[str]:
 
 
 def from_answers(program: str) -> list[str]:
-    """The answers come newest first, with a letter each; m leads to earlier ones, and a letter back to any of them."""
+    """The answers come newest first, with a letter each; m leads to earlier ones, and a letter back
+    to any of them."""
     with room() as path:
         it = Piped(path, program, "--plan", "scopes")
         sat(it, hands.ward, most=40)
@@ -501,7 +513,8 @@ def from_answers(program: str) -> list[str]:
 
 
 def step_by_step(program: str) -> list[str]:
-    """Going back by k steps is going back to the answer at which they end: the same question, and the same answers count again."""
+    """Going back by k steps is going back to the answer at which they end: the same question, and
+    the same answers count again."""
     found = []
     for text, plan, steps in ((hands.WARD, "scopes", 1), (hands.WARD, "scopes", 4), (ALWAYS, "quacq", 3), (ALWAYS, "scopes", 5), (hands.WARD, "multi", 2)):
         ends = []
@@ -542,7 +555,8 @@ def seats(q: hands.Named) -> bool:
 
 
 def never_seen(program: str) -> list[str]:
-    """A rule that no accepted example keeps is marked, reviewed first, and leads to the word that is missing."""
+    """A rule that no accepted example keeps is marked, reviewed first, and leads to the word that
+    is missing."""
     with room("seats", SEATS) as path:
         it = Piped(path, program, "--plan", "scopes")
         _, end = sat(it, seats)
@@ -565,7 +579,8 @@ def never_seen(program: str) -> list[str]:
 
 
 def pointed(program: str) -> list[str]:
-    """Two cells that are pointed at lead to the answers about these alone, of which one alone was wrong; many are all reached."""
+    """Two cells that are pointed at lead to the answers about these alone, of which one alone was
+    wrong; many are all reached."""
     with room() as path:
         it = Piped(path, program, "--plan", "quacq")
         owner = {"Mon early", "Tue early"}

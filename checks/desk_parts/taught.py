@@ -1,6 +1,6 @@
-"""What a no has taught, beside what the program has learned: at every question of drawn sessions, with `always` lines and after
-steps back, desk says exactly the rules that are new in `show` and whose things were refused. And what it costs where there are
-4,950 groups."""
+"""What a no has taught, beside what the program has learned: at every question of drawn sessions,
+with `always` lines and after steps back, desk says exactly the rules that are new in `show` and
+whose things were refused. And what it costs where there are 4,950 groups."""
 
 from __future__ import annotations
 
@@ -9,7 +9,7 @@ import random
 import tempfile
 import time
 
-import drawn        # desk's folder is on the path now
+import drawn  # desk's folder is on the path now
 import casefile
 import hands
 import views
@@ -19,9 +19,14 @@ from session import Session, Sitting
 from talk import Program
 
 SESSIONS = 30
-MOST = 40           # questions of a session
-LIMIT = 0.005       # seconds that it may take at a question, in the middle
-EXAMS = f"title: Exams\nthings: {' '.join(f'exam{k}' for k in range(100))}\nvalues: 1 .. 15\nask: all\nwords: different, at least 2 apart, before\n"
+MOST = 40  # questions of a session
+LIMIT = 0.005  # seconds that it may take at a question, in the middle
+EXAMS = f"""title: Exams
+things: {' '.join(f'exam{k}' for k in range(100))}
+values: 1 .. 15
+ask: all
+words: different, at least 2 apart, before
+"""
 SEATS = """title: Seats
 things: Ada Bo Cy Dürr
 values: table left right x seat 1 2 3 4
@@ -35,9 +40,17 @@ PLANTED = [
     # what was said beforehand is said as if it were taught
     ("session.py", "if table != self._accepted_beforehand.get(scope):", "if True:"),
     # answers that are given for the person teach as well
-    ("session.py", "for place, answer in enumerate(self.answers[since:])", "for place, answer in enumerate(self.answers[since:since + 1])"),
+    (
+        "session.py",
+        "for place, answer in enumerate(self.answers[since:])",
+        "for place, answer in enumerate(self.answers[since:since + 1])",
+    ),
     # a rule stands there that was taken back
-    ("ask.py", 'self.before, self.taught, self.told = None, "", set()\n        self.note = f"Your', 'self.before, self.told = None, set()\n        self.note = f"Your'),
+    (
+        "ask.py",
+        'self.before, self.taught, self.told = None, "", set()\n        self.note = f"Your',
+        'self.before, self.told = None, set()\n        self.note = f"Your',
+    ),
     # a rule that two groups have is said twice
     ("views.py", "if rule.text not in told)", ")"),
 ]
@@ -51,8 +64,16 @@ def learned(one: Session) -> Known:
 
 def said(one: Session, rules: Known) -> list[str]:
     """The rules of constraints in words, without those that were said beforehand."""
-    every = {rule.text: (rule.word.text, rule.things) for scope, table in rules for rule in one.vocabulary.fewest(scope, table)}
-    return sorted(text for text, key in every.items() if key not in {(rule.word.text, rule.things) for rule in one.case.always})
+    every = {
+        rule.text: (rule.word.text, rule.things)
+        for scope, table in rules
+        for rule in one.vocabulary.fewest(scope, table)
+    }
+    return sorted(
+        text
+        for text, key in every.items()
+        if key not in {(rule.word.text, rule.things) for rule in one.case.always}
+    )
 
 
 def case_text(draw: random.Random) -> str:
@@ -63,12 +84,16 @@ def case_text(draw: random.Random) -> str:
         pairs = [group for group in case.groups if len(group.things) == 2]
         word = next((word.text for word in case.words if word.arity == 2 and not word.things), None)
         if pairs and word:
-            text += f"always: {word} on {' - '.join(case.things[thing].name for thing in draw.choice(pairs).things)}\n"
+            names = (case.things[thing].name for thing in draw.choice(pairs).things)
+            text += f"always: {word} on {' - '.join(names)}\n"
     return text
 
 
-def session(one: Session, sitting: Sitting, owner: Owner, draw: random.Random) -> tuple[list[str], int]:
-    """One session: the faults, and how many rules were said. A step back on the way takes rules back, and they are said again."""
+def session(
+    one: Session, sitting: Sitting, owner: Owner, draw: random.Random
+) -> tuple[list[str], int]:
+    """One session: the faults, and how many rules were said. A step back on the way takes rules
+    back, and they are said again."""
     found: list[str] = []
     count = 0
     sitting.advance()
@@ -78,8 +103,14 @@ def session(one: Session, sitting: Sitting, owner: Owner, draw: random.Random) -
         sitting.answer(owner.accepts(sitting.question.values))
         sitting.advance()
         now = learned(one)
-        refused = {tuple(sorted(answer.question.values)) for answer in one.answers[since:] if not answer.yes}
-        wanted, got = said(one, {rule for rule in now - known if rule[0] in refused}), sorted(rule.text for rule in one.taught(since))
+        refused = {
+            tuple(sorted(answer.question.values))
+            for answer in one.answers[since:]
+            if not answer.yes
+        }
+        wanted, got = said(one, {rule for rule in now - known if rule[0] in refused}), sorted(
+            rule.text for rule in one.taught(since)
+        )
         count += len(wanted)
         if wanted != got:
             found.append(f"{one.plan}, answer {since + 1}: new is {wanted}, and desk says {got}")
@@ -100,10 +131,12 @@ def sessions(program: str) -> list[str]:
             try:
                 with open(path, "w", encoding="utf-8") as file:
                     file.write(case_text(draw))
-                with Session.opened(casefile.read(path), Program(program), PLANS[seed % 3]) as one, one.sit() as sitting:
+                with Session.opened(
+                    casefile.read(path), Program(program), PLANS[seed % 3]
+                ) as one, one.sit() as sitting:
                     found, said_here = session(one, sitting, Owner(one.vocabulary, draw), draw)
             except Fault:
-                continue        # a case that the program doesn't take
+                continue  # a case that the program doesn't take
         faults += [f"taught: session {seed}: {fault}" for fault in found]
         count, rules = count + 1, rules + said_here
     if rules < SESSIONS // 2:
@@ -113,34 +146,50 @@ def sessions(program: str) -> list[str]:
 
 
 def shown(program: str) -> list[str]:
-    """A rule that answers teach because a word is missing stands at the very next question, once, and not after a step back."""
-    note = "Your answers have just taught: Bo and Cy are next to each other. Is that so? If not, go back, or a word is missing."
+    """A rule that answers teach because a word is missing stands at the very next question, once,
+    and not after a step back."""
+    note = (
+        "Your answers have just taught: Bo and Cy are next to each other. Is that so? "
+        "If not, go back, or a word is missing."
+    )
+
     def owner(q: hands.Named) -> bool:
         """No seat twice, and Bo and Cy at two tables, which the words can't say."""
-        return len(set(q.values())) == len(q) and not ("Cy" in q and "Bo" in q and q["Cy"].split()[0] == q["Bo"].split()[0])
+        return len(set(q.values())) == len(q) and not (
+            "Cy" in q and "Bo" in q and q["Cy"].split()[0] == q["Bo"].split()[0]
+        )
+
     with hands.room("seats", SEATS) as path:
         it = hands.Piped(path, program, "--plan", "scopes")
         said_after, before = [], hands.Named()
+
         def asked(sheet: list[str] | None) -> bool:
             """Whether a question is there; after which answer the note stands is put down."""
             said_after.extend([sorted(before)] if note in (sheet or []) else [])
             return sheet is not None and hands.is_question(sheet)
+
         while asked(sheet := it.sheet()) and not said_after:
             before = hands.plain_values(sheet or [])
             it.say("y" if owner(before) else "n")
         steps = []
         for key in ("w", "b", "n"):
             it.say(key)
-            sheet = it.sheet() or []        # behind that of w the question comes again
+            sheet = it.sheet() or []  # behind that of w the question comes again
             steps.append(note in sheet)
         while asked(sheet) and len(said_after) < 3:
             before = hands.plain_values(sheet or [])
             it.say("y" if owner(before) else "n")
             sheet = it.sheet()
         it.end()
-    faults = [] if said_after == [["Bo", "Cy"]] * 2 else [f"taught: {note!r} stands after {said_after}"]
+    faults = (
+        [] if said_after == [["Bo", "Cy"]] * 2 else [f"taught: {note!r} stands after {said_after}"]
+    )
     faults += twice(program)
-    return faults + ([] if steps == [True, False, True] else [f"taught: after w, b and n it stands there: {steps}"])
+    return faults + (
+        []
+        if steps == [True, False, True]
+        else [f"taught: after w, b and n it stands there: {steps}"]
+    )
 
 
 def twice(program: str) -> list[str]:
@@ -151,7 +200,11 @@ def twice(program: str) -> list[str]:
             values = hands.plain_values(sheet)
             it.say("y" if hands.ward(values) and len(set(values.values())) == len(values) else "n")
         it.end()
-        said = [line for line in it.lines if line.startswith("Your answers have just taught: Mon night is never Ann.")]
+        said = [
+            line
+            for line in it.lines
+            if line.startswith("Your answers have just taught: Mon night is never Ann.")
+        ]
     return [] if len(said) == 1 else [f"taught: {said}"]
 
 
@@ -164,7 +217,9 @@ def pace(program: str) -> list[str]:
             with open(path, "w", encoding="utf-8") as file:
                 file.write(EXAMS)
             taken = []
-            with Session.opened(casefile.read(path), Program(program), plan) as one, one.sit() as sitting:
+            with Session.opened(
+                casefile.read(path), Program(program), plan
+            ) as one, one.sit() as sitting:
                 sitting.advance()
                 while sitting.question is not None and len(taken) < MOST:
                     values, since = sitting.question.values, len(one.answers)
@@ -174,7 +229,9 @@ def pace(program: str) -> list[str]:
                     views.taught_text(one, since, set())
                     taken.append(time.process_time() - began)
         taken.sort()
-        told.append(f"{plan} {1000 * taken[len(taken) // 2]:.2f} ms, at most {1000 * taken[-1]:.1f}")
+        told.append(
+            f"{plan} {1000 * taken[len(taken) // 2]:.2f} ms, at most {1000 * taken[-1]:.1f}"
+        )
         if taken[len(taken) // 2] > LIMIT:
             faults.append(f"taught: {told[-1]} a question")
     print(f"taught: with 4,950 groups, at a question {'; '.join(told)}")
