@@ -35,12 +35,9 @@ PLANTED = [
     # behind a broken plan only a single answer that explains it is shown
     ("review.py", "    if places or shown.rule is None:\n        return places", "    return places"),
     # a second step back forgets what the first one took
-    ("session.py", "session.foreseen.remember(later + self._aside)", "session.foreseen.remember(later)"),
-    # what a step back put aside counts after the next answer
-    ("session.py", "self.question, self._aside = None, []", "self.question = None"),
+    ("session.py", "*(self._aside.every if self._aside else ())", ""),
     # what decides the question that waits is dropped for good
-    ("session.py", "self._aside = [old(chosen.question.values, chosen.yes, AGAIN), *(one for one in before if one not in session.foreseen.before)]",
-     "self._aside = [old(chosen.question.values, chosen.yes, AGAIN)]"),
+    ("session.py", "return self.mine + self.reasons", "return self.mine"),
     # letters stay at the first answers
     ("goback.py", "self._first += len(self._letters)", "self._first += 0"),
     # rules that nobody saw kept don't come first

@@ -33,7 +33,8 @@ RED = re.compile(rb"\x1b\[[0-9;]*\b(3[0-7]|4[0-7]|9[0-7]|10[0-7]|38|48)\b[0-9;]*
 
 PLANTED = [
     # each value has the name of the next one
-    ("picture.py", "return self.case.label(self.values[thing]) +", "return self.case.values[(self.values[thing] + 1) % len(self.case.values)] +"),
+    ("picture.py", "return self.called(thing, self.case.label(self.values[thing]))",
+     "return self.called(thing, self.case.values[(self.values[thing] + 1) % len(self.case.values)])"),
     # the guard is off
     ("keys.py", "now - shown >= GUARD", "now - shown >= 0"),
     # the terminal isn't put back
