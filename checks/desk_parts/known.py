@@ -32,6 +32,10 @@ PLANTED = [
     ("session.py", "said = None if by_person else self.foreseen.answer(question.values)", "said = self.foreseen.answer(question.values)"),
     # an old answer that was contradicted counts on
     ("session.py", "        dropped = self.foreseen.forget(values, yes)\n", "        dropped = False\n"),
+    # what a line answered in a session before is carried over
+    ("carry.py", "             if one.yes or foreseen.violated(dict(one.values)) is None]", "             ]"),
+    # the text beside a session may be another case's
+    ("carry.py", "if head is None or head[1] != words.json.encode():", "if False:"),
     # what an old answer gave stays where that one counts no more
     ("session.py", "place = self.session.groundless() if dropped else None", "place = None"),
 ]
@@ -205,6 +209,35 @@ def again(program: Program, folder: str, seed: int, words: Vocabulary, text: str
         return sat(session, truth)
 
 
+def said_by_lines(program: Program) -> list[str]:
+    """What a line `always` answered isn't carried over, neither from the session in which it did nor from one before it; nor is
+    anything of a session to which the text beside it doesn't belong."""
+    text, line = "things: a b\nvalues: p q\nask: all\nwords: different, same\nplan: scopes\n", "always: different on all\n"
+    with tempfile.TemporaryDirectory() as folder, contextlib.redirect_stdout(io.StringIO()):
+        old, new = os.path.join(folder, "old.case"), os.path.join(folder, "new.case")
+        for path, said in ((old, text + line), (new, text)):
+            with open(path, "w", encoding="utf-8") as file:
+                file.write(said)
+        before: list[Named] = [{"yes": False, "by": "carried", "values": {"a": "q", "b": "q"}}]
+        with Session.opened(casefile.read(old), program, before=before) as session:
+            sat(session, lambda values: True)
+            given = [answer.said.by for answer in session.answers if answer.said is not None]
+        options = argparse.Namespace(acquire=program.path, budget=None)
+        carry.main(old, new, options)
+        with Session.opened(casefile.read(new), program) as session:
+            left = [one for one in session.foreseen.before if not one.yes]
+        with open(os.path.join(folder, "old.session"), encoding="utf-8") as file:
+            kept = file.read()
+        with open(os.path.join(folder, "old.session"), "w", encoding="utf-8") as file:
+            file.write(kept.replace("values: p q", "values: q p r"))
+        try:
+            carry.main(old, None, options)
+            return ["answers are carried over from a session that is about another case"]
+        except Fault as fault:
+            refused = "another desk made them" in str(fault)
+    return [] if given and not left and refused else [f"of {given} there are {left} carried over"]
+
+
 def disagreeing(program: Program) -> list[str]:
     """A question about which two old answers disagree is put to the person, whose answer then is their own, and ends the quarrel."""
     with tempfile.TemporaryDirectory() as folder:
@@ -237,10 +270,20 @@ def fresh_most(session: Session) -> int:
 
 def run(program: str) -> list[str]:
     """Faults of all drawn sessions."""
+    return looked(program, SESSIONS)
+
+
+def quick(program: str) -> list[str]:
+    """The same in little."""
+    return looked(program, SESSIONS // 4)
+
+
+def looked(program: str, sessions: int) -> list[str]:
+    """Faults of so many drawn sessions, and of some that are written here."""
     faults: list[str] = []
     counts = {"always": 0, "carried": 0, "earlier": 0, "again": 0}
     it = Program(program)
-    for seed, case, words in drawn.cases(range(9000, 9000 + SESSIONS)):
+    for seed, case, words in drawn.cases(range(9000, 9000 + sessions)):
         with tempfile.TemporaryDirectory() as folder:
             for what, part in (("always", always), ("carried", carried), ("earlier", earlier), ("again", again)):
                 found, given = part(it, folder, seed, words, case.text)
@@ -248,7 +291,7 @@ def run(program: str) -> list[str]:
                 counts[what] += given
         if len(faults) > drawn.ENOUGH:
             break
-    faults += named(disagreeing(it), "disagreeing")
+    faults += named(disagreeing(it), "disagreeing") + named(said_by_lines(it), "said by lines")
     faults += [f"{what}: nothing was ever given, or gone back to, which tests little" for what, count in counts.items() if not count]
     print("known: answers given for the person, all as the person would: " + ", ".join(f"{count} {what}" for what, count in counts.items() if what != "earlier")
           + f"; {counts['earlier']} steps back to slips of an earlier session")

@@ -53,6 +53,10 @@ PLANTED = [
     ("markup.py", "else html.escape(piece) for piece", "else piece for piece"),
     # the days of a plan are shifted by one
     ("page.py", "name, scope=\"col\") for name in grid.heads)", "name, scope=\"col\") for name in grid.heads[1:] + grid.heads[:1])"),
+    # what was given again counts as said beforehand
+    ("page.py", "by[ALWAYS] + by[CARRIED]} said beforehand", "by[ALWAYS] + by[CARRIED] + by[AGAIN]} said beforehand"),
+    # the person's own answers are counted wrong
+    ("page.py", "{by['']} of them given one by one", "{by[''] + by[AGAIN]} of them given one by one"),
     # a text that is hard to read
     ("style.py", "\"dim\": (\"#566072\"", "\"dim\": (\"#8a93a3\""),
 ]
@@ -82,7 +86,7 @@ def quick(program: str) -> list[str]:
     """The same in little, without a browser."""
     with hands.room("marked", MARKED) as path:
         ending = hands.answered(path, program, lambda q: len(set(q.values())) == len(q))
-        return [*contrast(), *one_page(program, path, ending, None)]
+        return [*contrast(), *one_page(program, path, ending, None), *given(program)]
 
 
 # ---------------------------------------------------------------- reading a page

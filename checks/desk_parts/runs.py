@@ -3,9 +3,11 @@ acknowledged is lost, and no process is left behind."""
 
 from __future__ import annotations
 
+import fcntl
 import os
 import random
 import re
+import shutil
 import signal
 import subprocess
 import sys
@@ -32,6 +34,10 @@ PLANTED = [
     ("session.py", "if began != self.case.text and not self.against():", "if began != self.case.text:"),
     # an empty journal stays behind
     ("session.py", "    if os.fstat(lock).st_size == 0 and _is_there(lock, journal):", "    if False:"),
+    # what was moved away is worked on
+    ("session.py", "            if _is_there(file, journal):\n                return file\n", "            return file\n"),
+    # a line that is gone doesn't change a session
+    ("session.py", "if any((rule.word.text, rule.things) not in said for rule in before.always):", "if False:"),
     # one byte more is cut off than is damaged
     ("session.py", "place, file = int(damaged[1]), shlex.quote(journal)", "place, file = int(damaged[1]) - 1, shlex.quote(journal)"),
 ]
@@ -189,6 +195,28 @@ def changed(program: Program, folder: str) -> list[str]:
     return faults
 
 
+def moved(program: Program, folder: str) -> list[str]:
+    """A journal that another desk moves away while this one opens it: the one that is there then is locked, not the one that was."""
+    path = fresh(folder)
+    with Session.opened(casefile.read(path), program, "scopes") as session:
+        answers = sat(session, 3)
+    really, calls = fcntl.flock, []
+    def meanwhile(file: int, how: int) -> None:
+        calls.append(file)
+        if len(calls) == 1:
+            shutil.copy(journal_of(path), path + ".copy")
+            os.replace(path + ".copy", journal_of(path))
+        really(file, how)
+    fcntl.flock = meanwhile
+    try:
+        with Session.opened(casefile.read(path), program) as session:
+            there = os.path.samestat(os.fstat(session._lock), os.stat(journal_of(path)))
+            stand = plain(session.answers)
+    finally:
+        fcntl.flock = really
+    return [] if there and stand == answers else ["a journal is locked that has another name now"]
+
+
 def damaged(program: Program, folder: str) -> list[str]:
     """Files that are no journal, no session or may not be written are told, and stay as they were."""
     faults = []
@@ -265,7 +293,7 @@ def run(program: str) -> list[str]:
     """Faults of all these sessions."""
     faults: list[str] = []
     with tempfile.TemporaryDirectory() as folder:
-        for part in (stopped, taken_back, killed, locked, changed, contradicted, damaged, mended):
+        for part in (stopped, taken_back, killed, locked, moved, changed, contradicted, damaged, mended):
             faults += [f"{part.__name__}: {fault}" for fault in part(Program(program), folder)]
     try:
         os.waitpid(-1, os.WNOHANG)

@@ -27,6 +27,8 @@ words: different
 """
 
 PLANTED = [
+    # a line that contradicts an answer isn't told
+    ("ask.py", "        if self.session.against():\n            place", "        if False:\n            place"),
     # an answer is turned round
     ("ask.py", "self.sitting.answer(key == \"y\")", "self.sitting.answer(key == \"n\")"),
     # another answer is gone back to than the one that was chosen
@@ -56,7 +58,7 @@ def run(program: str) -> list[str]:
 
 def quick(program: str) -> list[str]:
     """The same in little."""
-    return looked(program, (keys, odd_one, refused_twice, from_rules, from_answers, step_by_step, never_seen, pointed))
+    return looked(program, (keys, odd_one, contradicted, refused_twice, from_rules, from_answers, step_by_step, never_seen, pointed))
 
 
 def looked(program: str, rows: Iterable[object]) -> list[str]:
