@@ -303,12 +303,11 @@ def advised(words: Vocabulary, program: Program, clock: Clock) -> str:
 
 def prices(case: Case, program: Program, clock: Clock) -> Iterator[Price]:
     """What the words of a case cost where one group is asked about at a time; none of words that the case can't be without."""
-    needed = {rule.word.text for rule in case.always}
-    able = [word for word in case.words if word.text not in needed and not word.things]
+    able = [word for word in case.words if not word.things]
     for word in able[:MOST_PRICED] if len(case.words) > 1 else ():
         try:
             words = Vocabulary(dataclasses.replace(case, words=tuple(one for one in case.words if one is not word)))
-        except Fault:
+        except Fault:       # a rule said beforehand needs it, or a group has no other word
             continue
         clock.doing(f"reckoning what `{word.text}` costs")
         try:

@@ -31,7 +31,7 @@ PLANTED = [
     ("check.py", "    for place in range(inside.bit_length()):\n        weakest = max(", "    for place in range(inside.bit_length()):\n        weakest = min("),
     ("check.py", "key=lambda price: price.without or 0)", "key=lambda price: -(price.without or 0))"),
     ("trials.py", "tuple(one for one in case.words if one is not word)", "tuple(one for one in case.words if one is word)"),
-    ("trials.py", "needed = {rule.word.text for rule in case.always}", "needed: set[str] = set()"),
+    ("trials.py", "        if clock.over:\n            late = True\n            break\n", ""),
     ("trials.py", "SHAPES = (scattered, hubs, blocks)", "SHAPES = (scattered, scattered, scattered)"),
     ("trials.py", "SHAPES = (scattered, hubs, blocks)", "SHAPES = (scattered, hubs, hubs)"),
     ("trials.py", "        if fits:\n", "        if some:\n            fits = fits or [some[0][1]]\n"),
@@ -40,7 +40,6 @@ PLANTED = [
     ("talk.py", "            self._clock.tick()\n            if self._clock.over:\n                raise Late\n            if came:\n                return\n",
      "            if came:\n                return\n            self._clock.tick()\n            if self._clock.over:\n                raise Late\n"),
     ("talk.py", "        if clock is not None:\n            clock.tick()\n", "        if clock is not None and not came:\n            clock.tick()\n"),
-    ("talk.py", "        if clock is not None and clock.over:\n            raise Late(", "        if clock is not None and clock.over and not came:\n            raise Late("),
     ("offers.py", "if most + 1 in have or not some", "if not some"),
     ("offers.py", "return min(found, key=", "return max(found, key="),
 ]
@@ -84,8 +83,9 @@ def owners() -> list[str]:
             faults.append(f"owner {trial} has no hub: {scopes}")
         if trial in (2, 5) and not _in_two_kinds(scopes):
             faults.append(f"owner {trial} has no two kinds: {scopes}")
-    if all(any(all(thing in scope for scope in trials.drawn(words, trial, 12).tables) for thing in range(6)) for trial in (5, 8, 11)):
-        faults.append("owners with two kinds have one hub")
+    mixed = list(trials.drawn(words, 5, 12).tables)
+    if len(mixed) < 3 or any(all(thing in scope for scope in mixed) for thing in range(6)):
+        faults.append(f"an owner with two kinds of two things has one thing in all rules: {mixed}")
     return faults
 
 

@@ -27,7 +27,8 @@ FOR_FIRST = 5.0     # and until its first question
 NO_END = 180        # seconds by the clock after which a call counts as one without an end, also on a busy machine
 PLANTED = [
     ("trials.py", "SECONDS = 10.0 ", "SECONDS = 60.0 "),
-    ("trials.py", "        if clock.over:\n            late = True\n            break\n", ""),
+    ("trials.py", "SECONDS_AT_FIRST = 3.0 ", "SECONDS_AT_FIRST = 40.0 "),
+    ("check.py", "reply = program.call([made, *call], given, clock)", "reply = program.call([made, *call], given, Clock(60))"),
     ("trials.py", "if words.lifted or any(one.late for one in some):", "if words.lifted:"),
 ]
 EXAMS = f"title: Exams\nthings: {' '.join(f'exam{k}' for k in range(100))}\nvalues: 1 .. 15\nask: all\nwords: different, at least 2 apart, before\n"
@@ -100,9 +101,37 @@ def waits(program: str, counts: tuple[int, ...]) -> list[str]:
     return faults
 
 
+STUCK = """#!/bin/sh
+# a program that never comes to an end where it plays
+case "$2" in play) echo q1 exam1=1 exam2=1 yes; exec sleep 1000;; *) exec PROGRAM "$@";; esac
+"""
+
+
+def stuck(program: str) -> list[str]:
+    """Where the program never ends, `check` does after its 18 seconds and the first question comes after 3, by the clock; the
+    limits leave room for a busy machine."""
+    faults = []
+    with tempfile.TemporaryDirectory() as folder:
+        it, path = os.path.join(folder, "stuck"), os.path.join(folder, "slots.case")
+        for name, text in ((it, STUCK.replace("PROGRAM", os.path.abspath(program))), (path, slots(20))):
+            with open(name, "w", encoding="utf-8") as file:
+                file.write(text)
+        os.chmod(it, 0o755)
+        for words, most, wanted in ((("check",), 45.0, "more than 1 when the time was over"), (("ask", "--plain"), 25.0, "question 1")):
+            began = time.monotonic()
+            try:
+                text, _ = called(it, folder, *words, path)
+            except subprocess.TimeoutExpired:
+                text = ""
+            took = time.monotonic() - began
+            if took > most or wanted not in " ".join(text.split()):
+                faults.append(f"with a program that is stuck `{words[0]}` takes {took:.0f} s and says {text[-300:]!r}")
+    return faults
+
+
 def quick(program: str) -> list[str]:
-    """The largest case alone."""
-    return waits(program, (100,))
+    """The largest case alone, and a program that is stuck."""
+    return waits(program, (100,)) + stuck(program)
 
 
 def run(program: str) -> list[str]:
@@ -116,4 +145,4 @@ def run(program: str) -> list[str]:
             if middle > LIMIT or worst > 3 * LIMIT:
                 faults.append(f"{said[-1]}: more than {1000 * LIMIT:.0f} ms")
     print(f"pace: 100 exams, {SOME} keys: {'; '.join(said)}")
-    return faults + waits(program, (20, 40, 60, 100))
+    return faults + waits(program, (20, 40, 60, 100)) + stuck(program)
