@@ -18,7 +18,7 @@ from dataclasses import dataclass
 import casefile
 import catalogue
 from along import Things
-from catalogue import ENTRIES, NUMBERS, Setting
+from catalogue import ENTRIES, Entry, Setting
 from model import Case, Fault, Values, Word
 from session import Session
 from vocabulary import Vocabulary
@@ -26,6 +26,7 @@ from vocabulary import Vocabulary
 SECONDS = 2.0  # for the search
 FIRST = "different PART"  # is tried: of all words about a part it is meant most
 MOST_OFFERED = 4  # words
+COUNTS = ("one", "two", "three")
 WORDS_OF = {1: "one thing", 2: "two things", 3: "three things", 4: "four things"}
 
 
@@ -72,27 +73,34 @@ def _search(
     session: Session, refused: list[Values], accepted: list[Values], things: Things
 ) -> Search:
     """The words that refuse each of some examples and are broken by no accepted one."""
-    if not refused:
-        return Search((), things, True)
-    end = time.monotonic() + SECONDS
     case = session.case
-    setting = Setting(case.things, case.values, case.value_parts)
-    have = set() if things else {word.text for word in case.words}
     groups = [things] if things else [group.things for group in case.groups]
-    seen = _Seen(groups, refused, accepted)
     found: list[str] = []
-    for form in forms(case, setting, refused):
-        if time.monotonic() > end:
-            return Search(tuple(found), things, False)
-        if form in have or len(found) == MOST_OFFERED:
+    try:
+        for form in _explaining(case, _Seen(groups, refused, accepted), not things):
+            if _taken(case, form, things):
+                found.append(form)
+            if len(found) == MOST_OFFERED:
+                break
+    except _Late:
+        return Search(tuple(found), things, False)
+    return Search(tuple(found), things, True)
+
+
+def _explaining(case: Case, seen: _Seen, new: bool) -> Iterator[str]:
+    """The words that explain each refused example; with `new` those alone that the case lacks."""
+    setting = Setting(case.things, case.values, case.value_parts)
+    have = {word.text for word in case.words} if new else set()
+    for form in forms(case, setting, seen.refused, seen.largest) if seen.refused else ():
+        seen.in_time()
+        if form in have:
             continue
         try:
             word = catalogue.word(setting, form)
         except Fault:
             continue  # a form that this case has no meaning for
-        if all(seen.explains(word, values) for values in refused) and _taken(case, form, things):
-            found.append(form)
-    return Search(tuple(found), things, True)
+        if all(seen.explains(word, values) for values in seen.refused):
+            yield form
 
 
 def _taken(case: Case, form: str, things: Things) -> bool:
@@ -108,19 +116,31 @@ def _taken(case: Case, form: str, things: Things) -> bool:
     return True
 
 
+class _Late(Exception):
+    """The time for the search is over."""
+
+
 class _Seen:
     """What accepted examples have on the groups of things that refused ones have."""
 
     def __init__(
         self, groups: Sequence[Things], refused: Sequence[Values], accepted: Sequence[Values]
     ) -> None:
+        self.refused = refused
+        self.largest = max(map(len, groups))
         self._groups, self._accepted = groups, accepted
+        self._end = time.monotonic() + SECONDS
         self._within = {thing for values in refused for thing in values}
         self._of: dict[int, dict[Things, set[tuple[int, ...]]]] = {}
 
+    def in_time(self) -> None:
+        """Breaks the search off where it has taken its time."""
+        if time.monotonic() > self._end:
+            raise _Late
+
     def explains(self, word: Word, values: Values) -> bool:
         """Whether a word refuses an example on things on which no accepted one breaks it."""
-        of = self._of_size(word.arity)
+        of = self._having(word.arity)
         return any(
             not word.holds(*(values[thing] for thing in things))
             and all(word.holds(*some) for some in seen)
@@ -129,7 +149,7 @@ class _Seen:
             and all(thing in values for thing in things)
         )
 
-    def _of_size(self, size: int) -> dict[Things, set[tuple[int, ...]]]:
+    def _having(self, size: int) -> dict[Things, set[tuple[int, ...]]]:
         """The things of this number that are asked about together, and the values that accepted
         examples have there."""
         if size not in self._of:
@@ -140,7 +160,8 @@ class _Seen:
             of: dict[Things, set[tuple[int, ...]]] = {
                 things: set() for things in groups if self._within.issuperset(things)
             }
-            for values in self._accepted:
+            for values in self._accepted if of else ():
+                self.in_time()
                 for things in itertools.combinations(sorted(self._within & values.keys()), size):
                     if things in of:
                         of[things].add(tuple(values[thing] for thing in things))
@@ -151,9 +172,11 @@ class _Seen:
 # ---------------------------------------------------------------- the forms of words
 
 
-def forms(case: Case, setting: Setting, refused: Sequence[Values]) -> Iterator[str]:
-    """The words that may be missing: about a part first, then about no value, then about the values
-    of the refused examples."""
+def forms(
+    case: Case, setting: Setting, refused: Sequence[Values], largest: int
+) -> Iterator[str]:
+    """The words that may be missing, of so many things at most: about a part first, then about no
+    value, then about the values of the refused examples."""
     values = list(dict.fromkeys(value for some in refused for value in some.values()))
     members = [
         part.members[setting.at(value)[place]]
@@ -161,8 +184,9 @@ def forms(case: Case, setting: Setting, refused: Sequence[Values]) -> Iterator[s
         for place, part in enumerate(case.value_parts)
     ]
     names = list(dict.fromkeys([*members, *(case.values[value] for value in values)]))
-    named = [entry.form for entry in ENTRIES if re.search(r"\b[VW]\b", entry.form)]
-    plain = [entry.form for entry in ENTRIES if entry.form not in named and "=" not in entry.form]
+    every = [form for entry in ENTRIES for form in _of_size(entry, largest) if "=" not in form]
+    named = [form for form in every if re.search(r"\b[VW]\b", form)]
+    plain = [form for form in every if form not in named]
     parted = sorted((form for form in plain if "PART" in form), key=lambda form: form != FIRST)
     for form in parted + [form for form in plain if form not in parted] + named:
         yield from _filled(case, form, names)
@@ -170,17 +194,23 @@ def forms(case: Case, setting: Setting, refused: Sequence[Values]) -> Iterator[s
         yield from _of_things(case, refused)
 
 
+def _of_size(entry: Entry, largest: int) -> list[str]:
+    """The forms of an entry that speak of so many things at most."""
+    if "of them" in entry.form:  # of one thing more than it counts
+        return [re.sub(r"\bK\b", count, entry.form) for count in COUNTS[: largest - 1]]
+    more = [entry.form.replace("three", "four")] if entry.arity == 3 and largest > 3 else []
+    return [entry.form, *more] if entry.arity <= largest else []
+
+
 def _filled(case: Case, form: str, names: Sequence[str]) -> Iterator[str]:
     """A form of the catalogue with names and numbers for its capitals."""
-    if "three" in form:
-        yield from _filled(case, form.replace("three", "four"), names)
     sides = (
         [(part.name, len(part.members)) for part in case.value_parts]
         if "PART" in form
         else [("", len(case.values))]
     )
     for name, size in sides:
-        counts = [str(k) for k in range(1, size)] if "apart" in form else list(NUMBERS)[:3]
+        counts = [str(k) for k in range(1, size)] if "apart" in form else COUNTS
         for count in counts if re.search(r"\bK\b", form) else [""]:
             text = re.sub(r"\bK\b", count, form.replace("PART", name))
             for v, w in itertools.product(
@@ -214,32 +244,27 @@ def lines(case: Case, form: str, things: Things) -> Iterable[str]:
 def told(session: Session, search: Search) -> list[str]:
     """What a search says to the person."""
     case = session.case
-    cut = (
-        []
-        if search.whole
-        else ["The search for a word was cut after two seconds, so there may be others."]
-    )
+    said = []
     if search.things:
         who = " and ".join(case.things[thing].name for thing in search.things)
-        cut = [f"`ask` doesn't put {who} together, so no rule about them was looked for.", *cut]
+        said.append(f"`ask` doesn't put {who} together, so no rule about them was looked for.")
+    if not search.words and not search.whole:
+        return [*said, "No word that explains it was found in two seconds; not all were tried."]
     if not search.words:
-        largest = (
-            max(len(group.things) for group in case.groups)
-            if not search.things
-            else len(search.things)
-        )
-        about = " or ".join(WORDS_OF[size] for size in range(1, largest + 1))
+        sizes = [len(search.things)] if search.things else [len(group.things) for group in case.groups]
+        about = " or ".join(WORDS_OF[size] for size in range(1, max(sizes) + 1))
         return [
-            *cut,
+            *said,
             f"No word of the catalogue about {about} explains it. Is it a count, as how many may have "
             "one value? Or is it about more things?",
         ]
     offered = ", ".join(f"`{form}`" for form in search.words)
     write = "; ".join(f"`{line}`" for line in lines(case, search.words[0], search.things))
     one = "This word" if len(search.words) == 1 else "One of these words"
+    more = "" if search.whole else " There may be others: the search was cut after two seconds."
     return [
-        *cut,
-        f"{one} would explain it: {offered}. Where it is what you mean, write it into the case as a "
-        f"line, {write}; `desk carry {shlex.quote(case.path)}` then takes your answers over, and "
+        *said,
+        f"{one} would explain it: {offered}.{more} Where it is what you mean, write it into the case "
+        f"as a line, {write}; `desk carry {shlex.quote(case.path)}` then takes your answers over, and "
         "asks only what is new.",
     ]

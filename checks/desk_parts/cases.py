@@ -62,12 +62,6 @@ PLANTED = [
     ),
     # a word is offered that an accepted example breaks
     ("missing.py", "and all(word.holds(*some) for some in seen)", "and bool(seen or 1)"),
-    # whatever is found is cut at once
-    (
-        "missing.py",
-        "            return Search(tuple(found), things, False)",
-        "            return Search(tuple(found), things, True)",
-    ),
     # what an accepted example shows counts as never seen
     (
         "sentences.py",
@@ -239,14 +233,14 @@ def missing_word(program: str) -> list[str]:
             first, sheets = ends(program, path, seats, plan)
             text = "\n".join(sheets[0])
             if sheets[0] and sheets[0][0] == "Your answers clash":
-                offered = re.search(r"words would explain it: (.*?)\. Where", text)
+                offered = re.search(r"words would explain it: (.*?)\.", text)
             else:
                 if "Cy and Dürr are next to each other (never seen yet)" not in text:
                     faults.append(
                         f"cases: seats, {plan}: the rule that isn't so isn't marked: {text}"
                     )
                 _, sheets = ends(program, path, seats, "", "gn")
-                offered = re.search(r"words would explain it: (.*?)\. Where", "\n".join(sheets[-1]))
+                offered = re.search(r"words would explain it: (.*?)\.", "\n".join(sheets[-1]))
             words = offered[1].split(", ") if offered else []
             if words[:1] != ["`different table`"]:
                 faults.append(f"cases: seats, {plan}: {words} are offered, in {sheets[-1]}")

@@ -32,8 +32,14 @@ PLANTED = [
     # a word has to explain one of the refused examples, and not all of them
     (
         "missing.py",
-        "if all(seen.explains(word, values) for values in refused)",
-        "if any(seen.explains(word, values) for values in refused)",
+        "if all(seen.explains(word, values) for values in seen.refused)",
+        "if any(seen.explains(word, values) for values in seen.refused)",
+    ),
+    # a search that is cut says that no word explains it
+    (
+        "missing.py",
+        "        return Search(tuple(found), things, False)",
+        "        return Search(tuple(found), things, True)",
     ),
     # words about a part are tried last
     (
@@ -87,7 +93,8 @@ def by_trial(words: Vocabulary, answers: list[tuple[Values, bool]]) -> list[str]
     clash = [answers[place][0] for place in possible.clash()]
     least = [one for one in clash if not any(other.items() < one.items() for other in clash)]
     found: list[str] = []
-    for form in missing.forms(case, Setting(case.things, case.values, case.value_parts), least):
+    largest = max(words.arities)
+    for form in missing.forms(case, Setting(case.things, case.values, case.value_parts), least, largest):
         if len(found) == missing.MOST_OFFERED:
             break
         try:
@@ -159,7 +166,7 @@ def apart(program: str) -> list[str]:
         cut = " ".join(missing.told(one, missing.lacking(one, {0: 0, 1: 0}, False)))
     finally:
         missing.SECONDS = before
-    return faults + ([] if "cut after two seconds" in cut else [f"lacking: {cut}"])
+    return faults + ([] if "found in two seconds; not all were tried" in cut else [f"lacking: {cut}"])
 
 
 def run(program: str) -> list[str]:
