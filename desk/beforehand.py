@@ -15,8 +15,9 @@ def text(session: Session) -> str:
     """The first contradiction in one line, with both ways out."""
     place, rule = session.against()[0]
     question, path = session.answers[place].question, session.case.path
+    shown = Picture(session.case, {thing: question.values[thing] for thing in sorted(rule.things)})
     return (f"{path}: a line `always` says that {rule.text}, and your yes to question {question.number} "
-            f"({sentence(Picture(session.case, question.values))}) says otherwise. `desk ask {path}` goes back to that answer; "
+            f"({sentence(shown)}) says otherwise. `desk ask {path}` goes back to that answer; "
             "if the answer is right, take the line out, and the session goes on as it was")
 
 
@@ -27,7 +28,6 @@ def way_out(session: Session, face: Face) -> int | None:
     question = session.answers[place].question
     more = (f"{len(against) - 1} more of your answers say otherwise as well.",) if len(against) > 1 else ()
     sheet = Sheet(f"Your case contradicts your answer to question {question.number}",
-                  (f"You said yes to this, and a line `always` of the case now says that {rule.text}:",
-                   Picture(session.case, question.values, {thing: CLASH for thing in rule.things}), *more),
-                  under=(BACK, OUT), keys=KEYS)
+                  (f"You said yes to this, and a line `always` of the case now says that {rule.text} (marked !):",
+                   Picture(session.case, question.values, {thing: CLASH for thing in rule.things}), *more, BACK, OUT), keys=KEYS)
     return place if face.put(sheet) == "b" else None

@@ -27,15 +27,12 @@ from talk import Program
 from vocabulary import Vocabulary
 
 CASES = int(os.environ.get("DESK_CASES", "150"))
-QUICK = 40
 MOST_ANSWERS = 300          # of a person, after which a session is left as it is
 PLANTED = [
     # what an `always` line answered is carried over as the person's own word
     ("carry.py", "if known is None or known.yes != yes:", "if True:"),
     # a refused example that names what isn't there any more counts with what is left of it
     ("session.py", "if values and (one[\"yes\"] or len(values) == len(one[\"values\"])):", "if values:"),
-    # two old answers that disagree decide
-    ("foreseen.py", "if said is None or (yes and no):", "if said is None:"),
 ]
 Lines = dict[str, str]
 Change = Callable[[random.Random, Lines, "Person"], Lines | None]
@@ -295,8 +292,3 @@ def looked_at(program: str, cases: int, seed: int = 0) -> Iterator[str]:
 def run(program: str) -> list[str]:
     """Faults of all cases."""
     return list(looked_at(program, CASES))
-
-
-def quick(program: str) -> list[str]:
-    """The same in little."""
-    return list(looked_at(program, QUICK))

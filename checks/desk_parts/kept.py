@@ -89,7 +89,7 @@ PLANTED = [
     # answers that say nothing any more aren't counted
     ("carry.py", "    if len(there) < len(before):", "    if False:"),
     # the second fault is told, not the first
-    ("session.py", "            with contextlib.suppress(OSError):\n                return os.open(journal, os.O_RDONLY)", "            return os.open(journal, os.O_RDONLY)"),
+    ("session.py", "            with contextlib.suppress(OSError):\n                return files.only_file(", "            if True:\n                return files.only_file("),
 ]
 Files = dict[str, bytes]
 
