@@ -11,7 +11,7 @@ from collections import defaultdict
 from collections.abc import Iterable, Iterator
 from dataclasses import dataclass
 
-Pair = tuple[int, int]
+Pair = tuple[int, ...]     # of two things
 
 LEAST_PAIRS = 2
 MOST_EXCEPTIONS = 3
@@ -73,7 +73,7 @@ def _largest(left: dict[int, int], holds: dict[int, int], even: bool) -> tuple[i
     found = [(one, seconds) for one, seconds in _found(left, holds)]
     if not even:
         found += [(firsts, one) for one, firsts in _found(_turned(left), _turned(holds))]
-    best = max(found, key=lambda it: _says(*it, left), default=(0, 0))
+    best = max(found, key=lambda it: _says(it[0], it[1], left), default=(0, 0))
     return best if _says(*best, left) >= LEAST_PAIRS else None
 
 

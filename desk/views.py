@@ -5,6 +5,7 @@ from __future__ import annotations
 import itertools
 from collections import Counter
 from collections.abc import Callable, Sequence
+from functools import partial
 
 import patterns
 import sentences
@@ -144,8 +145,8 @@ def answers(session: Session, face: Face) -> int | None:
         choice = Choice(session, part, (("o", "on"), *(((MORE[0], "earlier ones"),) if len(parts) > 1 else ())))
         lines = tuple(f"{choice.letter(place)}  {answer_text(session, session.answers[place])}" for place in part)
         count = f"{len(places)}, the newest first" if places else "none yet"
-        sheet = Sheet(f"All answers so far: {count}", lines, keys=choice.keys if lines else (ON,))
-        key, place = choice.put(face, lambda sheet=sheet: sheet)
+        head = f"All answers so far: {count}"
+        key, place = choice.put(face, partial(Sheet, head, lines, keys=choice.keys if lines else (ON,)))
         if key != MORE[0]:
             return place
         shown += 1

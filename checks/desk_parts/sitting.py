@@ -515,11 +515,13 @@ def step_by_step(program: str) -> list[str]:
     """Going back by k steps is going back to the answer at which they end: the same question, and
     the same answers count again."""
     found = []
-    for text, plan, steps in ((hands.WARD, "scopes", 1), (hands.WARD, "scopes", 4), (ALWAYS, "quacq", 3), (ALWAYS, "scopes", 5), (hands.WARD, "multi", 2)):
+    given = 0
+    for text, plan, most, steps in ((hands.WARD, "scopes", 30, 1), (hands.WARD, "scopes", 30, 4), (ALWAYS, "quacq", 30, 3),
+                                    (ALWAYS, "scopes", 30, 5), (hands.WARD, "multi", 40, 4), (hands.WARD, "quacq", 12, 6)):
         ends = []
         for by_steps in (True, False):
             with room("ward", text) as path:
-                hands.answered(path, program, hands.ward, plan, most=30)
+                hands.answered(path, program, hands.ward, plan, most=most)
                 with session.Session.opened(casefile.read(path), talk.Program(program)) as one, one.sit() as sitting:
                     sitting.advance()
                     own = [place for place, answer in enumerate(one.answers) if answer.said is None]
@@ -533,9 +535,10 @@ def step_by_step(program: str) -> list[str]:
                     sitting.advance()
                     ends.append((waits, frozenset(one.foreseen.before), [(answer.question, answer.yes, answer.said) for answer in one.answers],
                                  sitting.question))
-        if ends[0] != ends[1] or steps > 1 and not any(said and said.by == "again" for _, _, said in ends[0][2]):
+        given += sum(said is not None and said.by == "again" for _, _, said in ends[0][2])
+        if ends[0] != ends[1]:
             found.append(f"{plan}, {steps} steps: {ends[0]} and not {ends[1]}")
-    return found
+    return found if given else [*found, "no answer counts again"]
 
 
 # ---------------------------------------------------------------- rules that aren't so
