@@ -32,6 +32,17 @@ PLANTED = [
     ("drawing.py", "first + sum(widths) + 3 * len(widths) + 4", "first + sum(widths)"),
     # what has stayed is marked, and what has changed isn't
     ("ask.py", "if before.values.get(thing) != value}", "if before.values.get(thing) == value}"),
+    # a window that is too small for a page takes answers
+    ("screen.py", "            if room < (LEAST_BODY if count > 1 else 1):\n                return []\n", ""),
+    ("screen.py", "            elif count:\n                taken", "            else:\n                taken"),
+    # what stands around a page never gives way, or the last line, which says what is asked, does
+    ("screen.py", "for gone in range(max(1, len(under)))]", "for gone in range(1)]"),
+    ("screen.py", "for gone in range(max(1, len(under)))]", "for gone in range(1 + len(under))]"),
+    # a message takes room of its own, so that what was looked at isn't what is counted
+    ("screen.py", "said = self._text(message, \"bold\")[:len(layout.foot)] if message else layout.foot", "said = self._text(message, \"bold\") + layout.foot if message else layout.foot"),
+    # after another size of the window the old pages count
+    ("screen.py", "                layout, seen = self._layout(sheet), set()\n", "                layout = self._layout(sheet)\n"),
+    ("screen.py", "            page = min(page, max(count - 1, 0))\n", ""),
 ]
 
 
@@ -167,7 +178,8 @@ class Script:
     """A keyboard whose keys are written down."""
 
     def __init__(self, keys: str) -> None:
-        self.keys, self.leave, self.enter = list(keys), None, None
+        self.keys: list[str | tuple[tuple[int, int], str]] = list(keys)     # a key, or a new size of the window and then a key
+        self.leave = self.enter = self.screen = None
 
     def __enter__(self) -> Script:
         return self
@@ -177,7 +189,11 @@ class Script:
 
     def read_after(self, shown: float) -> str:
         """The next key, and a stop behind the last."""
-        return self.keys.pop(0) if self.keys else "q"
+        key = self.keys.pop(0) if self.keys else "q"
+        if isinstance(key, tuple):
+            (width, height), key = key
+            self.screen.console = console(width, height)    # type: ignore[attr-defined]
+        return key
 
 
 class Shown(screen.Screen):
@@ -219,13 +235,40 @@ def every_window() -> list[str]:
                 text = "\n".join("\n".join(frame) for frame in shown.frames)
                 missing = [name for name in names[:count] if not re.search(rf"\b{name} +{name.upper()}\b", text)]
                 small = "small" in re.sub(r"\s", "", text)
+                whole = ["".join("".join(frame).split()) for frame in shown.frames]
+                if any("small" not in text and not ("Judgeit." in text and "yyes" in text) for text in whole) and height * width > 8:
+                    found.append(f"{count} cells at {width}x{height}: a screen doesn't say what is asked, or has no keys")
                 if any(len(frame) != height or any(cell_len(line) != width for line in frame) for frame in shown.frames):
                     found.append(f"{count} cells at {width}x{height}: a screen hasn't its lines")
                 if (key == "y") == bool(missing or small) or missing and not small:
                     found.append(f"{count} cells at {width}x{height}: {key!r} is taken, {missing} were never shown, too small: {small}")
         if swept(sheet, "n", 4, 2)[0] != "q" or swept(sheet, "n", 40, 12)[0] != "n":
             found.append(f"{count} cells: a no is taken at 4x2, or not at 40x12")
-    return found[:9] + pages_that_go()
+        if count < 4 and swept(sheet, "y", 40, 6)[0] != "y":
+            found.append(f"{count} cells: what stands around them doesn't give way at 40x6")
+    return found[:9] + pages_that_go() + other_sizes(case)
+
+
+def other_sizes(case: model.Case) -> list[str]:
+    """The window gets another size, and the key that comes next is the word for that or one of the person's: pages count from there on."""
+    found = []
+    sheet = face.Sheet("Test: question 1", (picture.Picture(case, {thing: thing for thing in range(21)}),), under=("Judge it.",),
+                       keys=(("y", "yes"), ("q", "stop")), whole=frozenset("y"))
+    for before, behind in (((20, 8), (33, 7)), ((33, 8), (80, 24)), ((33, 24), (33, 8)), ((60, 8), (33, 8)), ((33, 7), (60, 7))):
+        for key in (screen.RESIZED, " ", "x"):
+            it = Shown(*before, "")
+            it.keyboard.keys = [" "] * 6 + [(behind, key), *" y" * 12]      # type: ignore[attr-defined]
+            it.keyboard.screen = it     # type: ignore[attr-defined]
+            try:
+                taken = it.put(sheet)
+            except IndexError as error:
+                found.append(f"{before} to {behind}, then {key!r}: {error!r}")
+                continue
+            text = "\n".join("\n".join(frame) for frame in it.frames if len(frame) == behind[1] and cell_len(frame[0]) == behind[0])
+            missing = [thing.name for thing in case.things if not re.search(rf"\b{thing.name} +{thing.name.upper()}\b", text)]
+            if taken != "y" or missing:
+                found.append(f"{before} to {behind}, then {key!r}: {taken!r} is taken, {missing} weren't shown since")
+    return found
 
 
 def pages_that_go() -> list[str]:
