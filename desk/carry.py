@@ -1,10 +1,11 @@
 """`desk carry`: a case has changed, and what was answered before counts on as far as it decides.
 
-Each question of the new session that the old answers decide is answered from them: a part of an accepted one is accepted, and
-what holds a refused one is refused. Of an accepted one that names what the new case lacks the rest counts; a refused one is
-left out then. Carried over is what a person said. What an `always` line answered isn't: where that line stands in the new case
-it answers there as well, and where it doesn't its answers have no reason any more. What old answers answered isn't either,
-since these are carried over themselves.
+Each question of the new session that the old answers decide is answered from them: a part of an
+accepted one is accepted, and what holds a refused one is refused. Of an accepted one that names
+what the new case lacks the rest counts; a refused one is left out then. Carried over is what a
+person said. What an `always` line answered isn't: where that line stands in the new case it answers
+there as well, and where it doesn't its answers have no reason any more. What old answers answered
+isn't either, since these are carried over themselves.
 """
 
 from __future__ import annotations
@@ -23,11 +24,28 @@ from files import journal_of, kept_of
 from foreseen import CARRIED, Foreseen
 from model import Case, Fault
 from picture import Picture, sentence
-from session import Kept, Named, Session, case_in, given_back, head_of, locked, named, old_answers, read_kept, said_by
+from session import (
+    Kept,
+    Named,
+    Session,
+    case_in,
+    given_back,
+    head_of,
+    locked,
+    named,
+    old_answers,
+    read_kept,
+    said_by,
+)
 from talk import Program
 from vocabulary import Vocabulary
 
-FOUND = ("converged", "collapsed", "undecided", "suspended")    # how a run ends that nothing broke off
+FOUND = (
+    "converged",
+    "collapsed",
+    "undecided",
+    "suspended",
+)  # how a run ends that nothing broke off
 
 
 def main(old: str, new: str | None, options: argparse.Namespace) -> int:
@@ -35,14 +53,20 @@ def main(old: str, new: str | None, options: argparse.Namespace) -> int:
     program = Program.found(options.acquire)
     case = casefile.read(new or old)
     streams.can_show(case)
-    Vocabulary(case)        # a new case that the program can't take is refused before anything is made
+    Vocabulary(case)  # a new case that the program can't take is refused before anything is made
     journal = journal_of(case.path)
     to_itself = os.path.realpath(journal) == os.path.realpath(journal_of(old))
     with contextlib.ExitStack() as locks:
         before, plan = locks.enter_context(answered(old, program))
         if not to_itself:
             locks.enter_context(free(journal, case.path))
-        told = list(replaced(journal, to_itself, lambda made: begun(case, program, made, plan, options.budget, before)))
+        told = list(
+            replaced(
+                journal,
+                to_itself,
+                lambda made: begun(case, program, made, plan, options.budget, before),
+            )
+        )
     print("\n".join(told))
     return 0
 
@@ -76,25 +100,35 @@ def free(journal: str, path: str) -> Iterator[None]:
     """A place for a new session, held; a fault where one is there."""
     with held(journal):
         if os.path.getsize(journal):
-            raise Fault(f"{path} has a session already; `desk carry` begins a new one, so put {journal} and {kept_of(journal)} aside first")
+            raise Fault(
+                f"{path} has a session already; `desk carry` begins a new one, so put {journal} "
+                f"and {kept_of(journal)} aside first"
+            )
         yield
 
 
 # ---------------------------------------------------------------- what a person said
+
 
 def answers_of(path: str, program: Program) -> list[Named]:
     """What the person said in a session, and what it had carried over itself, by names."""
     journal = journal_of(path)
     kept = read_kept(journal)
     if kept is None:
-        raise Fault(f"{kept_of(journal)} isn't there, so it isn't known what the answers of {journal} are about")
+        raise Fault(
+            f"{kept_of(journal)} isn't there, so it isn't known what the answers of {journal} "
+            "are about"
+        )
     words = words_of(journal, kept)
     foreseen = Foreseen(words.case, old_answers(words.case, kept["before"]))
     reply = program.call([journal, "show"])
     if reply.status:
         raise Fault(said_by(journal, reply.status, reply.text))
-    found = [named(words.case, dict(one.values), one.yes, CARRIED) for one in foreseen.before
-             if one.yes or foreseen.violated(dict(one.values)) is None]
+    found = [
+        named(words.case, dict(one.values), one.yes, CARRIED)
+        for one in foreseen.before
+        if one.yes or foreseen.violated(dict(one.values)) is None
+    ]
     for question, yes in filter(None, map(words.answered, reply.lines)):
         known = foreseen.answer(question.values)
         if known is None or known.yes != yes:
@@ -107,12 +141,15 @@ def words_of(journal: str, kept: Kept) -> Vocabulary:
     head = head_of(journal)
     words = Vocabulary(case_in(journal, kept))
     if head is None or head[1] != words.json.encode():
-        raise Fault(f"{kept_of(journal)} isn't about {journal}, or another desk made them: put back a copy of both. "
-                    f"`acquire {journal} show` prints the answers")
+        raise Fault(
+            f"{kept_of(journal)} isn't about {journal}, or another desk made them: put back a copy "
+            f"of both. `acquire {journal} show` prints the answers"
+        )
     return words
 
 
 # ---------------------------------------------------------------- the new session
+
 
 def replaced(journal: str, to_itself: bool, make: Callable[[str], list[str]]) -> Iterator[str]:
     """Makes a new session and puts it in its place, an old one aside; what came of it, in lines."""
@@ -133,14 +170,18 @@ def replaced(journal: str, to_itself: bool, make: Callable[[str], list[str]]) ->
     try:
         handover.finished(journal)
     except Fault as fault:
-        raise Fault(f"{fault}. The new session is whole, and the next desk that opens it puts it in its place") from None
+        raise Fault(
+            f"{fault}. The new session is whole, and the next desk that opens it puts it in its "
+            "place"
+        ) from None
     if aside:
         yield f"The session so far is kept in {aside[-1]}."
     yield from told
 
 
 def put_aside(journal: str, made: list[str]) -> None:
-    """Copies a session under the next free number, the journal last, so that none is without what desk keeps beside it."""
+    """Copies a session under the next free number, the journal last, so that none is without
+    what desk keeps beside it."""
     stem, number = journal.removesuffix(".journal"), 1
     while any(os.path.lexists(f"{stem}.{number}{end}") for end in (".session", ".journal")):
         number += 1
@@ -153,14 +194,25 @@ def put_aside(journal: str, made: list[str]) -> None:
         shutil.copymode(stem + end, copy)
 
 
-def begun(case: Case, program: Program, journal: str, plan: str, budget: int | None, before: Sequence[Named]) -> list[str]:
+def begun(
+    case: Case,
+    program: Program,
+    journal: str,
+    plan: str,
+    budget: int | None,
+    before: Sequence[Named],
+) -> list[str]:
     """Begins the new session, with the old answers; what came of it, in lines."""
-    with Session.opened(case, program, None if case.plan else plan, budget, before=before, journal=journal) as session, session.sit() as sitting:
+    with Session.opened(
+        case, program, None if case.plan else plan, budget, before=before, journal=journal
+    ) as session, session.sit() as sitting:
         sitting.advance()
         sitting.stop()
         ending = sitting.ending
         if ending is None or ending.word not in FOUND:
-            raise Fault(said_by(journal, ending.status if ending else 0, ending.text if ending else ""))
+            raise Fault(
+                said_by(journal, ending.status if ending else 0, ending.text if ending else "")
+            )
         return [" ".join(taken_over(session, before)), came_of(session, ending.word)]
 
 
@@ -170,11 +222,15 @@ def taken_over(session: Session, before: Sequence[Named]) -> Iterator[str]:
     against = session.foreseen.contradicted()
     yield f"{answers_text(len(there) - len(against))} carried over."
     if len(there) < len(before):
-        yield f"{answers_text(len(before) - len(there))} left out, about things or values that aren't there any more."
+        left = answers_text(len(before) - len(there))
+        yield f"{left} left out, about things or values that aren't there any more."
     if against:
         one, rule = against[0]
-        yield (f"{answers_text(len(against))} left out as long as the case says otherwise beforehand: you accepted "
-               f"{sentence(Picture(session.case, dict(one.values)))}, and by a line `always` {rule.text}.")
+        yield (
+            f"{answers_text(len(against))} left out as long as the case says otherwise beforehand: "
+            f"you accepted {sentence(Picture(session.case, dict(one.values)))}, "
+            f"and by a line `always` {rule.text}."
+        )
 
 
 def answers_text(count: int) -> str:
@@ -185,6 +241,13 @@ def answers_text(count: int) -> str:
 def came_of(session: Session, ended: str) -> str:
     """How far the new session is."""
     given = len(session.answers)
-    left = "and now your answers clash" if ended == "collapsed" else f"at most {session.possible.most} are left"
-    return (f"{given} question{'s were' if given != 1 else ' was'} answered for you from them and from your `always` lines, {left}. "
-            f"Go on with: desk ask {session.case.path}")
+    left = (
+        "and now your answers clash"
+        if ended == "collapsed"
+        else f"at most {session.possible.most} are left"
+    )
+    return (
+        f"{given} question{'s were' if given != 1 else ' was'} answered for you from them and from "
+        f"your `always` lines, {left}. "
+        f"Go on with: desk ask {session.case.path}"
+    )

@@ -1,5 +1,5 @@
-"""The files of desk: what lies beside a case, and how it is written. Each is whole or as it was, and what isn't desk's own is
-never replaced."""
+"""The files of desk: what lies beside a case, and how it is written. Each is whole or as it was,
+and what isn't desk's own is never replaced."""
 
 from __future__ import annotations
 
@@ -13,8 +13,14 @@ from typing import BinaryIO
 
 from model import Fault
 
-HEAD = 65_536       # so many bytes of a file are looked at to see what it is
-KINDS = {stat.S_IFDIR: "a folder", stat.S_IFIFO: "a pipe", stat.S_IFCHR: "a device", stat.S_IFBLK: "a device", stat.S_IFSOCK: "a socket"}
+HEAD = 65_536  # so many bytes of a file are looked at to see what it is
+KINDS = {
+    stat.S_IFDIR: "a folder",
+    stat.S_IFIFO: "a pipe",
+    stat.S_IFCHR: "a device",
+    stat.S_IFBLK: "a device",
+    stat.S_IFSOCK: "a socket",
+}
 
 
 def journal_of(path: str) -> str:
@@ -37,9 +43,12 @@ def told(path: str) -> Iterator[None]:
 
 
 def opened(path: str) -> BinaryIO:
-    """A file to read; a fault where it can't be, and where it is none, as a pipe, at which one would wait."""
+    """A file to read; a fault where it can't be, and where it is none, as a pipe, at which one
+    would wait."""
     with told(path):
-        return os.fdopen(only_file(os.open(path, os.O_RDONLY | os.O_NONBLOCK | os.O_NOCTTY), path), "rb")
+        return os.fdopen(
+            only_file(os.open(path, os.O_RDONLY | os.O_NONBLOCK | os.O_NOCTTY), path), "rb"
+        )
 
 
 def only_file(handle: int, path: str) -> int:
@@ -59,10 +68,10 @@ def write(path: str, content: bytes) -> None:
 def write_all(contents: Mapping[str, bytes]) -> None:
     """Writes files, none where one of them can't be written.
 
-    All contents are on the disk, under other names, before the first of them takes its place. A link stays one, and what
-    it leads to is replaced.
+    All contents are on the disk, under other names, before the first of them takes its place. A
+    link stays one, and what it leads to is replaced.
     """
-    waiting: list[tuple[str, str]] = []     # a new file, and whose place it takes
+    waiting: list[tuple[str, str]] = []  # a new file, and whose place it takes
     try:
         for path, content in contents.items():
             with told(path):
@@ -84,7 +93,8 @@ def write_all(contents: Mapping[str, bytes]) -> None:
 
 
 def _fill(handle: int, content: bytes, place: str) -> None:
-    """Writes a new file to the disk, and closes it. It may be read by those who might read what it replaces."""
+    """Writes a new file to the disk, and closes it. It may be read by those who might read what
+    it replaces."""
     with os.fdopen(handle, "wb") as file:
         if os.path.exists(place):
             mode = stat.S_IMODE(os.stat(place).st_mode)
@@ -106,7 +116,8 @@ def sync_folder(path: str) -> None:
 
 
 def may_be_replaced(path: str, is_one: Callable[[bytes], bool], what: str) -> None:
-    """A fault where a file is there and isn't, by its first bytes, one that desk writes under such a name."""
+    """A fault where a file is there and isn't, by its first bytes, one that desk writes under
+    such a name."""
     with told(path):
         try:
             kind = os.stat(path).st_mode
@@ -117,4 +128,7 @@ def may_be_replaced(path: str, is_one: Callable[[bytes], bool], what: str) -> No
             with open(path, "rb") as file:
                 head = file.read(HEAD)
     if not is_one(head):
-        raise Fault(f"{path} is there already and isn't {what} that desk wrote, so it stays as it is: take another name, or move it away")
+        raise Fault(
+            f"{path} is there already and isn't {what} that desk wrote, so it stays as it is: "
+            "take another name, or move it away"
+        )

@@ -1,9 +1,11 @@
-"""How `desk carry` puts a new session in the place of an old one, so that whatever breaks it off leaves one of the two whole.
+"""How `desk carry` puts a new session in the place of an old one, so that whatever breaks it off
+leaves one of the two whole.
 
-The new session is made in a folder of its own beside the old one, `.ward.making`. When both its files are whole and on the
-disk, that folder is renamed to `.ward.carried`. Before this one step the old session counts, and from it on the new one: what
-is left, to move the two files to their names, is done again by the next desk that opens the session, wherever it broke off.
-Who calls anything here holds the lock of the session's journal.
+The new session is made in a folder of its own beside the old one, `.ward.making`. When both its
+files are whole and on the disk, that folder is renamed to `.ward.carried`. Before this one step the
+old session counts, and from it on the new one: what is left, to move the two files to their names,
+is done again by the next desk that opens the session, wherever it broke off. Who calls anything
+here holds the lock of the session's journal.
 """
 
 from __future__ import annotations
@@ -23,7 +25,8 @@ def _folder(journal: str, what: str) -> str:
 
 
 def begun(journal: str) -> str:
-    """Makes the folder for the new session; the name that its journal has there. What an earlier try left is removed."""
+    """Makes the folder for the new session; the name that its journal has there. What an earlier
+    try left is removed."""
     given_up(journal)
     folder = _folder(journal, "making")
     with files.told(folder):
@@ -50,8 +53,8 @@ def counts(journal: str) -> None:
 def finished(journal: str) -> None:
     """Puts a new session that counts in its place, where there is one.
 
-    The journal comes last, since the lock lies on the old one until then. Another desk that comes behind it may be doing the
-    same, so that what it has moved isn't to be found any more.
+    The journal comes last, since the lock lies on the old one until then. Another desk that comes
+    behind it may be doing the same, so that what it has moved isn't to be found any more.
     """
     folder = _folder(journal, "carried")
     if not os.path.isdir(folder):

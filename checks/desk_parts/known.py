@@ -33,7 +33,7 @@ PLANTED = [
     # an old answer that was contradicted counts on
     ("session.py", "        dropped = self.foreseen.forget(values, yes)\n", "        dropped = False\n"),
     # what a line answered in a session before is carried over
-    ("carry.py", "             if one.yes or foreseen.violated(dict(one.values)) is None]", "             ]"),
+    ("carry.py", "        if one.yes or foreseen.violated(dict(one.values)) is None\n", ""),
     # the text beside a session may be another case's
     ("carry.py", "if head is None or head[1] != words.json.encode():", "if False:"),
     # what an old answer gave stays where that one counts no more
