@@ -76,7 +76,8 @@ class Collapse:
         lifted = [f"`{word}`" for word in self.session.vocabulary.lifted]
         if lifted and self.session.plan != "scopes":
             blocks += ["", LIFTED.format(words=and_list(lifted), speak="speaks" if len(lifted) == 1 else "speak", plan=self.session.plan)]
-        blocks += ["", "If no answer was a slip, a word is missing. " + self.lacking[0], *self.lacking[1:]]
+        lacking = "If no answer was a slip, a word is missing. " + self.lacking[0]
+        blocks += ["", lacking, *self.lacking[1:]]
         return Sheet("Your answers clash", tuple(blocks), keys=self.choice.keys)
 
     def _last(self) -> int | None:
@@ -99,9 +100,13 @@ def converged(session: Session, ending: Ending, face: Face) -> int | None:
     head = f"Done after {ending.answers} answer{'s' if ending.answers != 1 else ''}"
     can = solver.name() is not None
     odd = views.odd_ones(session, ending.learned)
-    choice = Choice(session, [place for one in odd for place in one.behind], (("g", "go on to plans"),) * can + (("q", "stop"),))
-    key, place = choice.put(face, lambda: Sheet(head, (*rule_lines(found), *views.odd_lines(session, odd, choice.letter), "",
-                                                       ALL_SAID + (LOOK if can else NO_SOLVER)), keys=choice.keys))
+    keys = (("g", "go on to plans"),) * can + (("q", "stop"),)
+    choice = Choice(session, [place for one in odd for place in one.behind], keys)
+    def sheet() -> Sheet:
+        """The rules, and the odd ones with their letters as they are now."""
+        lines = (*rule_lines(found), *views.odd_lines(session, odd, choice.letter))
+        return Sheet(head, (*lines, "", ALL_SAID + (LOOK if can else NO_SOLVER)), keys=choice.keys)
+    key, place = choice.put(face, sheet)
     if key == "q" or place is not None:
         return place
     review = Review(session, found, face)

@@ -45,7 +45,8 @@ class Letters(Generic[Item]):
         if not self.items:
             return self._others
         letters = tuple((letter, self._does(item)) for letter, item in self.item_of.items())
-        return self._others[:1] + letters + (MORE,) * (len(self.items) > len(self._letters)) + self._others[1:]
+        more = (MORE,) if len(self.items) > len(self._letters) else ()
+        return self._others[:1] + letters + more + self._others[1:]
 
     def letter(self, item: Item) -> str:
         """The letter of an item, a blank where it has none now."""
@@ -64,7 +65,8 @@ class Choice(Letters[int]):
     def __init__(self, session: Session, places: Iterable[int], keys: Keys) -> None:
         """Takes the answers' places, those that can't be gone back to among them, and the other
         keys."""
-        super().__init__([place for place in places if may(session, place)], keys, lambda _: "go back to it")
+        super().__init__([place for place in places if may(session, place)], keys,
+                         lambda _: "go back to it")
         self.session = session
 
     def put(self, face: Face, sheet: Callable[[], Sheet]) -> tuple[str, int | None]:

@@ -19,7 +19,7 @@ from sentences import Sentence
 from vocabulary import Vocabulary
 
 LEAST_GROUPS = 3            # settled ones of a pattern, from which on one can be odd
-MANY = 5                    # so many rules a sentence says for each pair that it excepts, where this is odd
+MANY = 5                    # rules that a sentence says for each pair that it excepts, where this is odd
 Said = tuple[str, Things]          # a rule's word, and the places of its things in the group
 
 
@@ -30,7 +30,7 @@ class Odd:
     scope: Things
     has: tuple[Rule, ...]
     most: tuple[Rule, ...]          # what it would have if it were as most are
-    of: int                         # how many groups of the pattern are as most are; 0 where it has a rule and is in no pattern
+    of: int                         # how many groups of the pattern are as most are; 0 where none is like it
     behind: Things         # places of the answers that made it so
 
     def text(self, names: Sequence[str]) -> str:
@@ -38,7 +38,8 @@ class Odd:
         who = ", ".join(names[thing] for thing in self.scope)
         here = "; ".join(rule.text for rule in self.has) or "no rule"
         if not self.of:
-            return f"{who}: {here}. It stands alone, and the other rules of this kind are between sets of things."
+            return (f"{who}: {here}. It stands alone, and the other rules of this kind are between sets "
+                    "of things.")
         there = "; ".join(rule.text for rule in self.most) or "no rule"
         return f"{who}: {here}. As {self.of} others of its pattern it would be: {there}."
 
@@ -80,11 +81,13 @@ def _odd_in_list(vocabulary: Vocabulary, learned: Iterable[Constraint], answers:
             if scope in scopes and (scope in on or not is_open(scope)):
                 would = (Rule(word, things, word.said_of(tuple(names[thing] for thing in things))),)
                 has = on.get(scope, ())
-                found[scope] = Odd(scope, has, would, len(said.rules), behind(scope, has, would, answers))
+                made = behind(scope, has, would, answers)
+                found[scope] = Odd(scope, has, would, len(said.rules), made)
     for some in by_word.values():
         for scope in _alone(some):
             if scope in on:
-                found.setdefault(scope, Odd(scope, on[scope], (), 0, behind(scope, on[scope], (), answers)))
+                made = behind(scope, on[scope], (), answers)
+                found.setdefault(scope, Odd(scope, on[scope], (), 0, made))
     return [found[scope] for scope in sorted(found)]
 
 

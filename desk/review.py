@@ -34,7 +34,8 @@ UNSAYABLE = (("o", "go on"), ("b", "look at the plan again"), ("q", "enough"))
 SLIP = "If it is as you say, one of these answers was a slip, or your words can't say it:"
 NONE = (("o", "none of these was wrong"), ("b", "look at the plan again"), ("q", "enough"))
 STAYS = "What desk can't learn at all, as how often somebody works in a week, stays with you."
-MISSING = "With a word that can say it in the case, `desk carry` takes your answers over, so that only what is new is asked. " + STAYS
+MISSING = ("With a word that can say it in the case, `desk carry` takes your answers over, so that only what "
+           "is new is asked. " + STAYS)
 
 
 @dataclass
@@ -100,16 +101,21 @@ class Review:
         places = behind(self.session, shown, values)
         if places:
             choice = Choice(self.session, places, NONE)
-            key, place = choice.put(self.face, lambda: Sheet(SLIP, tuple(self._lines(choice)), keys=choice.keys))
+            key, place = choice.put(
+                self.face, lambda: Sheet(SLIP, tuple(self._lines(choice)), keys=choice.keys))
             if key != "o":
                 return key, place
-        if shown.rule is not None and (shown.rule.word.text, shown.rule.things) in self.session.beforehand:
-            return self.face.put(Sheet("You said this rule beforehand", (f"{shown.title}. " + BEFOREHAND,), keys=UNSAYABLE)), None
+        rule = shown.rule
+        if rule is not None and (rule.word.text, rule.things) in self.session.beforehand:
+            lines = (f"{shown.title}. " + BEFOREHAND,)
+            return self.face.put(Sheet("You said this rule beforehand", lines, keys=UNSAYABLE)), None
         with patience(self.face, "looking for a word that can say it .."):
-            lacking = missing.told(self.session, missing.lacking(self.session, values, not shown.allowed))
-        key = self.face.put(Sheet("Your words can't say this", (*lacking, "", STAYS), keys=UNSAYABLE))
+            search = missing.lacking(self.session, values, not shown.allowed)
+        lines = (*missing.told(self.session, search), "", STAYS)
+        key = self.face.put(Sheet("Your words can't say this", lines, keys=UNSAYABLE))
         if key != "b":
-            self.unsayable.append(f"{point.named(self.session, values)} (allowed, and wrong)" if cells else shown.title)
+            who = f"{point.named(self.session, values)} (allowed, and wrong)" if cells else shown.title
+            self.unsayable.append(who)
         return key, None
 
     def _cells(self, shown: Shown) -> tuple[str, Things]:
@@ -124,7 +130,8 @@ class Review:
     def _lines(self, choice: Choice) -> Iterator[str]:
         """Answers to choose from, those that have letters now."""
         for letter, place in choice.item_of.items():
-            yield f"{letter}  {views.answer_text(self.session, self.session.answers[place], views.MOST_VALUES)}"
+            answer = self.session.answers[place]
+            yield f"{letter}  {views.answer_text(self.session, answer, views.MOST_VALUES)}"
         if len(choice.item_of) < len(choice.items):
             yield f"and {len(choice.items) - len(choice.item_of)} others"
 
@@ -143,8 +150,9 @@ class Shown:
         """How it is put to the person."""
         picture = Picture(session.case, self.values, self.marks)
         if self.allowed and self.marks:
-            return Sheet("No plan that you accepted has shown this rule yet:", (f"{self.title}.", picture),
-                         under=("Here it is kept (marked +). Is that right?",), keys=JUDGE, whole=frozenset("y"))
+            head = "No plan that you accepted has shown this rule yet:"
+            return Sheet(head, (f"{self.title}.", picture), keys=JUDGE, whole=frozenset("y"),
+                         under=("Here it is kept (marked +). Is that right?",))
         if self.allowed:
             return Sheet(f"{self.title}. The rules allow it.", (picture,), under=("Is this right?",), keys=JUDGE, whole=frozenset("y"))
         head = "The rules refuse this plan, for one reason alone (marked !):"
@@ -189,7 +197,8 @@ def broken_alone(session: Session, sentence: Sentence, every: Sequence[Sentence]
 def behind(session: Session, shown: Shown, values: Values) -> list[int]:
     """The answers behind a plan that is judged otherwise than the rules judge it, by these of its
     values."""
-    places = [place for place in suspects_with(session, values, not shown.allowed) if may(session, place)]
+    places = [place for place in suspects_with(session, values, not shown.allowed)
+              if may(session, place)]
     if places or shown.rule is None:
         return places
     scopes = [scope for scope in session.vocabulary.scopes if set(shown.rule.things) <= set(scope)]

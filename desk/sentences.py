@@ -23,7 +23,8 @@ from vocabulary import Vocabulary
 
 Key = tuple[str, Things]                    # the text of a word, and the things that a rule of it is about
 
-# how the sentence of a word begins that says the same whichever of its things comes first, and how it is said of more things
+# how the sentence of a word begins that says the same whichever of its things comes first, and how
+# it is said of more things
 ALL_OF = {2: "{0} and {1} ", 3: "{0}, {1} and {2} ", 4: "{0}, {1}, {2} and {3} "}
 COUNTED = {2: "two", 3: "three", 4: "four"}
 PAIR = ALL_OF[2]
@@ -55,15 +56,16 @@ class Sentence:
     text: str
     rules: tuple[Rule, ...]
     follows: str            # `all`, `some` or `none` of these rules follow from the others
-    out: tuple[Things, ...] = ()        # where the things are a list: those of which the sentence says that it doesn't hold
+    out: tuple[Things, ...] = ()        # where the things are a list: those that it excepts
     unseen: tuple[Rule, ...] = ()       # those of the rules that no accepted example has kept
 
     @property
     def whole(self) -> str:
         """The sentence, what of it follows from others, and what of it was never seen kept."""
         mark = {"all": " (follows from the others)", "some": " (some of it follows from the others)"}
-        never = "" if not self.unseen else " (never seen yet)" if len(self.unseen) == len(self.rules) else " (some of it never seen yet)"
-        return self.text + mark.get(self.follows, "") + never
+        whole = len(self.unseen) == len(self.rules)
+        never = " (never seen yet)" if whole else " (some of it never seen yet)"
+        return self.text + mark.get(self.follows, "") + (never if self.unseen else "")
 
 
 @dataclass(frozen=True)
@@ -100,7 +102,8 @@ def unseen(case: Case, rules: Iterable[Rule], answers: Sequence[Answer]) -> tupl
     without those that were said beforehand: where a word is missing, the nearest one that the case
     has is learned so."""
     accepted = [answer.question.values for answer in answers if answer.yes]
-    having = {thing: {place for place, values in enumerate(accepted) if thing in values} for thing in range(len(case.things))}
+    having = {thing.place: {place for place, values in enumerate(accepted) if thing.place in values}
+              for thing in case.things}
     beforehand = {(rule.word.text, rule.things) for rule in case.always}
     return tuple(rule for rule in rules if (rule.word.text, rule.things) not in beforehand
                  and not set.intersection(*(having[thing] for thing in rule.things)))
@@ -181,7 +184,8 @@ class _Groups:
         """The groups of some things of which the word doesn't hold."""
         have = {tuple(sorted(things)) for things in groups}
         return [things for things in itertools.combinations(some, word.arity)
-                if things not in have and not any((word.text, order) in self.holding for order in itertools.permutations(things))]
+                if things not in have and not any((word.text, order) in self.holding
+                                                  for order in itertools.permutations(things))]
 
     def _each_of_all(self, word: Word, groups: list[Things]) -> Said:
         """`each two of a, b and c differ`."""
@@ -200,7 +204,8 @@ class _Groups:
 
     def _but(self, out: Sequence[Things]) -> str:
         """The exceptions of a sentence."""
-        return ", but not " + ", ".join(" and ".join(self._names(things)) for things in out) if out else ""
+        said = ", ".join(" and ".join(self._names(things)) for things in out)
+        return f", but not {said}" if out else ""
 
     # ---- each of some things with each of others
 
@@ -209,14 +214,17 @@ class _Groups:
         if word.arity != 2 or word.things:
             return iter(())
         every = range(len(self.case.values))
-        even = all(word.holds(one, other) == word.holds(other, one) for one, other in itertools.combinations(every, 2))
+        even = all(word.holds(one, other) == word.holds(other, one)
+                   for one, other in itertools.combinations(every, 2))
         held = [things for text, things in self.holding if text == word.text]
-        return blocks(sorted(left), held, [things for things in self.along.asked if len(things) == 2], even)
+        asked = [things for things in self.along.asked if len(things) == 2]
+        return blocks(sorted(left), held, asked, even)
 
     def _between(self, word: Word, block: Block) -> Said:
         """`each of a and b differs from each of c and d`, `a is before each of b and c`."""
         firsts, seconds = (self._each_of(side) for side in (block.firsts, block.seconds))
-        pattern = next((re.sub(form, said, word.shown) for form, said in BETWEEN if re.fullmatch(form, word.shown)), None)
+        pattern = next((re.sub(form, said, word.shown) for form, said in BETWEEN
+                        if re.fullmatch(form, word.shown)), None)
         if pattern is not None:
             text = f"{firsts} {pattern} {seconds}"
         elif re.fullmatch(r"\{0\} (is|isn't|has) .*\{1\}", word.sentence):
@@ -251,13 +259,15 @@ class _Groups:
         wherever they are said."""
         one = some[0]
         part = self.case.thing_parts[one.pattern.part]
-        out = [part.members[member] for member in one.might if member not in one.held and not self._holds(word, one.pattern, member)]
+        out = [part.members[member] for member in one.might
+               if member not in one.held and not self._holds(word, one.pattern, member)]
         place = PLACED.get(part.name, "for")
         few = one.every and len(out) <= min(MOST_EXCEPTIONS, len(one.held) // 2)
         who = f"every {part.name}" if few else f"{place} {and_list([part.members[member] for member in one.held])}"
         but = f", but not {place} {and_list(out)}" if few and out else ""
         said = "; ".join(self._pairs(word, [self.along.spoken(found.pattern) for found in some]))
-        return Said(f"{who}: {said}{but}", tuple(things for found in some for things in self.along.places(found.pattern, found.held)))
+        return Said(f"{who}: {said}{but}", tuple(
+            things for found in some for things in self.along.places(found.pattern, found.held)))
 
     def _holds(self, word: Word, pattern: Pattern, member: int) -> bool:
         return (word.text, self.along.places(pattern, [member])[0]) in self.holding
@@ -266,7 +276,8 @@ class _Groups:
         """What is said of some names; where it is said of each two of them, once."""
         names = list(dict.fromkeys(name for pair in spoken for name in pair))
         if word.sentence.startswith(PAIR) and len(names) > 2 and len(spoken) == len(names) * (len(names) - 1) // 2:
-            return [_unescaped(f"each two of {and_list(names)} " + word.sentence.removeprefix(PAIR))]
+            rest = word.sentence.removeprefix(PAIR)
+            return [_unescaped(f"each two of {and_list(names)} {rest}")]
         return [word.said_of(names) for names in spoken]
 
 

@@ -19,6 +19,8 @@ from session import Session
 
 MOST_RULES = 8              # of the rules that a yes rules out
 MOST_VALUES = 6             # of an answer in a line, where it is shown whole elsewhere
+ODD = ("Other than most of their pattern. That may be right; if it isn't, an answer was a slip, or your words "
+       "can't say it:")
 MOST_TAUGHT = 3             # of the rules that an answer has taught
 MOST_ANSWERS = 15           # on one sheet; each of them has a letter
 BY = {"always": "said beforehand", "carried": "from the earlier session", "again": "said before you went back"}
@@ -49,7 +51,8 @@ def taught_text(session: Session, since: int, told: set[str]) -> str:
     if not texts:
         return ""
     more = "; and more (r shows them)" if len(texts) > MOST_TAUGHT else ""
-    return f"Your answers have just taught: {'; '.join(texts[:MOST_TAUGHT])}{more}. Is that so? If not, go back, or a word is missing."
+    return (f"Your answers have just taught: {'; '.join(texts[:MOST_TAUGHT])}{more}. "
+            "Is that so? If not, go back, or a word is missing.")
 
 
 def answer_text(session: Session, answer: Answer, most: int | None = None) -> str:
@@ -78,11 +81,13 @@ def rules(session: Session, face: Face) -> int | None:
     found = sentences.grouped(session.vocabulary, learned, answers=session.answers)
     odd = odd_ones(session, learned)
     # a letter leads to an answer by its place, or to the answers behind a sentence
-    items: list[tuple[str, int]] = [("answer", place) for one in odd for place in one.behind if may(session, place)]
+    items = [("answer", place) for one in odd for place in one.behind if may(session, place)]
     items += [("sentence", place) for place in range(len(found))]
-    letters = Letters(items, (("o", "on"),), lambda item: "go back to it" if item[0] == "answer" else "what is behind it")
+    does = {"answer": "go back to it", "sentence": "what is behind it"}
+    letters = Letters(items, (("o", "on"),), lambda item: does[item[0]])
     while True:
-        lines = [f"{letters.letter(('sentence', place))}  {said.whole}" for place, said in enumerate(found)] or ["None yet."]
+        lines = [f"{letters.letter(('sentence', place))}  {said.whole}"
+                 for place, said in enumerate(found)] or ["None yet."]
         lines += odd_lines(session, odd, lambda place: letters.letter(("answer", place)))
         key = face.put(Sheet("Rules so far", tuple(lines), keys=letters.keys if items else (ON,)))
         if key == MORE[0]:
@@ -91,7 +96,11 @@ def rules(session: Session, face: Face) -> int | None:
         if key not in letters.item_of:
             return None
         kind, place = letters.item_of[key]
-        back = _behind(session, face, found[place]) if kind == "sentence" else place if sure(session, face, place) else None
+        back: int | None = place
+        if kind == "sentence":
+            back = _behind(session, face, found[place])
+        elif not sure(session, face, place):
+            back = None
         if back is not None:
             return back
 
@@ -102,8 +111,9 @@ def _behind(session: Session, face: Face, said: Sentence) -> int | None:
     choice = Choice(session, places, (("o", "on"),))
     def sheet() -> Sheet:
         """The answers with their letters as they are now."""
-        lines = [f"{choice.letter(place)}  {answer_text(session, session.answers[place], MOST_VALUES)}" for place in places]
-        return Sheet("The answers behind it", (said.whole, "", *(lines or ["No answer of yours is about these things alone."])), keys=choice.keys)
+        lines = [f"{choice.letter(place)}  {answer_text(session, session.answers[place], MOST_VALUES)}"
+                 for place in places] or ["No answer of yours is about these things alone."]
+        return Sheet("The answers behind it", (said.whole, "", *lines), keys=choice.keys)
     return choice.put(face, sheet)[1]
 
 
@@ -114,7 +124,8 @@ def behind(session: Session, some: Sequence[Rule]) -> list[int]:
     found = []
     for place, answer in enumerate(session.answers):
         asked = tuple(sorted(answer.question.values))
-        if asked in scopes and any(part in things for size in range(1, len(asked) + 1) for part in itertools.combinations(asked, size)):
+        if asked in scopes and any(part in things for size in range(1, len(asked) + 1)
+                                   for part in itertools.combinations(asked, size)):
             found.append(place)
     return found
 
@@ -128,25 +139,30 @@ def odd_lines(session: Session, odd: Sequence[Odd], letter: Callable[[int], str]
     """The odd ones out, and the answers behind them with their letters; nothing where there are
     none."""
     names = [thing.name for thing in session.case.things]
-    lines = ["", "Other than most of their pattern. That may be right; if it isn't, an answer was a slip, or your words can't say it:"] if odd else []
+    lines = ["", ODD] if odd else []
     for one in odd:
         lines.append(f"- {one.text(names)}")
-        lines += [f"  {letter(place)}  {answer_text(session, session.answers[place], MOST_VALUES)}" for place in one.behind]
+        lines += [f"  {letter(place)}  {answer_text(session, session.answers[place], MOST_VALUES)}"
+                  for place in one.behind]
     return lines
 
 
 def answers(session: Session, face: Face) -> int | None:
     """Shows all answers that stand, the newest first; the place of one to go back to, or None."""
     places = list(reversed(range(len(session.answers))))
-    parts = [places[first:first + MOST_ANSWERS] for first in range(0, len(places), MOST_ANSWERS)] or [[]]
+    firsts = range(0, len(places), MOST_ANSWERS)
+    parts = [places[first:first + MOST_ANSWERS] for first in firsts] or [[]]
+    earlier = ((MORE[0], "earlier ones"),) if len(parts) > 1 else ()
     shown = 0
     while True:
         part = parts[shown % len(parts)]
-        choice = Choice(session, part, (("o", "on"), *(((MORE[0], "earlier ones"),) if len(parts) > 1 else ())))
-        lines = tuple(f"{choice.letter(place)}  {answer_text(session, session.answers[place])}" for place in part)
+        choice = Choice(session, part, (("o", "on"), *earlier))
+        lines = tuple(f"{choice.letter(place)}  {answer_text(session, session.answers[place])}"
+                      for place in part)
         count = f"{len(places)}, the newest first" if places else "none yet"
         head = f"All answers so far: {count}"
-        key, place = choice.put(face, partial(Sheet, head, lines, keys=choice.keys if lines else (ON,)))
+        keys = choice.keys if lines else (ON,)
+        key, place = choice.put(face, partial(Sheet, head, lines, keys=keys))
         if key != MORE[0]:
             return place
         shown += 1
