@@ -60,13 +60,11 @@ def main(old: str, new: str | None, options: argparse.Namespace) -> int:
         before, plan = locks.enter_context(answered(old, program))
         if not to_itself:
             locks.enter_context(free(journal, case.path))
-        told = list(
-            replaced(
-                journal,
-                to_itself,
-                lambda made: begun(case, program, made, plan, options.budget, before),
-            )
-        )
+
+        def make(made: str) -> list[str]:
+            return begun(case, program, made, plan, options.budget, before)
+
+        told = replaced(journal, to_itself, make)
     print("\n".join(told))
     return 0
 
@@ -151,7 +149,7 @@ def words_of(journal: str, kept: Kept) -> Vocabulary:
 # ---------------------------------------------------------------- the new session
 
 
-def replaced(journal: str, to_itself: bool, make: Callable[[str], list[str]]) -> Iterator[str]:
+def replaced(journal: str, to_itself: bool, make: Callable[[str], list[str]]) -> list[str]:
     """Makes a new session and puts it in its place, an old one aside; what came of it, in lines."""
     aside: list[str] = []
     try:
@@ -160,7 +158,9 @@ def replaced(journal: str, to_itself: bool, make: Callable[[str], list[str]]) ->
             put_aside(journal, aside)
         handover.counts(journal)
     except BaseException as error:
-        handover.given_up(journal)
+        # what broke it off is told, and not that something is left of it
+        with contextlib.suppress(Fault):
+            handover.given_up(journal)
         for copy in aside:
             with contextlib.suppress(OSError):
                 os.unlink(copy)
@@ -174,9 +174,7 @@ def replaced(journal: str, to_itself: bool, make: Callable[[str], list[str]]) ->
             f"{fault}. The new session is whole, and the next desk that opens it puts it in its "
             "place"
         ) from None
-    if aside:
-        yield f"The session so far is kept in {aside[-1]}."
-    yield from told
+    return [*(f"The session so far is kept in {copy}." for copy in aside[-1:]), *told]
 
 
 def put_aside(journal: str, made: list[str]) -> None:

@@ -106,7 +106,7 @@ PLANTED = [
     # the old session isn't kept
     ("carry.py", "        if to_itself:\n            put_aside(journal, aside)\n", ""),
     # what was made in vain stays behind
-    ("carry.py", "        handover.given_up(journal)\n        for copy", "        for copy"),
+    ("carry.py", "            handover.given_up(journal)\n", "            pass\n"),
     # answers that say nothing any more aren't counted
     ("carry.py", "    if len(there) < len(before):", "    if False:"),
     # the second fault is told, not the first
