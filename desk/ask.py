@@ -7,7 +7,6 @@ import importlib.util
 import os
 import signal
 import sys
-from collections.abc import Callable
 from types import FrameType
 
 import beforehand
@@ -16,7 +15,7 @@ import end
 import streams
 import trials
 import views
-from face import Face, Sheet, patience
+from face import Face, Sheet, moving, patience
 from model import Ending, Fault, Question, Values
 from picture import CHANGED, LEFT_OUT, Picture
 from plain import Lines
@@ -87,12 +86,6 @@ def kept(session: Session) -> str:
         return f"what is kept stands in {session.journal}"
     stand = len(session.answers)
     return "all answers are kept" if stand >= given else f"{stand} of {given} answers are kept"
-
-
-def moving(face: Face) -> Callable[[str], None]:
-    """What shows how far something is that takes a while; nothing where each line stays, and would
-    be read out."""
-    return (lambda _: None) if face.stays else face.wait
 
 
 def _hung_up(number: int, _: FrameType | None) -> None:

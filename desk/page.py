@@ -25,7 +25,7 @@ from picture import CLASH, Cells, Grid, Picture, grid_of, sentence
 from sentences import Sentence, grouped
 from session import Session
 from style import STYLE
-from talk import Program
+from talk import Clock, Program
 
 # how each page begins, by which desk knows its own
 START = '<!DOCTYPE html>\n<html lang="en"><head><meta charset="utf-8"><meta name="generator" content="desk">'
@@ -37,6 +37,8 @@ OLD_START = re.compile(rb'<!DOCTYPE html>\n<html lang="en"><head><meta charset="
                        rb':root\{color-scheme:light dark;--ground:#ffffff;--text:#1c2330;')
 ENDS = (".case", ".journal", ".session", ".certificate")    # of files that are no pages
 MOST_PLANS = 4
+SECONDS_FOR_PLANS = 20.0    # that are looked for, all together
+SECONDS_FOR_BROKEN = 40.0   # for those that break one rule alone, all together
 MOST_COLUMNS = 10           # of a table on a page of paper; with more it is turned, or a list
 MOST_ROWS = 12              # of a list in one column
 
@@ -169,15 +171,17 @@ def plans(session: Session, found: Sequence[Sentence]) -> Iterator[Html]:
     if solver.name() is None:
         yield section("Plans", element("p", "None are drawn, since no SAT solver is installed: cadical, minisat or clasp."))
         return
-    some = solver.far(session.program, session.vocabulary, session.journal, MOST_PLANS)
+    some = solver.far(session.program, session.vocabulary, session.journal, MOST_PLANS,
+                      Clock(SECONDS_FOR_PLANS))
     shown = [drawn(session, plan.values, f"Plan {number}{review.apart_text(plan)}") for number, plan in enumerate(some, 1)]
     hint = element("p", "If one of these is wrong, an answer was a slip, or the words of the case can't say why.", class_="dim")
     yield section("Plans that the rules allow", hint,
                   element("div", *shown, class_="side") if shown else element("p", "No plan was found that satisfies all rules."))
     clauses = solver.clauses_of(session.program, session.vocabulary, session.journal)
+    clock = Clock(SECONDS_FOR_BROKEN)
     broken, without = [], []
     for said in found:
-        one = review.broken_alone(session, said, found, clauses)
+        one = review.broken_alone(session, said, found, clauses, clock)
         if one is None:
             without.append(rule(said))
         else:

@@ -19,14 +19,17 @@ import point
 import solver
 import views
 from along import Things, and_list
-from face import Face, Sheet, patience
+from face import Face, Sheet, moving, patience
 from goback import Choice, may
 from model import Constraint, Rule, Values
 from picture import CLASH, KEPT, Picture
 from sentences import Sentence
 from session import Session
+from talk import Clock
 
 MOST_PLANS = 3
+SECONDS_FOR_PLANS = 10.0    # that are looked for, all together
+SECONDS_FOR_ONE = 5.0       # for a plan that breaks one rule of a sentence alone
 MOST_TRIES = 4              # rules of one sentence of which a plan is looked for that breaks it alone
 JUDGE = (("y", "yes, right"), ("n", "no"), ("q", "enough"))
 BEFOREHAND = "It stands in a line `always` of the case. If it isn't so, take it out there; `desk carry` takes your other answers over."
@@ -55,7 +58,9 @@ class Review:
             if done or place is not None:
                 return place
         for sentence in self.sentences:
-            broken = broken_alone(self.session, sentence, self.sentences)
+            clock = Clock(SECONDS_FOR_ONE, moving(self.face))
+            clock.doing("looking for a plan that breaks one rule alone")
+            broken = broken_alone(self.session, sentence, self.sentences, clock=clock)
             self.alone[sentence.text] = broken is not None
             if broken is None:
                 continue
@@ -69,7 +74,8 @@ class Review:
         has seen kept."""
         session = self.session
         self.face.wait("looking for plans that these rules allow ..")
-        plans = solver.far(session.program, session.vocabulary, session.journal, MOST_PLANS)
+        clock = Clock(SECONDS_FOR_PLANS, moving(self.face))
+        plans = solver.far(session.program, session.vocabulary, session.journal, MOST_PLANS, clock)
         for said in self.sentences:
             if plans and said.unseen:
                 marks = {thing: KEPT for rule in said.unseen for thing in rule.things}
@@ -181,14 +187,16 @@ class Broken:
         return {thing: CLASH for thing in self.rule.things}
 
 
-def broken_alone(session: Session, sentence: Sentence, every: Sequence[Sentence], clauses: solver.Clauses | None = None) -> Broken | None:
-    """A plan that breaks a rule of this sentence alone; None where none is found."""
+def broken_alone(session: Session, sentence: Sentence, every: Sequence[Sentence],
+                 clauses: solver.Clauses | None = None, clock: Clock | None = None) -> Broken | None:
+    """A plan that breaks a rule of this sentence alone; None where none is found in time."""
     if sentence.follows == "all":
         return None
     rules = [rule for other in every for rule in other.rules]
     for rule in sentence.rules[:MOST_TRIES]:
         others = [other for other in rules if other is not rule]
-        values = solver.breaking(session.program, session.vocabulary, session.journal, rule, others, clauses)
+        values = solver.breaking(session.program, session.vocabulary, session.journal, rule, others,
+                                 clauses, clock)
         if values is not None:
             return Broken(values, rule)
     return None

@@ -80,8 +80,8 @@ def clauses_of(program: Program, vocabulary: Vocabulary, journal: str, clock: Cl
 def solved(count: int, clauses: Sequence[Clause], clock: Clock | None = None) -> set[int] | None:
     """The true Booleans of a model; None where there is none, where the solver takes too long, or where none is installed."""
     solver = name()
-    seconds = SECONDS if clock is None else min(SECONDS, clock.left)
-    if solver is None or sum(map(len, clauses)) > MOST_LITERALS or not seconds:
+    own = Clock(SECONDS) if clock is None else clock.within(SECONDS)
+    if solver is None or sum(map(len, clauses)) > MOST_LITERALS or own.over:
         return None
     with tempfile.TemporaryDirectory() as folder:
         given, made = os.path.join(folder, "clauses"), os.path.join(folder, "model")
@@ -90,7 +90,7 @@ def solved(count: int, clauses: Sequence[Clause], clock: Clock | None = None) ->
             file.writelines(" ".join(map(str, clause)) + " 0\n" for clause in clauses)
         words = [solver, *SOLVERS[solver], given, *([made] if solver == "minisat" else [])]
         try:
-            status, printed = called(words, clock=Clock(seconds))
+            status, printed = called(words, clock=own)
             if solver == "minisat" and status in SATISFIABLE:
                 with open(made, "rb") as model:
                     printed = model.read()
@@ -221,19 +221,19 @@ def at_least(literals: Sequence[int], least: int, count: int) -> tuple[list[Clau
 # ---------------------------------------------------------------- a plan that breaks one rule
 
 def breaking(program: Program, vocabulary: Vocabulary, journal: str, rule: Rule, others: Sequence[Rule],
-             clauses: Clauses | None = None) -> Values | None:
-    """A plan that breaks a rule and keeps the others; None where the solver finds none.
+             clauses: Clauses | None = None, clock: Clock | None = None) -> Values | None:
+    """A plan that breaks a rule and keeps the others; None where the solver finds none in time.
 
     `rule` and `others` are all rules that were learned, so the plan is refused for this one alone."""
-    clauses = clauses or clauses_of(program, vocabulary, journal)
-    if clauses is None:
+    clauses = clauses or clauses_of(program, vocabulary, journal, clock)
+    if clauses is None or clock is not None and clock.over:
         return None
     wanted = with_known(dataclasses.replace(clauses, clauses=clauses.clauses[:clauses.own]), vocabulary)
     extra = list(wanted.clauses)
     for other in others:
         extra += rejected(clauses, other)
     picks, count = _one_of(wanted, rule)
-    true = solved(count, extra + picks)
+    true = solved(count, extra + picks, clock)
     if true is None:
         return None
     values = clauses.values(true)

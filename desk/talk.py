@@ -69,6 +69,11 @@ class Clock:
             self._told = time.monotonic()
             self._tell(f"{self._doing}, at most {math.ceil(self.left)} s more ..")
 
+    def within(self, seconds: float) -> Clock:
+        """A clock for one call, which has no more than so many of the seconds; who waits is told of
+        all that are left."""
+        return Clock(min(seconds, self.left), lambda _: self.tick())
+
     def pause(self) -> float:
         """How long to wait before the next tick."""
         return min(TICK, self.left)

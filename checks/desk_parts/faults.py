@@ -54,6 +54,7 @@ FAULTS = [
     ("things: a b\nvalues: shelf 1 .. 6\n" + REST,
      ":2: is `shelf` a heading, or one of the names? Write `shelf1 .. shelf6`; or, if it is one of the names, put commas: `shelf, 1 .. 6`"),
     ("things: Y1 Y2 .. Y4\nvalues: Mon Tue .. Fri\nask: all\nwords: never\n", ":4: the word `never` isn't in the catalogue; the nearest is `never Wed`"),
+    ("things: a b a\nvalues: 1 2\nplan: it\n" + REST, ":1: the thing `a` stands twice\nit.case:3: no such plan: it; there are scopes, quacq, multi"),
     ("things: talk 1 .. 8\nvalues: a b\n" + REST,
      ":1: is `talk` a heading, or one of the names? Write `talk1 .. talk8`; or, if it is one of the names, put commas: `talk, 1 .. 8`"),
     ("things: a b\nvalues: day Mon..Fri\n" + REST,

@@ -12,6 +12,7 @@ import random
 import shutil
 import stat
 import tempfile
+import time
 from collections.abc import Callable
 
 import hands        # desk's folder is on the path now
@@ -53,6 +54,7 @@ PLANTED = [
     ("solver.py", "at_least([-literal for literal in literals], count.least, last)", "at_least(literals, count.least, last)"),
     ("solver.py", "    wanted = with_known(dataclasses.replace(clauses, clauses=clauses.clauses[:clauses.own]), vocabulary)",
      "    wanted = dataclasses.replace(clauses, clauses=clauses.clauses[:clauses.own])"),
+    ("solver.py", "clock.within(SECONDS)", "Clock(SECONDS)"),
     ("page.py", "*beside(session.case), ", ""),
     ("counts.py", "0 if found[1] == \"at most\" else number, len(row) if", "0 if found[1] != \"at least\" else number, len(row) if"),
     ("counts.py", "if thing.at[k] == member) for member in", "if thing.at[k] >= member) for member in"),
@@ -75,6 +77,7 @@ def run(program: str) -> list[str]:
     faults += [f"plans: {fault}" for fault in without(program)]
     if installed:
         faults += [f"plans: a solver that lies: {fault}" for fault in lying(program)]
+        faults += [f"plans: a solver that is stuck: {fault}" for fault in stuck(program)]
     missing = [name for name in solver.SOLVERS if name not in installed]
     print(f"plans: {counts[0]} plans and {counts[1]} broken rules by {', '.join(installed) or 'no solver'}"
           + (f"; not installed: {', '.join(missing)}" if missing else ""))
@@ -199,6 +202,41 @@ def constant(program: str, path: str) -> str:
         clauses = solver.clauses_of(one.program, one.vocabulary, one.journal)
         assert clauses is not None
         return "s SATISFIABLE\nv " + " ".join(map(str, clauses.literals(all_plans(one, one.state().learned)[0]))) + " 0\n"
+
+
+STUCK = """#!/bin/sh
+# a solver that answers once, and never again
+[ -e FOLDER/answered ] && exec sleep 1000
+touch FOLDER/answered
+exec REAL "$@"
+"""
+
+
+def stuck(program: str) -> list[str]:
+    """With a solver that doesn't come to an end plans are looked for as long as the clock says."""
+    found: list[str] = []
+    before, real = os.environ["PATH"], shutil.which("cadical")
+    if real is None:
+        return []
+    with tempfile.TemporaryDirectory() as folder, hands.room("small", SMALL) as path:
+        hands.answered(path, program, lambda q: len(set(q.values())) == len(q))
+        fake = os.path.join(folder, "cadical")
+        with open(fake, "w", encoding="utf-8") as file:
+            file.write(STUCK.replace("FOLDER", folder).replace("REAL", real))
+        os.chmod(fake, 0o755)
+        os.environ["PATH"] = folder + os.pathsep + before
+        try:
+            with session.Session.opened(casefile.read(path), talk.Program(program)) as one:
+                began = time.monotonic()
+                plans = solver.far(one.program, one.vocabulary, one.journal, 3, talk.Clock(1.5))
+                said = sentences.grouped(one.vocabulary, one.state().learned)
+                broken = review.broken_alone(one, said[0], said, clock=talk.Clock(1.5))
+                took = time.monotonic() - began
+            if len(plans) != 1 or broken is not None or took > 9:
+                found.append(f"{len(plans)} plans and {broken} after {took:.1f} s of 3")
+        finally:
+            os.environ["PATH"] = before
+    return found
 
 
 def lying(program: str) -> list[str]:
