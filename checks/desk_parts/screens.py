@@ -257,7 +257,7 @@ def other_sizes(case: model.Case) -> list[str]:
     for before, behind in (((20, 8), (33, 7)), ((33, 8), (80, 24)), ((33, 24), (33, 8)), ((60, 8), (33, 8)), ((33, 7), (60, 7))):
         for key in (screen.RESIZED, " ", "x"):
             it = Shown(*before, "")
-            it.keyboard.keys = [" "] * 6 + [(behind, key), *" y" * 12]      # type: ignore[attr-defined]
+            it.keyboard.keys = [" "] * 6 + [(behind, key), *"y " * 12]      # type: ignore[attr-defined]
             it.keyboard.screen = it     # type: ignore[attr-defined]
             try:
                 taken = it.put(sheet)
