@@ -22,6 +22,7 @@ from files import journal_of, kept_of
 DESK = ["/usr/bin/python3", os.path.join(hands.DESK, "desk")]
 MOST_SECONDS = 3.0      # of processor time for a refusal, on a machine that does much else
 MOST_MEMORY = 160       # million bytes
+MOST_ROOM = 3_000_000   # thousand bytes of addresses, for whatever is tried
 NOBODY = 65534 if os.geteuid() == 0 else None       # who may not do what root may
 BEARS = "title: Bären\nthings: Bär Müller\nvalues: 1 2 3\nask: all\nwords: different, before\nplan: scopes\n"
 PLANTED = [
@@ -49,8 +50,8 @@ PLANTED = [
 # ---------------------------------------------------------------- how it is looked at
 
 def ran(line: str, program: str, env: hands.Named | None = None, user: int | None = None) -> subprocess.CompletedProcess[str]:
-    """What a line of the shell comes to, in which `desk` is desk."""
-    call = ["/bin/bash", "-c", line.replace("desk ", " ".join(DESK) + " ", 1)]
+    """What a line of the shell comes to, in which `desk` is desk, with no more memory than it may need."""
+    call = ["/bin/bash", "-c", f"ulimit -v {MOST_ROOM}; " + line.replace("desk ", " ".join(DESK) + " ", 1)]
     whole = {**os.environ, "LC_ALL": "C.UTF-8", "DESK_ACQUIRE": program, **(env or {})}
     return subprocess.run(call, stdin=subprocess.DEVNULL, capture_output=True, text=True, encoding="utf-8", errors="backslashreplace", env=whole,
                           timeout=hands.PATIENCE, user=user, check=False)
