@@ -94,7 +94,8 @@ def by_trial(words: Vocabulary, answers: list[tuple[Values, bool]]) -> list[str]
     least = [one for one in clash if not any(other.items() < one.items() for other in clash)]
     found: list[str] = []
     largest = max(words.arities)
-    for form in missing.forms(case, Setting(case.things, case.values, case.value_parts), least, largest):
+    setting = Setting(case.things, case.values, case.value_parts)
+    for form in missing.forms(case, setting, least, largest):
         if len(found) == missing.MOST_OFFERED:
             break
         try:
@@ -145,6 +146,19 @@ def sessions(program: str) -> list[str]:
     return faults
 
 
+def several(program: str) -> list[str]:
+    """Of two refused examples a word has to explain both: `same` does, `before` and `after` don't."""
+    text = "things: a b c d\nvalues: x y z\nask: all\nwords: different\n"
+    words = Vocabulary(casefile.parse(text, "several.case"))
+    possible = Possible(words, "scopes")
+    possible.take({0: 0, 1: 1}, False)
+    possible.take({2: 1, 3: 0}, False)
+    search = missing.lacking(SimpleNamespace(case=words.case, possible=possible))
+    right = list(search.words) == by_trial(words, possible.answers)
+    right &= search.words[:1] == ("same",)
+    return [] if right and not {"before", "after"} & set(search.words) else [f"lacking: {search}"]
+
+
 def apart(program: str) -> list[str]:
     """Things that `ask` doesn't put together: that is said, with the line that does. And a search
     that is cut says so."""
@@ -166,9 +180,10 @@ def apart(program: str) -> list[str]:
         cut = " ".join(missing.told(one, missing.lacking(one, {0: 0, 1: 0}, False)))
     finally:
         missing.SECONDS = before
-    return faults + ([] if "found in two seconds; not all were tried" in cut else [f"lacking: {cut}"])
+    told_so = "found in two seconds; not all were tried" in cut
+    return faults + ([] if told_so else [f"lacking: {cut}"])
 
 
 def run(program: str) -> list[str]:
     """The faults that were found."""
-    return sessions(program) + apart(program)
+    return sessions(program) + several(program) + apart(program)

@@ -38,7 +38,7 @@ PLANTED = [
     # a rule that was known before is said again
     ("possible.py", "and not _says(left, needed)", ""),
     # what was said beforehand is said as if it were taught
-    ("session.py", "if table != self._accepted_beforehand.get(scope):", "if True:"),
+    ("session.py", " if (rule.word.text, rule.things) not in self.beforehand)", ")"),
     # answers that are given for the person teach as well
     (
         "session.py",
