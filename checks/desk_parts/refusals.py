@@ -35,7 +35,6 @@ PLANTED = [
     ("session.py", "if f\"answers {len(self.answers)}\" not in lines:", "if False:"),
     ("vocabulary.py", "if name not in self._place or not number.isdecimal() or not 1 <= int(number) <= self.coding.size:", "if False:"),
     ("trials.py", "raise something_else(f\"{len(asked)} questions without an end\")", "pass"),
-    ("streams.py", "            os.dup2(os.open(os.devnull, os.O_RDWR), number)\n", "            pass\n"),
     ("streams.py", "            name.encode(encoding)\n", "            name.encode()\n"),
     ("streams.py", "        if sys.stdout is not None and fails(sys.stdout):\n", "        if False:\n"),
     ("ask.py", "    return \"all answers are kept\" if stand >= given else", "    return \"all answers are kept\" if True else"),
@@ -53,6 +52,7 @@ def ran(line: str, program: str, env: hands.Named | None = None, user: int | Non
     """What a line of the shell comes to, in which `desk` is desk, with no more memory than it may need."""
     call = ["/bin/bash", "-c", f"ulimit -v {MOST_ROOM}; " + line.replace("desk ", " ".join(DESK) + " ", 1)]
     whole = {**os.environ, "LC_ALL": "C.UTF-8", "DESK_ACQUIRE": program, **(env or {})}
+    whole.pop("PYTHONUNBUFFERED", None)     # what waits to be printed is what is lost at the end
     return subprocess.run(call, stdin=subprocess.DEVNULL, capture_output=True, text=True, encoding="utf-8", errors="backslashreplace", env=whole,
                           timeout=hands.PATIENCE, user=user, check=False)
 
@@ -100,11 +100,13 @@ def streams(program: str) -> list[str]:
 
 
 def descriptors(program: str) -> list[str]:
-    """With its standard streams closed, no file that desk opens stands in their place: the journal gets what acquire writes there else."""
+    """With standard error closed, what acquire writes there doesn't get into a file that desk has opened in its place."""
     with folder() as path:
-        ran(f"desk ask {path} --plain 0</dev/null 1>/dev/null 2>&-", program)
-        it = ran(f"{program} {journal_of(path)} show", program)
-        return [] if it.returncode == 0 and "plan scopes" in it.stdout else [f"the journal is {it.stdout!r}"]
+        loud = os.path.join(os.path.dirname(path), "loud")
+        script(loud, f'echo a line that is no record >&2; exec {program} "$@"')
+        it = ran(f"echo y | desk ask {path} --plain 2>&-", loud)
+        stand = hands.answers(program, path)
+        return [] if it.returncode == 0 and stand > 0 else [f"{it.returncode}, {stand} answers stand, {it.stdout[-200:]!r}"]
 
 
 # ---------------------------------------------------------------- programs
@@ -150,15 +152,16 @@ def script(path: str, does: str) -> None:
 
 
 def broken_off(program: str) -> list[str]:
-    """A program that gives wrong answers to one call only, between two answers: desk says how many answers are kept, and they are."""
+    """A program that says something else in the middle of a session: desk says how many answers are kept, and so many stand."""
     found = []
-    for does, said in (("echo q9 nobody=1", "`nobody=1`.*all answers are kept"), ("printf '\\377\\n'", "no text.*all answers are kept"), ("exit 0", "")):
+    for lost, does, said in ((0, "echo q9 nobody=1", "`nobody=1`.*; all answers are kept"), (0, "printf '\\377\\n'", "no text.*; all answers are kept"),
+                             (1, "echo q9 nobody=1", "`nobody=1`.*; 3 of 4 answers are kept"), (0, "exit 0", "")):
         with folder(hands.WARD) as path:
             other = os.path.join(os.path.dirname(path), "other")
-            # the run gives three questions as they are, and something else behind them; all else is the program's
+            # a run passes on three questions and their answers, and a last answer to nobody; all else is the program's
             script(other, f'if [ "$2" = run ]; then coproc P {{ {program} "$@"; }}; exec 3<&0\n'
-                   f'for k in 1 2 3; do read -r q <&"${{P[0]}}"; echo "$q"; read -r a <&3; echo "$a" >&"${{P[1]}}"; done; read -r q <&"${{P[0]}}"\n{does}\n'
-                   f'else exec {program} "$@"; fi')
+                   f'for k in 1 2 3; do read -r q <&"${{P[0]}}"; echo "$q"; read -r a <&3; echo "$a" >&"${{P[1]}}"; done; read -r q <&"${{P[0]}}"\n'
+                   f'if [ {lost} = 1 ]; then echo "$q"; read -r a <&3; fi\n{does}\nelse exec {program} "$@"; fi')
             it = ran(f"yes y | desk ask {path} --plain --plan scopes", other)
             stand = hands.answers(program, path)
             if stand != 3 or said and wrong(it, said) or not said and "3 answers stand" not in it.stdout:
