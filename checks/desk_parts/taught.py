@@ -208,6 +208,23 @@ def twice(program: str) -> list[str]:
     return [] if len(said) == 1 else [f"taught: {said}"]
 
 
+def known_already(program: str) -> list[str]:
+    """A no from an earlier session that is given for the person teaches as well; a further no about what is settled doesn't."""
+    text = "title: Three\nthings: a b c\nvalues: x y\nask: all\nwords: different\n"
+    carried = [{"yes": False, "by": "carried", "values": {"a": "x", "c": "x"}}]
+    with hands.room("three", text) as path:
+        case = casefile.read(path)
+        with Session.opened(case, Program(program), "scopes", before=carried) as one, one.sit() as sitting:
+            sitting.advance()
+            sitting.answer(False)
+            sitting.advance()
+            first = sorted(rule.text for rule in one.taught(0))
+            one.possible.take({0: 1, 1: 1}, False)
+            again = list(one.possible.taught([2]))
+    right = first == ["a and b differ", "a and c differ"] and not again
+    return [] if right else [f"taught: {first}, and then {again}"]
+
+
 def pace(program: str) -> list[str]:
     """What it takes at a question, with 4,950 groups."""
     faults, told = [], []
@@ -240,9 +257,9 @@ def pace(program: str) -> list[str]:
 
 def run(program: str) -> list[str]:
     """The faults that were found."""
-    return sessions(program) + shown(program) + pace(program)
+    return sessions(program) + shown(program) + known_already(program) + pace(program)
 
 
 def quick(program: str) -> list[str]:
     """The same without the pace."""
-    return sessions(program) + shown(program)
+    return sessions(program) + shown(program) + known_already(program)
