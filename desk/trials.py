@@ -1,7 +1,8 @@
-"""What each way of asking would cost: made-up owners answer in place of the person, by `play`, and then with one answer turned round.
+"""What each way of asking would cost: made-up owners answer in place of the person, by `play`, and
+then with one answer turned round.
 
-All draws come of fixed numbers, so that a case gets the same figures and the same advice each time, as long as the time isn't
-over before all was tried.
+All draws come of fixed numbers, so that a case gets the same figures and the same advice each time,
+as long as the time isn't over before all was tried.
 """
 
 from __future__ import annotations
@@ -23,22 +24,26 @@ from talk import Clock, Late, Program, Run, is_question, something_else
 from vocabulary import Vocabulary
 
 MOST_TRIALS = 12
-LEAST_TRIALS = 3        # one of each shape
-MEMORY = "/dev/shm"     # journals of trials are kept here where it is there: nothing is lost with them
-WORK = 4000             # trials of a plan are so few that they have about so many scopes in all
-MOST_FOR_SLIPS = 600    # scopes; above it slips aren't tried
-STEPS = 5               # of the search for a plan that keeps some rules, for each thing
-MOST_LOOKS = 100_000    # of that search at a rule
-READING = 3             # a question costs so much beside one for each value that it shows
-DEAR = 2.5              # a plan that notices slips may cost so many times what the cheapest costs
-ENOUGH = 0.25           # of slips noticed, for a plan to be one that notices them
-BLOCK = 3               # a block has at most about one in so many of the things
-MOST_PRICED = 8         # words of which it is told what they cost in questions
-SECONDS = 10.0          # for comparing the plans in `desk check`
+LEAST_TRIALS = 3  # one of each shape
+MEMORY = "/dev/shm"  # journals of trials are kept here where it is there: nothing is lost with them
+WORK = 4000  # trials of a plan are so few that they have about so many scopes in all
+MOST_FOR_SLIPS = 600  # scopes; above it slips aren't tried
+STEPS = 5  # of the search for a plan that keeps some rules, for each thing
+MOST_LOOKS = 100_000  # of that search at a rule
+READING = 3  # a question costs so much beside one for each value that it shows
+DEAR = 2.5  # a plan that notices slips may cost so many times what the cheapest costs
+ENOUGH = 0.25  # of slips noticed, for a plan to be one that notices them
+BLOCK = 3  # a block has at most about one in so many of the things
+MOST_PRICED = 8  # words of which it is told what they cost in questions
+SECONDS = 10.0  # for comparing the plans in `desk check`
 SECONDS_AT_FIRST = 3.0  # for the same before the first question of `desk ask`
 
 # what each plan of the program does, for people
-WAYS = {"scopes": "one group at a time", "quacq": "whole plans first, one rule after a no", "multi": "whole plans first, all rules after a no"}
+WAYS = {
+    "scopes": "one group at a time",
+    "quacq": "whole plans first, one rule after a no",
+    "multi": "whole plans first, all rules after a no",
+}
 
 # rules that an owner may have on scopes, each with its table there
 Wishes = dict[tuple[int, ...], list[tuple[Rule, int]]]
@@ -56,15 +61,19 @@ class Figures:
     """What a plan would cost."""
 
     plan: str
-    questions: tuple[int, ...]      # put to the person, of each trial that was played to its end, rising
-    shown: float                    # values that a question shows, in the middle
-    at_first: int                   # values that the first question shows
-    effort: float                   # of a session, in the middle
-    most: int                       # the bound on questions before the first
-    slips: int                      # how many were planted
-    noticed: int                    # after how many of them the session collapsed
-    late: bool = False              # whether the time was over before all was tried
-    beyond: int | None = None       # questions so far of the trial that was under way then; None where none was
+    questions: tuple[
+        int, ...
+    ]  # put to the person, of each trial that was played to its end, rising
+    shown: float  # values that a question shows, in the middle
+    at_first: int  # values that the first question shows
+    effort: float  # of a session, in the middle
+    most: int  # the bound on questions before the first
+    slips: int  # how many were planted
+    noticed: int  # after how many of them the session collapsed
+    late: bool = False  # whether the time was over before all was tried
+    beyond: int | None = (
+        None  # questions so far of the trial that was under way then; None where none was
+    )
 
     @property
     def notices(self) -> bool:
@@ -79,7 +88,8 @@ class Figures:
 
 @dataclass(frozen=True)
 class Price:
-    """What a word costs: how many questions come without it in the middle trial; None where the time was over."""
+    """What a word costs: how many questions come without it in the middle trial; None where the
+    time was over."""
 
     word: str
     without: int | None
@@ -91,6 +101,7 @@ def trials_of(words: Vocabulary) -> int:
 
 
 # ---------------------------------------------------------------- made-up owners
+
 
 def hidden_plan(case: Case, rules: Sequence[Rule], draw: random.Random) -> Values:
     """A plan that keeps some rules, where a short search by least conflicts finds one."""
@@ -106,9 +117,14 @@ def hidden_plan(case: Case, rules: Sequence[Rule], draw: random.Random) -> Value
             break
         thing = draw.choice(rules[draw.choice(list(broken))].things)
         allowed, mine = case.things[thing].allowed, by_thing[thing]
-        conflicts = {value: sum(rules[place].violated({**values, thing: value}) for place in mine) for value in allowed}
+        conflicts = {
+            value: sum(rules[place].violated({**values, thing: value}) for place in mine)
+            for value in allowed
+        }
         looks += len(allowed) * len(mine)
-        values[thing] = draw.choice([value for value in allowed if conflicts[value] == min(conflicts.values())])
+        values[thing] = draw.choice(
+            [value for value in allowed if conflicts[value] == min(conflicts.values())]
+        )
         for place in mine:
             if rules[place].violated(values):
                 broken[place] = None
@@ -123,7 +139,8 @@ def scattered(words: Vocabulary, draw: random.Random, share: float) -> Wishes:
 
 
 def hubs(words: Vocabulary, draw: random.Random, share: float) -> Wishes:
-    """One or two things that have a rule of one word with all others: the opening is before each talk."""
+    """One or two things that have a rule of one word with all others: the opening is before each
+    talk."""
     wishes: Wishes = {}
     for _ in range(1 + (share > 0.5)):
         hub = draw.randrange(len(words.case.things))
@@ -132,21 +149,40 @@ def hubs(words: Vocabulary, draw: random.Random, share: float) -> Wishes:
 
 
 def blocks(words: Vocabulary, draw: random.Random, share: float) -> Wishes:
-    """Things of two kinds, each of the one with a rule of one word with each of the other: no acid beside a lye."""
+    """Things of two kinds, each of the one with a rule of one word with each of the other: no acid
+    beside a lye."""
     wishes: Wishes = {}
     count = len(words.case.things)
     size = 1 + int(share * count / BLOCK)
     for _ in range(1 + (share > 0.5)):
         mixed = draw.sample(range(count), count)
-        sides = [set(mixed[:size]), set(mixed[size:2 * size]) or set(mixed[:size])]
-        _wish(words, draw, wishes, [scope for scope in words.scopes if all(side & set(scope) for side in sides)], sides)
+        sides = [set(mixed[:size]), set(mixed[size : 2 * size]) or set(mixed[:size])]
+        _wish(
+            words,
+            draw,
+            wishes,
+            [scope for scope in words.scopes if all(side & set(scope) for side in sides)],
+            sides,
+        )
     return wishes
 
 
-def _wish(words: Vocabulary, draw: random.Random, wishes: Wishes, scopes: Sequence[tuple[int, ...]], sides: Sequence[set[int]]) -> None:
+def _wish(
+    words: Vocabulary,
+    draw: random.Random,
+    wishes: Wishes,
+    scopes: Sequence[tuple[int, ...]],
+    sides: Sequence[set[int]],
+) -> None:
     """Adds the rules of one word, by draw, that stand between sides on some scopes."""
+
     def between(scope: tuple[int, ...]) -> list[tuple[Rule, int]]:
-        return [(rule, table) for rule, table in words.rules_on(scope) if len(rule.things) < 2 or all(side & set(rule.things) for side in sides)]
+        return [
+            (rule, table)
+            for rule, table in words.rules_on(scope)
+            if len(rule.things) < 2 or all(side & set(rule.things) for side in sides)
+        ]
+
     first = next((some for scope in scopes if (some := between(scope))), None)
     if first is None:
         return
@@ -161,10 +197,13 @@ SHAPES = (scattered, hubs, blocks)
 
 
 def drawn(words: Vocabulary, trial: int, trials: int) -> Drawn:
-    """A network with the rules said beforehand and more, whose share and shape depend on the trial; some plan keeps them all."""
+    """A network with the rules said beforehand and more, whose share and shape depend on the trial;
+    some plan keeps them all."""
     draw = random.Random(trial)
     wishes = SHAPES[trial % len(SHAPES)](words, draw, (trial + 1) / trials)
-    shaped = [rule for some in wishes.values() for rule, _ in some[:1]] if trial % len(SHAPES) else []
+    shaped = (
+        [rule for some in wishes.values() for rule, _ in some[:1]] if trial % len(SHAPES) else []
+    )
     hidden = hidden_plan(words.case, [*words.case.always, *shaped], draw)
     tables = {}
     for item in words.network(words.case.always):
@@ -180,18 +219,32 @@ def drawn(words: Vocabulary, trial: int, trials: int) -> Drawn:
 
 def accepts(words: Vocabulary, network: Drawn, values: Values) -> bool:
     """Whether a network accepts values, as far as they go."""
-    return all(table >> words.place(scope, values) & 1 for scope, table in network.tables.items() if all(thing in values for thing in scope))
+    return all(
+        table >> words.place(scope, values) & 1
+        for scope, table in network.tables.items()
+        if all(thing in values for thing in scope)
+    )
 
 
 def network_text(words: Vocabulary, network: Drawn) -> bytes:
     """The network for `play`."""
-    return json.dumps([words.item(scope, table) for scope, table in network.tables.items() if table != words.inside(scope)]).encode()
+    return json.dumps(
+        [
+            words.item(scope, table)
+            for scope, table in network.tables.items()
+            if table != words.inside(scope)
+        ]
+    ).encode()
 
 
 # ---------------------------------------------------------------- sessions with them
 
-def played(words: Vocabulary, program: Program, plan: str, network: Drawn, clock: Clock | None = None) -> list[str]:
-    """The lines of the questions that a plan asks where the network answers; `Late` has the lines so far."""
+
+def played(
+    words: Vocabulary, program: Program, plan: str, network: Drawn, clock: Clock | None = None
+) -> list[str]:
+    """The lines of the questions that a plan asks where the network answers; `Late` has the lines
+    so far."""
     with tempfile.TemporaryDirectory(dir=MEMORY if os.path.isdir(MEMORY) else None) as folder:
         journal = os.path.join(folder, "trial.journal")
         made = program.call([journal, "new", "--plan", plan], words.json.encode(), clock)
@@ -201,20 +254,34 @@ def played(words: Vocabulary, program: Program, plan: str, network: Drawn, clock
     if reply.status not in (0, 5):
         raise Fault(f"{words.case.path}: acquire says: {reply.said}")
     asked = [line for line in reply.lines if is_question(line.split(" ", 1)[0])]
-    if reply.lines[len(asked):len(asked) + 1] not in ([f"converged {len(asked)}"], [f"undecided {len(asked)}"]):
+    if reply.lines[len(asked) : len(asked) + 1] not in (
+        [f"converged {len(asked)}"],
+        [f"undecided {len(asked)}"],
+    ):
         raise something_else(f"{len(asked)} questions without an end")
     return asked
 
 
 def own_of(words: Vocabulary, lines: Sequence[str], foreseen: Foreseen) -> list[Values]:
-    """The questions of some lines that are put to the person, since no rule said beforehand answers them."""
+    """The questions of some lines that are put to the person, since no rule said beforehand answers
+    them."""
     asked = (question.values for question, _ in filter(None, map(words.answered, lines)))
     return [values for values in asked if foreseen.violated(values) is None]
 
 
-def slipped(words: Vocabulary, program: Program, plan: str, network: Drawn, slip: int, foreseen: Foreseen, clock: Clock | None = None) -> bool:
+def slipped(
+    words: Vocabulary,
+    program: Program,
+    plan: str,
+    network: Drawn,
+    slip: int,
+    foreseen: Foreseen,
+    clock: Clock | None = None,
+) -> bool:
     """Whether a session collapses in which the person's answer at this place is turned round."""
-    run = Run(program, [":memory:", "try", "--plan", plan], given=words.json.encode() + b"\n", clock=clock)
+    run = Run(
+        program, [":memory:", "try", "--plan", plan], given=words.json.encode() + b"\n", clock=clock
+    )
     own = 0
     try:
         while (question := words.asked(line := run.line())) is not None:
@@ -248,7 +315,9 @@ class _Trials:
         self.efforts.append(sum(READING + len(values) for values in own))
 
 
-def figures(words: Vocabulary, program: Program, plan: str, networks: Sequence[Drawn], clock: Clock) -> Figures:
+def figures(
+    words: Vocabulary, program: Program, plan: str, networks: Sequence[Drawn], clock: Clock
+) -> Figures:
     """What a plan would cost, as far as it can be found out in time."""
     foreseen, tried = Foreseen(words.case), _Trials()
     late, beyond = False, None
@@ -266,13 +335,31 @@ def figures(words: Vocabulary, program: Program, plan: str, networks: Sequence[D
         if not own or len(words.scopes) > MOST_FOR_SLIPS:
             continue
         try:
-            tried.noticed += slipped(words, program, plan, network, random.Random(trial).randrange(len(own)), foreseen, clock)
+            tried.noticed += slipped(
+                words,
+                program,
+                plan,
+                network,
+                random.Random(trial).randrange(len(own)),
+                foreseen,
+                clock,
+            )
             tried.slips += 1
         except Late:
             late = trial + 1 < len(networks)
             break
-    return Figures(plan, tuple(sorted(tried.counts)), statistics.median(tried.sizes or [0]), max(tried.first, default=0),
-                   statistics.median(tried.efforts or [0]), Possible(words, plan).most, tried.slips, tried.noticed, late, beyond)
+    return Figures(
+        plan,
+        tuple(sorted(tried.counts)),
+        statistics.median(tried.sizes or [0]),
+        max(tried.first, default=0),
+        statistics.median(tried.efforts or [0]),
+        Possible(words, plan).most,
+        tried.slips,
+        tried.noticed,
+        late,
+        beyond,
+    )
 
 
 def compared(words: Vocabulary, program: Program, clock: Clock) -> list[Figures]:
@@ -282,15 +369,18 @@ def compared(words: Vocabulary, program: Program, clock: Clock) -> list[Figures]
 
 
 def best(words: Vocabulary, some: list[Figures]) -> Figures:
-    """The plan to take: the cheapest of those that notice slips, unless it costs much more than the cheapest of all.
+    """The plan to take: the cheapest of those that notice slips, unless it costs much more than the
+    cheapest of all.
 
-    Where words are lifted it is plan `scopes`, since in the others a session may collapse with no wrong answer; and where the
-    time was over, since nobody knows what the others cost.
+    Where words are lifted it is plan `scopes`, since in the others a session may collapse with no
+    wrong answer; and where the time was over, since nobody knows what the others cost.
     """
     if words.lifted or any(one.late for one in some):
         return next(one for one in some if one.plan == "scopes")
     cheapest = min(some, key=lambda one: one.effort)
-    careful = min((one for one in some if one.notices), key=lambda one: one.effort, default=cheapest)
+    careful = min(
+        (one for one in some if one.notices), key=lambda one: one.effort, default=cheapest
+    )
     return careful if careful.effort <= DEAR * cheapest.effort else cheapest
 
 
@@ -301,13 +391,17 @@ def advised(words: Vocabulary, program: Program, clock: Clock) -> str:
 
 # ---------------------------------------------------------------- what a word costs
 
+
 def prices(case: Case, program: Program, clock: Clock) -> Iterator[Price]:
-    """What the words of a case cost where one group is asked about at a time; none of words that the case can't be without."""
+    """What the words of a case cost where one group is asked about at a time; none of words that
+    the case can't be without."""
     able = [word for word in case.words if not word.things]
     for word in able[:MOST_PRICED] if len(case.words) > 1 else ():
         try:
-            words = Vocabulary(dataclasses.replace(case, words=tuple(one for one in case.words if one is not word)))
-        except Fault:       # a rule said beforehand needs it, or a group has no other word
+            words = Vocabulary(
+                dataclasses.replace(case, words=tuple(one for one in case.words if one is not word))
+            )
+        except Fault:  # a rule said beforehand needs it, or a group has no other word
             continue
         clock.doing(f"reckoning what `{word.text}` costs")
         try:

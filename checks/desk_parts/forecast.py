@@ -44,8 +44,8 @@ PLANTED = [
     ),
     (
         "check.py",
-        "key=lambda price: price.without or 0)",
-        "key=lambda price: -(price.without or 0))",
+        "key=lambda price: price.without or 0,",
+        "key=lambda price: -(price.without or 0),",
     ),
     (
         "trials.py",

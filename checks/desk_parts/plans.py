@@ -56,8 +56,8 @@ PLANTED = [
      "    wanted = dataclasses.replace(clauses, clauses=clauses.clauses[:clauses.own])"),
     ("solver.py", "clock.within(SECONDS)", "Clock(SECONDS)"),
     ("page.py", "*beside(session.case), ", ""),
-    ("counts.py", "0 if found[1] == \"at most\" else number, len(row) if", "0 if found[1] != \"at least\" else number, len(row) if"),
-    ("counts.py", "if thing.at[k] == member) for member in", "if thing.at[k] >= member) for member in"),
+    ("counts.py", "0 if found[1] == \"at most\" else number,", "0 if found[1] != \"at least\" else number,"),
+    ("counts.py", "thing.place for thing in things if thing.at[k] == member)", "thing.place for thing in things if thing.at[k] >= member)"),
     # what a solver prints is shown unchecked
     ("solver.py", "    if reply.status != 0 or not reply.lines or not reply.lines[0].startswith(\"solution\"):\n        return None\n"
      "    return vocabulary.values_of(reply.lines[0].split()[1:])", "    return clauses.values(true)"),
