@@ -41,12 +41,6 @@ PLANTED = [
         "        return Search(tuple(found), things, False)",
         "        return Search(tuple(found), things, True)",
     ),
-    # words about a part are tried last
-    (
-        "missing.py",
-        "parted + [form for form in plain if form not in parted] + named",
-        "[form for form in plain if form not in parted] + named + parted",
-    ),
     # of things that aren't asked about together nothing is said
     (
         "missing.py",

@@ -13,9 +13,11 @@ from collections.abc import Iterable
 
 import hands        # desk's folder is on the path now
 import casefile
+import sentences
 import session
 import solver
 import talk
+import views
 from hands import Owner, Piped, is_question, plain_values, room
 
 ALWAYS = hands.WARD + "always: different on same day\n"
@@ -47,7 +49,7 @@ PLANTED = [
     # cells that are pointed at are judged with all others
     ("review.py", "values = {thing: shown.values[thing] for thing in cells} if cells else shown.values", "values = shown.values"),
     # the answers behind a sentence are those about anything
-    ("views.py", "if asked in scopes and any(", "if asked not in scopes or any("),
+    ("views.py", "if asked in scopes and any(", "if any("),
 ]
 
 
@@ -58,7 +60,7 @@ def run(program: str) -> list[str]:
 
 def quick(program: str) -> list[str]:
     """The same in little."""
-    return looked(program, (keys, odd_one, contradicted, refused_twice, from_rules, from_answers, step_by_step, never_seen, pointed))
+    return looked(program, (keys, odd_one, contradicted, refused_twice, from_rules, behind_sentences, from_answers, step_by_step, never_seen, pointed))
 
 
 def looked(program: str, rows: Iterable[object]) -> list[str]:
@@ -489,6 +491,21 @@ def from_rules(program: str) -> list[str]:
         return found
 
 
+def behind_sentences(program: str) -> list[str]:
+    """Behind a sentence are the answers about whole groups that hold the things of one of its rules, and no others."""
+    found = []
+    with room() as path:
+        hands.answered(path, program, hands.ward, "quacq", most=120)
+        with session.Session.opened(casefile.read(path), talk.Program(program)) as one:
+            scopes = [set(scope) for scope in one.vocabulary.scopes]
+            for said in sentences.grouped(one.vocabulary, one.learned()):
+                wanted = [place for place, answer in enumerate(one.answers) if set(answer.question.values) in scopes
+                          and any(set(rule.things) <= set(answer.question.values) for rule in said.rules)]
+                if not wanted or views.behind(one, said.rules) != wanted:
+                    found.append(f"{said.text}: {views.behind(one, said.rules)} and not {wanted}")
+    return found
+
+
 def from_answers(program: str) -> list[str]:
     """The answers come newest first, with a letter each; m leads to earlier ones, and a letter back
     to any of them."""
@@ -614,4 +631,4 @@ def pointed(program: str) -> list[str]:
 
 WITH_SOLVER = (allowed_plan, refused_plan, refused_twice, refused_beforehand, never_seen, pointed)
 ROWS = (keys, always, minimal, allowed_plan, refused_plan, refused_twice, refused_beforehand, why_is_capped, clash, goes_on, clash_kept, odd_one, changed, contradicted, undecided,
-        from_rules, from_answers, step_by_step, never_seen, pointed)
+        from_rules, behind_sentences, from_answers, step_by_step, never_seen, pointed)
