@@ -134,7 +134,7 @@ def programs(program: str) -> list[str]:
             script(other, does)
             for command in ("ask --plain", f"report {path}", f"carry {path}"):
                 call, *more = command.split(" ", 1)
-                line = f"echo y | desk {call} {path} --plain" if call == "ask" else f"desk {call} {path}" + (" page.html" if call == "report" else "")
+                line = f"echo y | desk {call} {path} --plain" if call == "ask" else f"desk {call} {path}" + (f" {path}.html" if call == "report" else "")
                 found += [f"{what}, {call} behind a session: {fault}" for fault in wrong(ran(line, other), "acquire (printed|says|was ended)")]
         for named in ("/nowhere/acquire", path, os.path.dirname(path)):
             found += [f"{named}: {fault}" for fault in wrong(ran(f"desk check {path}", named), "no such program")]
@@ -207,7 +207,7 @@ def files(program: str) -> list[str]:
         for place, said in ((pipe, "is a pipe, and a file is due"), (beside, "is a folder"), ("/dev/zero", "is a device"), (large, "at most 1000000 bytes"),
                             (os.path.join(beside, "none.case"), "No such file")):
             for command in ("check", "ask --plain", "carry", "report"):
-                line = f"desk {command} {place}" + (" page.html" if command == "report" else "")
+                line = f"desk {command} {place}" + (f" {path}.html" if command == "report" else "")
                 found += [f"{line}: {fault}" for fault in wrong(ran(line, program), said)]
         found += [f"locked: {fault}" for fault in wrong(ran(f"desk check {locked}", program, user=NOBODY), "Permission denied")]
     for end in (".journal", ".session"):
@@ -218,7 +218,7 @@ def files(program: str) -> list[str]:
                 os.unlink(place)
                 os.mkdir(place) if what == "folder" else os.mkfifo(place)
                 for command in ("ask --plain", "report", "carry"):
-                    line = f"desk {command} {path}" + (" page.html" if command == "report" else "")
+                    line = f"desk {command} {path}" + (f" {path}.html" if command == "report" else "")
                     found += [f"{what} as {end}, {command}: {fault}" for fault in wrong(ran(line, program), said)]
     return found
 
