@@ -2,10 +2,11 @@
 """desk, the companion for planners, beside the built program.
 
 usage: checks/desk.py PROGRAM [PART ..]
-       checks/desk.py PROGRAM planted      ten bugs planted in desk, each of which a part has to notice
+       checks/desk.py PROGRAM planted      some bugs planted in desk, each of which a part has to notice
        checks/desk.py PROGRAM all-planted  each bug that a part lists
 
-Each part is a file in checks/desk_parts and says in a line what it looked at. What the parts need is installed by apt-get where
+Each part is a file in checks/desk_parts and says in a line what it looked at. DESK_CASES=1000 lets that many cases change, and
+DESK_KILLS=200 kills as often. What the parts need is installed by apt-get where
 that is possible: python3-rich, tmux, a SAT solver, chromium and poppler-utils; what can't be had is passed over, and a line
 says so. Parts run side by side, each in a process of its own.
 """
@@ -26,10 +27,13 @@ PARTS_FOLDER = os.path.join(HERE, "desk_parts")
 DESK = os.environ.get("DESK_FOLDER", os.path.join(os.path.dirname(HERE), "desk"))
 
 # those that take longest first
-PARTS = ("terminal", "captured", "pages", "suspects", "known", "bounds", "sitting", "plans", "screens", "says", "meanings", "runs", "faults", "pace")
-NEEDS_RICH = ("terminal", "captured", "pages", "sitting", "screens", "says", "pace")
-# the ten bugs that the gate plants: a part, and which of its list
-GATE = (("bounds", 0), ("bounds", 1), ("suspects", 1), ("meanings", 0), ("meanings", 2), ("known", 0), ("runs", 0), ("faults", 0), ("screens", 0), ("pages", 0))
+PARTS = ("terminal", "kept", "captured", "pages", "changes", "refusals", "suspects", "known", "bounds", "sitting",
+         "cases", "lacking", "taught", "plans", "screens", "says", "unseen", "meanings", "runs", "faults",
+         "forecast", "pace")
+NEEDS_RICH = ("terminal", "captured", "pages", "sitting", "taught", "screens", "says", "pace")
+# the bugs that the gate plants: a part, and which of its list
+GATE = (("bounds", 0), ("bounds", 1), ("suspects", 1), ("meanings", 0), ("meanings", 2), ("known", 0), ("changes", 0), ("kept", 0), ("runs", 0),
+        ("faults", 0), ("unseen", 0), ("screens", 0), ("pages", 0))
 # a command, and the Debian package that has it
 TOOLS = {"tmux": "tmux", "cadical": "cadical", "minisat": "minisat", "clasp": "clasp", "chromium": "chromium", "pdfinfo": "poppler-utils"}
 PATIENCE = 1800     # seconds for a part

@@ -3,58 +3,70 @@
 from __future__ import annotations
 
 import argparse
-import locale
+import importlib.util
 import os
 import signal
 import sys
 from types import FrameType
 
-from rich.console import Console
-
+import beforehand
 import casefile
 import end
+import streams
+import trials
 import views
-from face import Face, Sheet, patience
-from keys import Keyboard
-from model import Ending, Question, Values
+from face import Face, Sheet, moving, patience
+from model import Ending, Fault, Question, Values
 from picture import CHANGED, LEFT_OUT, Picture
 from plain import Lines
-from screen import Screen
 from session import Session, Sitting
-from talk import Program
+from talk import Clock, Program
 
 KEYS = (("y", "yes"), ("n", "no"), ("b", "back"), ("w", "why"), ("r", "rules"), ("s", "answers"), ("q", "stop"), ("?", "help"))
 PART = "Judge what is filled in, don't think of the rest."
 WHOLE = "Everything is filled in. Is this all right?"
+YOURS = ("Question {number} had been answered for you from what you have just answered otherwise, so it is yours to answer now. "
+         "Your later answers count again where they decide a question.")
 STATUS = {"converged": 0, "collapsed": 4, "undecided": 5, "suspended": 6}
 HELP = """A question shows a plan, or a part of one. Say whether what is filled in is all right, as far as it goes. Don't think of the rest: \
 whether the empty places can be filled as well isn't asked.
 
 y  yes, it is all right
 n  no, it isn't, whatever stands in the empty places
-b  back: takes your last answer back, and shows that question again
+   If it is wrong only because of something that your words can't say, as a count over all, say yes, and note it
+b  back: takes your last answer back, and shows that question again. Pressed again, it takes the one before back as well, and what you \
+said later counts again where it decides a question
 w  why: which rules a yes rules out
-r  rules so far, and what is odd about them
-s  all answers so far
+r  rules so far, and what is odd about them; letters lead to the answers behind them, and back to one
+s  all answers so far, and by letters back to any of them
 q  stop. Nothing is lost, and the next `desk ask` goes on from here
 ?  this help
 
 * stands at what has changed since the last question. Rules that you said beforehand answer for you where a question breaks one, which is \
-always a no; how often they did since the last question stands below the question."""
+always a no; how often they did since the last question stands below the question. A group of things is finished where nothing is open \
+any more of what your words can say about it; often fewer questions come than can come at most."""
 
 
 def main(path: str, options: argparse.Namespace) -> int:
     """Puts the questions of a case; the status to end with."""
     case = casefile.read(path)
+    streams.can_show(case)
     program = Program.found(options.acquire)
     before = {number: signal.signal(number, _hung_up) for number in (signal.SIGTERM, signal.SIGHUP)}
     face = face_for(options.plain)
     try:
-        face.wait("opening the session; for a new one the best plan is looked for ..")
-        with Session.opened(case, program, options.plan, options.budget) as session:
-            ending = asked(session, face)
-            face.close()
-            end.print_last(session, ending, not face.stays)
+        face.wait("opening the session; for a new one the best way of asking is looked for ..")
+        clock = Clock(trials.SECONDS_AT_FIRST if options.seconds is None else options.seconds, moving(face))
+        with Session.opened(case, program, options.plan, options.budget, clock=clock) as session:
+            try:
+                ending = asked(session, face)
+                face.close()
+                end.print_last(session, ending, not face.stays)
+                if session.against():
+                    print(beforehand.text(session))
+                sys.stdout.flush()
+            except Exception as error:
+                raise Fault(f"{streams.reason(error)}; {kept(session)}") from error
             return STATUS["suspended"] if ending is None else STATUS.get(ending.word, 1)
     except KeyboardInterrupt:
         return STATUS["suspended"]
@@ -62,6 +74,18 @@ def main(path: str, options: argparse.Namespace) -> int:
         face.close()
         for number, handler in before.items():
             signal.signal(number, handler)
+
+
+def kept(session: Session) -> str:
+    """How many answers are kept: those that the program itself has in the journal once it has
+    ended."""
+    given = len(session.answers)
+    try:
+        session.reload()
+    except Fault:
+        return f"what is kept stands in {session.journal}"
+    stand = len(session.answers)
+    return "all answers are kept" if stand >= given else f"{stand} of {given} answers are kept"
 
 
 def _hung_up(number: int, _: FrameType | None) -> None:
@@ -83,24 +107,10 @@ def face_for(plain: bool) -> Face:
     dumb = os.environ.get("TERM", "dumb") in ("dumb", "unknown", "")
     if plain or dumb or not (sys.stdin.isatty() and sys.stdout.isatty()):
         return Lines()
-    return Screen(console_for(), Keyboard(sys.stdin.fileno()))
-
-
-def console_for() -> Console:
-    """Rich's console, which draws in ASCII where the locale has no more."""
-    console = Console(highlight=False, markup=False, emoji=False)
-    if not locale.nl_langinfo(locale.CODESET).upper().replace("-", "").startswith("UTF8"):
-        console = AsciiConsole(highlight=False, markup=False, emoji=False)
-    return console
-
-
-class AsciiConsole(Console):
-    """A console that draws lines in ASCII. Names are printed as they are all the same."""
-
-    @property
-    def encoding(self) -> str:
-        """What can be drawn."""
-        return "ascii"
+    if importlib.util.find_spec("rich") is None:
+        raise Fault("the library that draws the screen isn't installed: `apt-get install python3-rich`, or take --plain")
+    import screen       # needs that library
+    return screen.opened()
 
 
 class Asking:
@@ -110,11 +120,19 @@ class Asking:
         self.session, self.sitting, self.face = session, sitting, face
         self.before: Question | None = None         # the last question that the person saw
         self.note = ""                              # what happened since, above the next question
+        self.taught = ""                            # what the last answer has taught
+        self.told: set[str] = set()                 # what answers have taught since the last step back
 
-    def run(self) -> Ending:
-        """Asks until the program ends or the person stops."""
+    def run(self) -> Ending | None:
+        """Asks until the program ends or the person stops; None where they stop in front of a
+        contradiction."""
         if self.session.answers:
             self.note = f"It goes on where it was, after {len(self.session.answers)} answer{'s' if len(self.session.answers) != 1 else ''}."
+        if self.session.against():
+            place = beforehand.way_out(self.session, self.face)
+            if place is None:
+                return None
+            self._back_to(place)
         self._advance()
         while True:
             while self.sitting.question is not None:
@@ -132,19 +150,22 @@ class Asking:
         self.note = ""
         if key in ("y", "n"):
             self.before = question
+            since = len(self.session.answers)
             self.sitting.answer(key == "y")
+            if self.sitting.question is not None:
+                self.before, self.note = None, YOURS.format(number=self.sitting.question.number)
             self._advance()
+            self.taught = views.taught_text(self.session, since, self.told)
         elif key == "b":
             self._back()
         elif key == "q":
             self.sitting.stop()
-        elif key == "r":
-            sheet, choice = views.rules(self.session)
-            place = choice.sure(self.face, self.face.put(sheet))
+        elif key in ("r", "s"):
+            place = (views.rules if key == "r" else views.answers)(self.session, self.face)
             if place is not None:
                 self._back_to(place)
         else:
-            self.face.put(self._view(key, question))
+            self.face.put(views.why(self.session, question) if key == "w" else Sheet("Help", tuple(HELP.split("\n"))))
 
     def _advance(self) -> None:
         """On to the next question for the person."""
@@ -156,45 +177,39 @@ class Asking:
         """Takes the person's last answer back."""
         last = next((answer for answer in reversed(self.session.answers) if answer.said is None), None)
         if last is None or not self.sitting.back():
-            self.note = "There is no answer of yours to take back."
+            self.note = "There is no answer of yours to take back; s leads to those that were given again." if self.session.answers else \
+                "There is no answer of yours to take back."
             return
-        self.before = None
+        self.before, self.taught, self.told = None, "", set()
         self.note = f"Your {'yes' if last.yes else 'no'} to question {last.question.number} is taken back; here it comes again."
 
     def _back_to(self, place: int) -> None:
-        """Takes back the answer at a place; what was said after it is used again where it decides."""
+        """Takes back the answer at a place; what was said after it is used again where it
+        decides."""
         answer = self.session.answers[place]
         self.sitting.back_to(place)
-        self.before = None
+        self.before, self.taught, self.told = None, "", set()
         self.note = (f"Your {'yes' if answer.yes else 'no'} to question {answer.question.number} is taken back. "
                      "Your later answers count again where they decide a question.")
-
-    def _view(self, key: str, question: Question) -> Sheet:
-        """What w, s and ? show."""
-        if key == "w":
-            return views.why(self.session, question)
-        if key == "s":
-            return views.answers(self.session)
-        return Sheet("Help", tuple(HELP.split("\n")))
 
     # ---- how a question looks
 
     def sheet(self, question: Question) -> Sheet:
         """A question as it is shown."""
-        case, possible = self.session.case, self.session.possible
+        case = self.session.case
         picture = Picture(case, question.values, marks(question.values, self.before))
         head = f"{case.title}: question {question.number}"
         if question.part_of(self.before):
             head += ", a part of the one before"
         ask = PART if picture.part else WHOLE
-        count = f"settled {possible.settled} of {possible.total}; at most {possible.most} more question{'s' if possible.most != 1 else ''}"
-        notes = (self.note,) if self.note else ()
-        return Sheet(head, (picture,), legend(picture), (*notes, ask), (count,), KEYS, frozenset("y"))
+        notes = tuple(filter(None, (self.taught, self.note)))
+        return Sheet(head, (picture,), legend(picture), (*notes, ask), (self.session.possible.progress,), KEYS, frozenset("y"))
 
 
 def marks(values: Values, before: Question | None) -> dict[int, str]:
-    """What differs from the last question: other values, and places that are empty now. Where the two have no place in common
-    there is nothing to compare, and where all places are new as well."""
+    """What differs from the last question: other values, and places that are empty now. Where the
+    two have no place in common there is nothing to compare, and where all places are new as
+    well."""
     if before is None or not set(values) & set(before.values):
         return {}
     changed = {thing: CHANGED for thing, value in values.items() if before.values.get(thing) != value}

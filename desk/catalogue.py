@@ -12,6 +12,7 @@ from collections.abc import Callable, Iterator, Sequence
 from dataclasses import dataclass
 
 import names
+import synonyms
 from model import Fault, Part, Thing, Word
 
 NUMBERS = {"one": 1, "two": 2, "three": 3, "four": 4}
@@ -64,6 +65,10 @@ ENTRIES = (
     Entry("not all three the same PART", 3, "their values don't all have one PART (and with four)"),
     Entry("at most K of three V", 3, "no more than K of them are V (and of four); K is `one`, `two`, `three`"),
     Entry("at least K of three V", 3, "K of them or more are V (and of four)"),
+    Entry("at most K of them V", 3, "no more than K of all are V: `one` asks about pairs, `two` about `all triples`, `three` about `all fours`"),
+    Entry("at least all but K of them V", 3, "all are V but K or fewer; asked about in the same groups"),
+    Entry("at most K of them the same", 3, "no value comes more than K times, `two` or `three`; asked about in the same groups"),
+    Entry("at most K of them the same PART", 3, "no PART comes more than K times, `two` or `three`; asked about in the same groups"),
     Entry("three in order", 3, "each has an earlier value than the next (`four in order` likewise)"),
 )
 
@@ -106,18 +111,39 @@ class Setting:
 def word(setting: Setting, text: str) -> Word:
     """The word that a text is, or a fault with the nearest right form."""
     text = " ".join(text.split())
-    for maker in (_of_named_things, _of_one, _of_two, _of_parts, _of_two_values, _of_three_or_four):
+    made = _made(setting, text)
+    if made is None:
+        raise Fault(f"the word `{text}` isn't in the catalogue{_near(setting, text)}")
+    return made
+
+
+def _made(setting: Setting, text: str) -> Word | None:
+    """The word that a text is, or None."""
+    for maker in (_of_named_things, _of_one, _of_two, _of_parts, _of_them, _of_two_values, _of_three_or_four):
         made = maker(setting, text)
         if made:
             return made
-    raise Fault(f"the word `{text}` isn't in the catalogue{_near(setting, text)}")
+    return None
 
 
-def _word(setting: Setting, text: str, arity: int, holds: Callable[..., bool], sentence: str, shown: str) -> Word:
+def _known(setting: Setting, text: str) -> bool:
+    """Whether a text is a word of the catalogue here."""
+    try:
+        return _made(setting, text) is not None
+    except Fault:
+        return False
+
+
+def _meant(setting: Setting, text: str) -> str | None:
+    """The word that is meant by one that isn't in the catalogue."""
+    return synonyms.meant(synonyms.spelled(text), ((r"(.+)", r"\1"), *synonyms.OF_WORDS), lambda form: _known(setting, form))
+
+
+def _word(setting: Setting, text: str, arity: int, holds: Callable[..., bool], sentence: str, shown: str, whole: str = "") -> Word:
     """A word about any things, with its first example."""
     every = range(len(setting.values))
     example = next((some for some in itertools.product(every, repeat=arity) if not holds(*some)), ())
-    return Word(text, arity, holds, _escaped(sentence), example, (), shown)
+    return Word(text, arity, holds, _escaped(sentence), example, (), shown, _escaped(whole))
 
 
 def _escaped(sentence: str) -> str:
@@ -240,6 +266,34 @@ def _two(form: str, v: frozenset[int], w: frozenset[int], a: str, b: str) -> tup
     return (lambda x, y: x not in v or y in w, f"where {{0}} is {a}, {{1}} is {b}", f"where the first is {a}, the second is {b}")
 
 
+def _of_them(setting: Setting, text: str) -> Word | None:
+    """at most K of them V, at least all but K of them V, at most K of them the same: counts that groups of K + 1 things say.
+
+    No more than K of any number of things are V where no K + 1 of them are; all but K are V where of each K + 1 one is.
+    """
+    m = re.fullmatch(r"(at most|(?:at least )?all but) (one|two|three) of them (.+)", text)
+    if m is None:
+        return None
+    most, count = m[1] == "at most", NUMBERS[m[2]] + 1
+    same = re.fullmatch(r"the same(?: (.+))?", m[3]) if most else None
+    v = setting.value_set(m[3])
+    part = setting.part(same[1]) if same and same[1] else -1
+    if v:
+        holds: Callable[..., bool] = (lambda *x: any(one not in v for one in x)) if most else (lambda *x: any(one in v for one in x))
+        said = m[3]
+    elif same and part is not None and count > 2:
+        seen = (lambda value: value) if part == -1 else (lambda value: setting.at(value)[part])
+        holds, said = (lambda *x: len({seen(one) for one in x}) > 1), m[3]
+    else:
+        return None
+    is_one, are = ("has", "have") if same and same[1] else ("is", "are")
+    who = ", ".join("{%d}" % place for place in range(count - 1)) + " and {%d}" % (count - 1)
+    few = f"at most {m[2]} of " if most else "at least one of "
+    verb = (is_one if count == 2 else are) if most else is_one
+    whole = f"at most {m[2]} of {{0}} {are} {said}" if most else f"at least all but {m[2]} of {{0}} are {said}"
+    return _word(setting, text, count, holds, f"{few}{who} {verb} {said}", f"{few}them {verb} {said}", whole)
+
+
 def _of_three_or_four(setting: Setting, text: str) -> Word | None:
     """all three different, not all four the same, at most two of three V and so on."""
     count = next((NUMBERS[part] for part in reversed(text.split()) if part in ("three", "four")), 0)
@@ -327,7 +381,15 @@ def _forms(setting: Setting) -> Iterator[str]:
 
 
 def _near(setting: Setting, text: str) -> str:
-    """The nearest right form, and where to find all."""
+    """The form that is meant, else the nearest by letters, and where to find all."""
+    named = synonyms.about(text, [thing.name for thing in setting.things], lambda middle: _meant(setting, middle))
+    if named:
+        word, one, other = named
+        return (f"; a word stands without its things: `{word}` in `words` with `{one} - {other}` in `ask`, "
+                f"or `always: {word} on {one} - {other}`")
+    meant = _meant(setting, text)
+    if meant:
+        return synonyms.hint(meant)
     if setting.value_parts and re.fullmatch(r"at (least|most) \d+ apart", text):
         return f"; in a grid it is counted in a part: `{text.removesuffix(' apart')} {setting.value_parts[0].name} apart`"
     return names.nearest(text, _forms(setting)) or "; `desk words` lists all"

@@ -2,10 +2,11 @@
 
 from __future__ import annotations
 
+import missing
 import solver
 import views
 from along import and_list
-from face import Block, Face, Sheet
+from face import Block, Face, Sheet, patience
 from goback import Choice, sure
 from model import Ending
 from picture import Picture
@@ -42,18 +43,19 @@ class Collapse:
         self.session, self.face = session, face
         self.suspects = session.possible.suspects()
         self.choice = Choice(session, self.suspects, LAST)
+        with patience(face, "looking for a word that would explain the answers .."):
+            self.lacking = missing.told(session, missing.lacking(session))
 
     def run(self) -> int | None:
         """The place of the answer to go back to, or None."""
-        sheet = self.sheet()
         while True:
-            key = self.face.put(sheet)
+            key, place = self.choice.put(self.face, self.sheet)
             if key == "q":
                 return None
             if key == "s":
-                self.face.put(views.answers(self.session))
-                continue
-            place = self._last() if key == "b" else self.choice.sure(self.face, key)
+                place = views.answers(self.session, self.face)
+            elif key == "b":
+                place = self._last()
             if place is not None:
                 return place
 
@@ -74,6 +76,8 @@ class Collapse:
         lifted = [f"`{word}`" for word in self.session.vocabulary.lifted]
         if lifted and self.session.plan != "scopes":
             blocks += ["", LIFTED.format(words=and_list(lifted), speak="speaks" if len(lifted) == 1 else "speak", plan=self.session.plan)]
+        lacking = "If no answer was a slip, a word is missing. " + self.lacking[0]
+        blocks += ["", lacking, *self.lacking[1:]]
         return Sheet("Your answers clash", tuple(blocks), keys=self.choice.keys)
 
     def _last(self) -> int | None:
@@ -92,23 +96,24 @@ def smallest(session: Session, places: list[int]) -> list[int]:
 
 def converged(session: Session, ending: Ending, face: Face) -> int | None:
     """The rules, and plans to judge."""
-    found = grouped(session.vocabulary, ending.learned, session.reduced())
+    found = grouped(session.vocabulary, ending.learned, session.reduced(), session.answers)
     head = f"Done after {ending.answers} answer{'s' if ending.answers != 1 else ''}"
     can = solver.name() is not None
-    odd, choice = views.odd_lines(session, ending.learned, (("g", "go on to plans"),) * can + (("q", "stop"),))
-    sheet = Sheet(head, (*rule_lines(found), *odd, "", ALL_SAID + (LOOK if can else NO_SOLVER)), keys=choice.keys)
-    key = face.put(sheet)
-    while key in choice.place_of:
-        place = choice.sure(face, key)
-        if place is not None:
-            return place
-        key = face.put(sheet)
-    if key == "q":
-        return None
+    odd = views.odd_ones(session, ending.learned)
+    keys = (("g", "go on to plans"),) * can + (("q", "stop"),)
+    choice = Choice(session, [place for one in odd for place in one.behind], keys)
+    def sheet() -> Sheet:
+        """The rules, and the odd ones with their letters as they are now."""
+        lines = (*rule_lines(found), *views.odd_lines(session, odd, choice.letter))
+        return Sheet(head, (*lines, "", ALL_SAID + (LOOK if can else NO_SOLVER)), keys=choice.keys)
+    key, place = choice.put(face, sheet)
+    if key == "q" or place is not None:
+        return place
     review = Review(session, found, face)
     place = review.run()
     if place is None and review.unsayable:
-        face.put(Sheet("What your words can't say", tuple(f"- {title}" for title in review.unsayable) + ("", MISSING)))
+        lines = tuple(f"- {title}" for title in dict.fromkeys(review.unsayable))
+        face.put(Sheet("What your words can't say", lines + ("", MISSING)))
     return place
 
 
@@ -125,14 +130,15 @@ def undecided_lines(session: Session, ending: Ending) -> list[str]:
 
 
 def print_last(session: Session, ending: Ending | None, rules: bool = True) -> None:
-    """What stays in the terminal after the sitting; the rules only where they don't stand there already."""
+    """What stays in the terminal after the sitting; the rules only where they don't stand there
+    already."""
     case = session.case
     if ending is None or ending.word == "suspended":
         count = len(session.answers)
         print(f"Stopped after {count} answer{'s' if count != 1 else ''}. All are kept; `desk ask {case.path}` goes on from here.")
     elif ending.word == "converged" and rules:
         print(f"{case.title}: the rules after {ending.answers} answers")
-        print("\n".join(rule_lines(grouped(session.vocabulary, ending.learned, session.reduced()))))
+        print("\n".join(rule_lines(grouped(session.vocabulary, ending.learned, session.reduced(), session.answers))))
         print(f"`desk report {case.path} FILE.html` writes them on a page.")
     elif ending.word == "collapsed":
         print(f"The answers clash. `desk ask {case.path}` shows which, and goes back to one.")

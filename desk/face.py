@@ -4,7 +4,7 @@ from __future__ import annotations
 
 import contextlib
 import threading
-from collections.abc import Iterator
+from collections.abc import Callable, Iterator
 from dataclasses import dataclass, field
 from typing import Protocol
 
@@ -50,6 +50,12 @@ class Face(Protocol):
 
     def close(self) -> None:
         """Leaves the terminal as it was; what is printed from now on stays."""
+
+
+def moving(face: Face) -> Callable[[str], None]:
+    """What shows how far something is that takes a while; nothing where each line stays, and
+    would be read out."""
+    return (lambda _: None) if face.stays else face.wait
 
 
 @contextlib.contextmanager

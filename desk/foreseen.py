@@ -2,13 +2,15 @@
 
 Three kinds. A question that violates a rule said beforehand is refused. A part of what was accepted is accepted, and what
 holds something refused is refused; this is said of answers of an earlier session (carried) and of those from before a step
-back (again). Nothing else is ever answered, and where two old answers disagree about a question, it is put to the person.
+back (again). Nothing else is ever answered, and where two old answers disagree about a question, it is put to the person. An
+old yes that a rule said beforehand contradicts answers nothing, as long as that rule is there.
 """
 
 from __future__ import annotations
 
 from collections.abc import Iterable
 from dataclasses import dataclass
+from functools import cached_property
 
 from model import Case, Rule, Said, Values
 
@@ -23,10 +25,10 @@ class Old:
     yes: bool
     by: str                                 # CARRIED or AGAIN
 
-    @property
-    def items(self) -> set[tuple[int, int]]:
+    @cached_property
+    def items(self) -> frozenset[tuple[int, int]]:
         """The pairs as a set."""
-        return set(self.values)
+        return frozenset(self.values)
 
 
 def old(values: Values, yes: bool, by: str) -> Old:
@@ -40,10 +42,22 @@ class Foreseen:
     def __init__(self, case: Case, before: Iterable[Old] = ()) -> None:
         """The rules of a case, and old answers."""
         self.case = case
-        self.before: list[Old] = list(before)
         self._rules: dict[int, list[Rule]] = {}
         for rule in case.always:
             self._rules.setdefault(max(rule.things), []).append(rule)
+        self.before = list(before)
+
+    @property
+    def before(self) -> list[Old]:
+        """All old answers, also those that answer nothing for now."""
+        return self._before
+
+    @before.setter
+    def before(self, some: list[Old]) -> None:
+        self._before = some
+        idle = {one for one, _ in self.contradicted()}
+        self._accepted = [one for one in some if one.yes and one not in idle]
+        self._refused = [one for one in some if not one.yes]
 
     def answer(self, values: Values) -> Said | None:
         """The answer to these values that the person has given already, if they have."""
@@ -51,16 +65,21 @@ class Foreseen:
         if rule is not None:
             return Said(False, ALWAYS, rule.text)
         asked = set(values.items())
-        yes = next((one for one in self.before if one.yes and asked <= one.items), None)
-        no = next((one for one in self.before if not one.yes and one.items <= asked), None)
-        if (yes is None) == (no is None):
-            return None
+        yes = next((one for one in self._accepted if asked <= one.items), None)
+        no = next((one for one in self._refused if one.items <= asked), None)
         said = yes or no
+        if said is None or (yes and no):
+            return None
         return Said(said.yes, said.by, self._because(said, len(asked)))
 
     def violated(self, values: Values) -> Rule | None:
         """The first rule said beforehand that the values violate."""
         return next((rule for thing in sorted(values) for rule in self._rules.get(thing, ()) if rule.violated(values)), None)
+
+    def contradicted(self) -> list[tuple[Old, Rule]]:
+        """The old accepted examples that a rule said beforehand contradicts, each with the rule."""
+        found = ((one, self.violated(dict(one.values))) for one in self.before if one.yes)
+        return [(one, rule) for one, rule in found if rule is not None]
 
     def _because(self, said: Old, asked: int) -> str:
         """The answer behind it, for people."""

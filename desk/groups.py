@@ -7,6 +7,7 @@ import re
 from collections.abc import Callable, Iterable, Sequence
 
 import names
+import synonyms
 from model import Fault, Part, Thing
 
 SIZES = {"pairs": 2, "triples": 3, "fours": 4}
@@ -16,17 +17,37 @@ MOST_GROUPS = 8192      # of the program
 def meant(things: Sequence[Thing], parts: Sequence[Part], phrase: str) -> list[tuple[int, ...]]:
     """The groups of a phrase, each in the order in which the phrase names its things; a fault where it means nothing."""
     phrase = " ".join(phrase.split())
+    found = _read(things, parts, phrase)
+    if found is None:
+        raise Fault(f"`{phrase}` isn't a way to put things together{_near(things, parts, phrase)}")
+    if not found:
+        raise Fault(f"`{phrase}`: no things of the case stand so")
+    return found
+
+
+def _read(things: Sequence[Thing], parts: Sequence[Part], phrase: str) -> list[tuple[int, ...]] | None:
+    """The groups of a phrase; None where it isn't one."""
     for reading in (_all, _same, _next, _row, _to, _named):
         found = reading(things, parts, phrase)
         if found is not None:
-            if not found:
-                raise Fault(f"`{phrase}`: no things of the case stand so")
             return found
-    raise Fault(f"`{phrase}` isn't a way to put things together{_near(things, parts, phrase)}")
+    return None
+
+
+def _known(things: Sequence[Thing], parts: Sequence[Part], phrase: str) -> bool:
+    """Whether a phrase puts things together."""
+    try:
+        return bool(_read(things, parts, phrase))
+    except Fault:
+        return False
 
 
 def _near(things: Sequence[Thing], parts: Sequence[Part], phrase: str) -> str:
-    """The nearest right form."""
+    """The form that is meant, else the nearest one by letters."""
+    meant_form = synonyms.meant(phrase, (*synonyms.OF_PHRASES, *((rf"{part.name}s?", f"same {part.name}") for part in parts)),
+                                lambda form: _known(things, parts, form))
+    if meant_form:
+        return synonyms.hint(meant_form)
     forms = ["all", "all pairs", "all triples", "all fours", "each"]
     for part in parts:
         forms += [f"same {part.name}", f"same {part.name} triples", f"next {part.name}", f"3 {part.name} in a row"]

@@ -12,13 +12,15 @@ class Html(str):
 
 
 def element(tag: str, /, *inside: str, **attributes: str | bool | None) -> Html:
-    """An element; `class_` is its class, an attribute of `True` has no value, one of None or False isn't there."""
+    """An element; `class_` is its class and `http_equiv` its `http-equiv`, an attribute of `True` has no value, one of None or
+    False isn't there."""
     words = [tag]
     for key, value in attributes.items():
+        name = key.rstrip("_").replace("_", "-")
         if value is True:
-            words.append(key.rstrip("_"))
+            words.append(name)
         elif value not in (None, False):
-            words.append(f'{key.rstrip("_")}="{html.escape(str(value))}"')
+            words.append(f'{name}="{html.escape(str(value))}"')
     head = f"<{' '.join(words)}>"
     return Html(head if tag in VOID else head + joined(*inside) + f"</{tag}>")
 

@@ -10,6 +10,8 @@ from __future__ import annotations
 from collections.abc import Callable
 from dataclasses import dataclass, field
 
+import letters
+
 PLANS = ("scopes", "quacq", "multi")
 MOST_VALUES = 64        # of the program: values, and combined relations of an arity
 MOST_RELATIONS = 64
@@ -19,7 +21,14 @@ Values = dict[int, int]
 
 
 class Fault(Exception):
-    """Something that the person has to mend; its text is for them, and begins with file and line where there are some."""
+    """What the person has to mend; each text is one thing, for them, and begins with file and line where there are some.
+
+    Each is a line that may be printed, whatever stands in the file that it is about.
+    """
+
+    def __init__(self, *texts: str) -> None:
+        self.texts = tuple(letters.shown("; ".join(text.split("\n"))) for text in texts)
+        super().__init__("\n".join(self.texts))
 
 
 @dataclass(frozen=True)
@@ -59,6 +68,7 @@ class Word:
     example: tuple[int, ...]                # values that break it; () where no values of the case do
     things: tuple[int, ...] = ()            # the only things that it speaks of, in its order; () where of all groups
     shown: str = ""                         # the pattern form, with no thing in it: `differ`, `is never Ann`
+    whole: str = ""                         # the sentence about all of some things, {0} for their names, where each group keeps it
 
     def said_of(self, names: tuple[str, ...]) -> str:
         """The sentence about these things."""
@@ -83,6 +93,35 @@ class Rule:
 
 
 @dataclass(frozen=True)
+class Count:
+    """How many of some things have one of some values."""
+
+    things: tuple[int, ...]
+    values: frozenset[int]
+    least: int
+    most: int
+
+    def violated(self, values: Values) -> bool:
+        """Whether all its things have a value, and these are too many or too few."""
+        if any(thing not in values for thing in self.things):
+            return False
+        return not self.least <= sum(values[thing] in self.values for thing in self.things) <= self.most
+
+
+@dataclass(frozen=True)
+class Known:
+    """What the person knows and isn't asked about: sample plans keep it, and it is never learned."""
+
+    text: str                   # of the `known` line
+    rules: tuple[Rule, ...] = ()
+    counts: tuple[Count, ...] = ()
+
+    def violated(self, values: Values) -> bool:
+        """Whether values break it."""
+        return any(one.violated(values) for one in (*self.rules, *self.counts))
+
+
+@dataclass(frozen=True)
 class Case:
     """A case as its text says it."""
 
@@ -97,6 +136,8 @@ class Case:
     words: tuple[Word, ...]
     always: tuple[Rule, ...]
     plan: str | None                    # of the `plan` line
+    known: tuple[Known, ...] = ()       # kept by sample plans, never learned
+    notes: tuple[str, ...] = ()         # for people alone
 
     def value_at(self, value: int) -> tuple[int, ...]:
         """For each part of the grid of values, the place of the member that this value has."""

@@ -6,6 +6,7 @@ import difflib
 import re
 import unicodedata
 from collections.abc import Iterable, Sequence
+from dataclasses import dataclass
 
 from model import Fault
 
@@ -18,6 +19,7 @@ SEQUENCES = (
     "Mo Di Mi Do Fr Sa So",
     "Montag Dienstag Mittwoch Donnerstag Freitag Samstag Sonntag",
 )
+MOST_FILLED = 200       # names; a case has at most 128 things and 64 values
 GERMAN = str.maketrans({"ä": "ae", "ö": "oe", "ü": "ue", "Ä": "Ae", "Ö": "Oe", "Ü": "Ue", "ß": "ss"})
 
 
@@ -78,10 +80,47 @@ def listed(text: str) -> list[str]:
     return names
 
 
+@dataclass(frozen=True)
+class Heading:
+    """A name in front of a range or of numbers, which reads like a heading of them."""
+
+    name: str
+    members: tuple[str, ...]        # `1`, `..` and `6`, or each number
+
+    def way_out(self) -> str:
+        """How to write what was meant, whichever it was."""
+        ranged = ".." in self.members
+        listed = ", ".join([self.name, " ".join(self.members)] if ranged else [self.name, *self.members])
+        if all(re.fullmatch(r"\d+|\.\.", member) for member in self.members):
+            meant = f"Write `{' '.join(member if member == '..' else self.name + member for member in self.members)}`"
+        else:
+            meant = f"Leave it out, `{' '.join(self.members)}`"
+        return f"{meant}; or, if it is one of the names, put commas: `{listed}`"
+
+
+def heading(text: str) -> Heading | None:
+    """The name that may be meant as a heading in a list: the first one, before nothing but one range or numbers."""
+    if "," in text or '"' in text:
+        return None
+    first, *others = text.replace("..", " .. ").split() or [""]
+    ranged = len(others) == 3 and others[1] == ".."
+    counted = len(others) > 1 and all(other.isdigit() for other in others)
+    if not (ranged or counted) or first.isdigit():
+        return None
+    return None if ranged and _of_a_kind(first, others[0]) else Heading(first, tuple(others))
+
+
+def _of_a_kind(one: str, other: str) -> bool:
+    """Whether two names may stand in one range: days, months, single letters, or a name with numbers behind it."""
+    bare = [re.sub(r"\d+$", "", name) for name in (one, other)]
+    return (any({one, other} <= set(sequence.split()) for sequence in SEQUENCES) or len(one) == len(other) == 1 and other.isalpha()
+            or bare[0] == bare[1] != other)
+
+
 def filled(piece: str) -> list[str]:
     """One piece between commas: a name, or a range."""
     ends = [end.strip() for end in piece.split("..")]
-    return between(*ends) if len(ends) == 2 else [checked(piece)]
+    return [checked(name) for name in (between(*ends) if len(ends) == 2 else [piece])]
 
 
 def checked(name: str) -> str:
@@ -91,8 +130,6 @@ def checked(name: str) -> str:
     for sign in '=,"':
         if sign in name:
             raise Fault(f"`{name}`: a name has no `{sign}` in it")
-    if any(unicodedata.category(letter).startswith("C") for letter in name):
-        raise Fault(f"`{name!r}`: a name has letters that can be seen alone")
     return name
 
 
@@ -103,12 +140,22 @@ def between(first: str, last: str) -> list[str]:
         if first in row and last in row and row.index(first) <= row.index(last):
             return row[row.index(first):row.index(last) + 1]
     one, other = (re.fullmatch(r"(.*?)(\d{1,6})", end) for end in (first, last))
-    if one and other and one[1] == other[1] and 0 <= int(other[2]) - int(one[2]) < 200:
+    if one and other and one[1] == other[1] and int(one[2]) <= int(other[2]):
+        numbers = range(int(one[2]), int(other[2]) + 1)
         width = len(one[2]) if one[2].startswith("0") else 1
-        return [one[1] + str(number).zfill(width) for number in range(int(one[2]), int(other[2]) + 1)]
-    if len(first) == len(last) == 1 and first.isalpha() and last.isalpha() and first.isupper() == last.isupper() and first <= last:
-        return [chr(code) for code in range(ord(first), ord(last) + 1)]
+        return [one[1] + str(number).zfill(width) for number in few(numbers, first, last)]
+    if len(first) == len(last) == 1 and first.isalpha() and last.isalpha() and first <= last:
+        letters = [chr(code) for code in few(range(ord(first), ord(last) + 1), first, last)]
+        if all(letter.isalpha() and letter.isupper() == first.isupper() for letter in letters):
+            return letters
     raise Fault(f"`{first} .. {last}` can't be filled in: write the names out, or count days, months, numbers or letters upwards")
+
+
+def few(numbers: range, first: str, last: str) -> range:
+    """The numbers that stand for a range of names; a fault where they are more than any case has names."""
+    if len(numbers) > MOST_FILLED:
+        raise Fault(f"`{first} .. {last}` are {len(numbers)} names, and `..` fills in {MOST_FILLED} at most: a case has fewer")
+    return numbers
 
 
 def told_apart(text: str, known: Sequence[str], what: str) -> list[str]:

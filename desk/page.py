@@ -5,24 +5,40 @@ from __future__ import annotations
 import argparse
 import hashlib
 import os
+import re
 import shlex
-import tempfile
+from collections import Counter
 from collections.abc import Iterator, Sequence
 
+import beforehand
 import casefile
+import files
 import patterns
 import review
 import solver
 import views
+from files import journal_of, kept_of
+from foreseen import AGAIN, ALWAYS, CARRIED
 from markup import Html, element, joined
-from model import Ending, Fault, Values
+from model import Case, Ending, Fault, Values
 from picture import CLASH, Cells, Grid, Picture, grid_of, sentence
 from sentences import Sentence, grouped
 from session import Session
 from style import STYLE
-from talk import Program
+from talk import Clock, Program
 
+# how each page begins, by which desk knows its own
+START = '<!DOCTYPE html>\n<html lang="en"><head><meta charset="utf-8"><meta name="generator" content="desk">'
+# what a browser may do for a page: nothing but show it in its own style
+POLICY = "default-src 'none'; style-src 'unsafe-inline'"
+# how pages began before they had this mark: desk's title, and its own style right behind
+OLD_START = re.compile(rb'<!DOCTYPE html>\n<html lang="en"><head><meta charset="utf-8"><meta name="viewport" '
+                       rb'content="width=device-width, initial-scale=1"><title>[^<]*</title><style>\n'
+                       rb':root\{color-scheme:light dark;--ground:#ffffff;--text:#1c2330;')
+ENDS = (".case", ".journal", ".session", ".certificate")    # of files that are no pages
 MOST_PLANS = 4
+SECONDS_FOR_PLANS = 20.0    # that are looked for, all together
+SECONDS_FOR_BROKEN = 40.0   # for those that break one rule alone, all together
 MOST_COLUMNS = 10           # of a table on a page of paper; with more it is turned, or a list
 MOST_ROWS = 12              # of a list in one column
 
@@ -30,31 +46,37 @@ MOST_ROWS = 12              # of a list in one column
 def main(path: str, options: argparse.Namespace) -> int:
     """Writes the page of a case's session, and its certificate beside it."""
     case = casefile.read(path)
+    beside = os.path.splitext(options.file)[0] + ".certificate"
+    named_for_a_page(case.path, options.file)
+    files.may_be_replaced(options.file, is_page, "a page")
+    files.may_be_replaced(beside, is_certificate, "a certificate")
     with Session.opened(case, Program.found(options.acquire), make=False) as session:
+        if session.against():
+            raise Fault(beforehand.text(session))
         ending = session.state()
-        certificate = certified(session, ending, os.path.splitext(options.file)[0] + ".certificate")
-        written(options.file, page(session, ending, certificate).encode())
+        certificate = certified(session, ending, beside)
+        made = {certificate.name: certificate.content} if certificate else {}
+        files.write_all({**made, options.file: page(session, ending, certificate).encode()})
     print(f"written: {options.file}" + (f" and {certificate.name}" if certificate else ""))
     return 0
 
 
-def written(path: str, content: bytes) -> None:
-    """Writes a file whole, or leaves what was there; a fault where it can't be."""
-    folder = os.path.dirname(path) or "."
-    try:
-        handle, made = tempfile.mkstemp(dir=folder)
-        try:
-            with os.fdopen(handle, "wb") as file:
-                file.write(content)
-                file.flush()
-                os.fsync(file.fileno())
-            os.chmod(made, 0o644)
-            os.replace(made, path)
-        except BaseException:
-            os.unlink(made)
-            raise
-    except OSError as error:
-        raise Fault(f"{path}: {error.strerror}") from None
+def named_for_a_page(case: str, file: str) -> None:
+    """A fault where the page would be called as a case or as what lies beside one."""
+    own = [os.path.realpath(one) for one in (case, journal_of(case), kept_of(journal_of(case)))]
+    if os.path.realpath(file) in own or file.endswith(ENDS):
+        whose = "a case, its session or a certificate"
+        raise Fault(f"{file} is called as {whose} is, so no page is written there: name it {os.path.splitext(case)[0]}.html")
+
+
+def is_page(head: bytes) -> bool:
+    """Whether a file that begins so is a page of desk's, also one that was written before pages had their mark."""
+    return head.startswith(START.encode()) or OLD_START.match(head) is not None
+
+
+def is_certificate(head: bytes) -> bool:
+    """Whether a file that begins so is a certificate of the program's."""
+    return head.startswith(b"QUACQCERT")
 
 
 # ---------------------------------------------------------------- the certificate
@@ -63,20 +85,19 @@ class Certificate:
     """A file that another can check without trusting this session."""
 
     def __init__(self, name: str, content: bytes, program: str) -> None:
-        self.name = name
+        self.name, self.content = name, content
         self.digest = hashlib.sha256(content).hexdigest()
         self.command = f"{program} :memory: check < {shlex.quote(os.path.basename(name))}"
 
 
 def certified(session: Session, ending: Ending, name: str) -> Certificate | None:
-    """Writes the certificate of a session that has converged, where `check` confirms it."""
+    """The certificate of a session that has converged, where `check` confirms it."""
     if ending.word != "converged":
         return None
     reply = session.program.call([session.journal, "certify"])
     content = reply.text.encode()
     if reply.status != 0 or session.program.call([":memory:", "check"], content).status != 0:
         return None
-    written(name, content)
     return Certificate(name, content, "acquire")
 
 
@@ -86,14 +107,15 @@ def page(session: Session, ending: Ending, certificate: Certificate | None) -> s
     """The whole page."""
     done = ending.word == "converged"
     learned = ending.learned if done else () if ending.word == "collapsed" else tuple(session.learned())
-    found = grouped(session.vocabulary, learned, session.reduced() if done else None)
+    found = grouped(session.vocabulary, learned, session.reduced() if done else None, session.answers)
     ruled = () if ending.word == "collapsed" else (section("The rules" if done else "Rules so far", *rules(found)),
-                                                   *(plans(session, found) if done else ()), *pattern_view(session))
+                                                   *beside(session.case), *(plans(session, found) if done else ()), *pattern_view(session))
     body = joined(element("h1", session.case.title), element("p", state_text(session, ending), class_="dim"), *ruled, answers(session),
                   proof(certificate, ending.word))
-    head = joined(element("meta", charset="utf-8"), element("meta", name="viewport", content="width=device-width, initial-scale=1"),
+    head = joined(element("meta", http_equiv="Content-Security-Policy", content=POLICY),
+                  element("meta", name="viewport", content="width=device-width, initial-scale=1"),
                   element("title", session.case.title), element("style", Html(STYLE)))
-    return "<!DOCTYPE html>\n" + element("html", element("head", head), element("body", element("main", body)), lang="en") + "\n"
+    return START + head + "</head>" + element("body", element("main", body)) + "</html>\n"
 
 
 def section(title: str, *inside: str) -> Html:
@@ -104,16 +126,18 @@ def section(title: str, *inside: str) -> Html:
 def state_text(session: Session, ending: Ending) -> str:
     """How far the session is."""
     count = len(session.answers)
-    own = sum(answer.said is None for answer in session.answers)
+    by = Counter(answer.said.by if answer.said else "" for answer in session.answers)
     said = f"{count} answer{'s' if count != 1 else ''}"
-    if own != count:
-        said += f", {own} of them given one by one and {count - own} said beforehand or carried over"
+    if by[""] != count:
+        said += f", {by['']} of them given one by one"
+        said += f", {by[AGAIN]} again as before you went back" if by[AGAIN] else ""
+        said += f", {by[ALWAYS] + by[CARRIED]} said beforehand or carried over" if by[ALWAYS] + by[CARRIED] else ""
     if ending.word == "converged":
         return f"Nothing is left open that the words of the case can say, after {said}."
     if ending.word == "collapsed":
         return f"The answers clash: no rules agree with all of them. There are {said}."
     possible = session.possible
-    return f"Not finished: {said} so far; settled {possible.settled} of {possible.total}, at most {possible.most} more questions."
+    return f"Not finished: {said} so far; {possible.progress}."
 
 
 def rules(found: Sequence[Sentence]) -> Iterator[Html]:
@@ -130,6 +154,16 @@ def rule(said: Sentence) -> Html:
     return element("li", said.text, *([element("span", mark, class_="dim")] if mark else []))
 
 
+def beside(case: Case) -> Iterator[Html]:
+    """What the case says beside its rules, in the person's own words."""
+    if case.known:
+        yield section("Said, not learned", element("p", "These were never asked about. Sample plans keep them.", class_="dim"),
+                      element("ul", *(element("li", one.text) for one in case.known), class_="rules"))
+    if case.notes:
+        yield section("Notes", element("p", "These are for people alone; no plan was held against them.", class_="dim"),
+                      element("ul", *(element("li", note) for note in case.notes), class_="rules"))
+
+
 # ---------------------------------------------------------------- plans
 
 def plans(session: Session, found: Sequence[Sentence]) -> Iterator[Html]:
@@ -137,22 +171,24 @@ def plans(session: Session, found: Sequence[Sentence]) -> Iterator[Html]:
     if solver.name() is None:
         yield section("Plans", element("p", "None are drawn, since no SAT solver is installed: cadical, minisat or clasp."))
         return
-    some = solver.far(session.program, session.vocabulary, session.journal, MOST_PLANS)
+    some = solver.far(session.program, session.vocabulary, session.journal, MOST_PLANS,
+                      Clock(SECONDS_FOR_PLANS))
     shown = [drawn(session, plan.values, f"Plan {number}{review.apart_text(plan)}") for number, plan in enumerate(some, 1)]
     hint = element("p", "If one of these is wrong, an answer was a slip, or the words of the case can't say why.", class_="dim")
     yield section("Plans that the rules allow", hint,
                   element("div", *shown, class_="side") if shown else element("p", "No plan was found that satisfies all rules."))
     clauses = solver.clauses_of(session.program, session.vocabulary, session.journal)
+    clock = Clock(SECONDS_FOR_BROKEN)
     broken, without = [], []
     for said in found:
-        one = review.broken_alone(session, said, found, clauses)
+        one = review.broken_alone(session, said, found, clauses, clock)
         if one is None:
             without.append(rule(said))
         else:
             broken.append(drawn(session, one.values, f"Refused: {one.rule.text}", one.marks))
     if broken:
-        hint = element("p", "Each of these plans breaks one rule, in the marked cells, and keeps all others. If one is right, an answer was a slip.",
-                       class_="dim")
+        hint = element("p", "Each of these plans breaks one rule, in the marked cells, and keeps all others. If one is right, an answer was a slip, "
+                       "or the words of the case can't say why.", class_="dim")
         yield section("What each rule alone refuses", hint, element("div", *broken, class_="side"))
     if without:
         yield section("Rules that no plan was found to break alone", element("ul", *without, class_="rules"))
@@ -214,7 +250,8 @@ def pattern_view(session: Session) -> Iterator[Html]:
         lines = [element("tr", element("th", row.name, scope="row"), *(pattern_cell(row, member) for member in range(len(members))))
                  for row in mine]
         tables.append(element("table", element("thead", head), element("tbody", *lines), class_="plan pattern"))
-    hint = element("p", "A marked cell is other than most of its row. That may be right; if it isn't, an answer was a slip.", class_="dim")
+    hint = element("p", "A marked cell is other than most of its row. That may be right; if it isn't, an answer was a slip, or the words "
+                   "of the case can't say it.", class_="dim")
     yield section("The rules along the grid", hint, *(element("div", one, class_="wide") for one in tables))
 
 

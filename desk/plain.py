@@ -6,16 +6,17 @@ import sys
 from typing import TextIO
 
 from face import Sheet, keys_text
-from picture import CHANGED, CLASH, Picture
+from picture import CHANGED, CHOSEN, CLASH, KEPT, Picture
 
-SAID = {CHANGED: " (changed)", CLASH: " (this breaks it)"}
+SAID = {CHANGED: " (changed)", CLASH: " (this breaks it)", KEPT: " (this keeps it)", CHOSEN: " (chosen)"}
 WORDS = {"yes": "y", "no": "n", "back": "b", "quit": "q", "stop": "q", "help": "?"}
 
 
 def picture_lines(picture: Picture) -> list[str]:
     """A line for each thing that has a value; what has changed is said in words."""
     case = picture.case
-    return [f"{case.things[thing].name}: {case.label(picture.values[thing])}{SAID.get(picture.marks.get(thing, ''), '')}"
+    keys = {thing: f"{letter}  " for thing, letter in picture.letters.items()}
+    return [f"{keys.get(thing, '')}{case.things[thing].name}: {case.label(picture.values[thing])}{SAID.get(picture.marks.get(thing, ''), '')}"
             for thing in sorted(picture.values)]
 
 

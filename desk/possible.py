@@ -1,13 +1,14 @@
 """What the answers leave open, group by group: counts, bounds and hints, and never a result.
 
-A candidate is a relation on a scope. It is possible as long as no accepted example violates it, and, where the scope alone was
-refused, it rejects what was refused there. On each scope the possible candidates are the bits of a number. An answer changes
-the numbers of the scopes that it is about, and the sums over all scopes are kept in step, so nothing is counted anew.
+A candidate is a relation on a scope. It is possible as long as no accepted example violates it,
+and, where the scope alone was refused, it rejects what was refused there. On each scope the
+possible candidates are the bits of a number. An answer changes the numbers of the scopes that it is
+about, and the sums over all scopes are kept in step, so nothing is counted anew.
 """
 
 from __future__ import annotations
 
-from collections.abc import Iterator
+from collections.abc import Iterable, Iterator
 from dataclasses import dataclass
 
 from model import Rule, Values
@@ -27,18 +28,21 @@ class _Scope:
 class Possible:
     """The candidates that the answers leave, kept from answer to answer.
 
-    **The bound.** After any answers, `most` is at least the number of questions that can still come, in each plan.
-    Let L be the number of possible candidates on a scope, a its length, and n the number of things.
+    **The bound.** After any answers, `most` is at least the number of questions that can still
+    come, in each plan. Let L be the number of possible candidates on a scope, a its length, and n
+    the number of things.
 
-    - A scope of which an example alone was refused needs one of its L candidates. Each question that is about it alone takes
-      one away at least, by either answer, and one stays: L - 1 questions.
-    - Another scope takes L questions about it in plan `scopes`: each yes takes a candidate away, and the first no leaves at
-      least as many questions fewer.
-    - In plans `quacq` and `multi` an accepted example takes away a candidate of some scope. A refused one begins a search,
-      which is one question and at most a times the halvings of n until one is left, and ends at a scope which is then refused
-      alone. So a scope that isn't needed yet costs L + a * lg n + 1, and a scope without possible candidates nothing.
+    - A scope of which an example alone was refused needs one of its L candidates. Each question
+    that is about it alone takes one away at least, by either answer, and one stays: L - 1
+    questions. - Another scope takes L questions about it in plan `scopes`: each yes takes a
+    candidate away, and the first no leaves at least as many questions fewer. - In plans `quacq` and
+    `multi` an accepted example takes away a candidate of some scope. A refused one begins a search,
+    which is one question and at most a times the halvings of n until one is left, and ends at a
+    scope which is then refused alone. So a scope that isn't needed yet costs L + a * lg n + 1, and
+    a scope without possible candidates nothing.
 
-    A search that is under way ends at a scope that isn't needed yet, whose whole share still counts.
+    A search that is under way ends at a scope that isn't needed yet, whose whole share still
+    counts.
     """
 
     def __init__(self, vocabulary: Vocabulary, plan: str) -> None:
@@ -57,7 +61,18 @@ class Possible:
             self._by_last.setdefault(scope.things[-1], []).append(scope)
         self.total = sum(scope.every.bit_count() for scope in self._scopes)
         self._unsettled = self.total
+        self._unfinished = sum(self._share(scope)[0] > 0 for scope in self._scopes)
         self.most = sum(self._share(scope)[1] for scope in self._scopes)
+
+    @property
+    def finished(self) -> int:
+        """On how many of the groups nothing is open any more."""
+        return len(self._scopes) - self._unfinished
+
+    @property
+    def progress(self) -> str:
+        """How far it is, for people."""
+        return (f"{self.finished} of {len(self._scopes)} groups finished; at most {self.most} more question{'s' if self.most != 1 else ''}")
 
     @property
     def settled(self) -> int:
@@ -126,6 +141,7 @@ class Possible:
         scope.left, scope.needed = left, needed
         now_unsettled, now_most = self._share(scope)
         self._unsettled += now_unsettled - unsettled
+        self._unfinished += (now_unsettled > 0) - (unsettled > 0)
         self.most += now_most - most
 
     def back(self) -> None:
@@ -134,13 +150,27 @@ class Possible:
         for scope, left, needed in reversed(self._undo.pop()):
             self._set(scope, left, needed)
 
+    def taught(self, places: Iterable[int]) -> Iterator[tuple[tuple[int, ...], int]]:
+        """The scopes on which refused answers at these places have settled a rule, each with what
+        the rule accepts there. It looks at what these answers have changed and at nothing else."""
+        before: dict[tuple[int, ...], tuple[_Scope, int, bool]] = {}
+        for place in places:
+            if not self.answers[place][1]:
+                for scope, left, needed in self._undo[place]:
+                    before.setdefault(scope.things, (scope, left, needed))
+        for things, (scope, left, needed) in before.items():
+            if _says(scope.left, scope.needed) and not _says(left, needed):
+                tables = self.vocabulary.closings[len(things)].tables
+                yield things, tables[scope.left.bit_length() - 1] & self.vocabulary.inside(things)
+
     def open(self, things: tuple[int, ...]) -> bool:
         """Whether it isn't settled yet which candidate holds on a scope, or whether one does."""
         scope = next(scope for scope in self._by_last[things[-1]] if scope.things == things)
         return self._share(scope)[0] > 0
 
     def at_stake(self, values: Values, most: int = 8) -> list[Rule]:
-        """The plainest rules that a yes to these values rules out, and that are open; at most so many."""
+        """The plainest rules that a yes to these values rules out, and that are open; at most so
+        many."""
         found: dict[tuple[str, tuple[int, ...]], Rule] = {}
         for scope, accepting in self._within(values):
             if not scope.left & ~accepting or (scope.needed and scope.left.bit_count() == 1):
@@ -160,9 +190,10 @@ class Possible:
     def clash(self) -> list[int]:
         """The refused answers that no possible rule explains, by their places.
 
-        Candidates of a scope are closed under intersection, so of those that no accepted example violates the strongest
-        rejects all that any of them rejects. Some network agrees with all answers exactly where on each refused example some
-        scope has a candidate left that rejects it.
+        Candidates of a scope are closed under intersection, so of those that no accepted example
+        violates the strongest rejects all that any of them rejects. Some network agrees with all
+        answers exactly where on each refused example some scope has a candidate left that rejects
+        it.
         """
         open_by = self._open_by_yes()
         return [k for k, (values, yes) in enumerate(self.answers) if not yes and not self._explained(values, open_by)]
@@ -181,11 +212,13 @@ class Possible:
         return any(open_by[scope.things] & ~accepting for scope, accepting in self._within(values))
 
     def suspects(self) -> list[int]:
-        """The answers of which one alone, turned round, lets some network agree with all; the latest first.
+        """The answers of which one alone, turned round, lets some network agree with all; the
+        latest first.
 
-        A no that isn't explained is accepted by each candidate that is left, so turned into a yes it takes none away: it is a
-        suspect where it is the only such one, and no other no is. A yes that becomes a no gives back on each scope the candidates
-        that it alone had ruled out; these have to explain it and each unexplained one.
+        A no that isn't explained is accepted by each candidate that is left, so turned into a yes
+        it takes none away: it is a suspect where it is the only such one, and no other no is. A yes
+        that becomes a no gives back on each scope the candidates that it alone had ruled out; these
+        have to explain it and each unexplained one.
         """
         clash = self.clash()
         found = self._guilty_yes(clash) if clash else []
@@ -215,3 +248,8 @@ class Possible:
                     again[scope.things] |= once[scope.things] & gone
                     once[scope.things] |= gone
         return {things: bits & ~again[things] for things, bits in once.items()}
+
+
+def _says(left: int, needed: bool) -> bool:
+    """Whether a scope has a rule, and it is known which."""
+    return needed and left.bit_count() == 1

@@ -2,31 +2,38 @@
 
 from __future__ import annotations
 
+import contextlib
+import locale
+import sys
+import termios
 import time
 from collections.abc import Iterator
-from dataclasses import dataclass
+from dataclasses import dataclass, replace
 
 from rich.console import Console
 from rich.control import Control
 from rich.segment import Segment, SegmentLines
 from rich.text import Text
 
+from drawing import Lines, pages
 from face import Block, Sheet, keys_text
 from keys import ENDED, RESIZED, Keyboard
-from picture import Lines, Picture, pages, plan_lines
+from picture import Picture
 
-__all__ = ["Screen", "plan_lines"]
-
-LEAST_BODY = 3      # lines; where there are fewer, what stands below the body gives way
+LEAST_BODY = 3      # lines of the body that a page has room for at least, where the whole takes more
+# what stands on a screen that is too small for a sheet: the first of these that fits
+TOO_SMALL = ("The window is too small. Make it larger, or press q to stop.", "The window is too small; q stops.", "too small", "small")
 
 
 @dataclass(frozen=True)
-class Frame:
-    """The lines around the body of a sheet."""
+class Layout:
+    """A sheet at the size of a screen. It has no pages where the screen is too small for it."""
 
+    size: tuple[int, int]       # columns and lines
     head: Lines
+    pages: list[Lines]          # the body, cut where the screen ends
     under: Lines
-    foot: Lines
+    foot: Lines                 # above the keys; a message takes its place
 
 
 class Screen:
@@ -45,8 +52,9 @@ class Screen:
         """Leaves the terminal as it was."""
         if not self.closed:
             self.closed = True
-            self._leave()
-            self.keyboard.__exit__()
+            with contextlib.suppress(OSError, termios.error):       # the terminal may be gone
+                self._leave()
+                self.keyboard.__exit__()
 
     def _enter(self) -> None:
         """On to the screen that is drawn on."""
@@ -65,26 +73,31 @@ class Screen:
         self.console.print(Text(text, style="dim", no_wrap=True), end="", overflow="ellipsis")
 
     def put(self, sheet: Sheet) -> str:
-        """Shows a sheet, page by page where it doesn't fit, and waits for one of its keys."""
-        page, seen, message = 0, {0}, ""
+        """Shows a sheet, page by page where it doesn't fit, and waits for one of its keys.
+
+        A key counts for what is drawn when it comes. On a screen that is too small for the sheet none but q counts.
+        """
+        page, seen, message = 0, set[int](), ""
         shown = time.monotonic()
-        self._draw(sheet, page, message)
+        layout = self._layout(sheet)
         while True:
-            key = self.keyboard.read_after(shown)
-            if key == ENDED:
+            if layout.size != self.console.size:
+                layout, seen = self._layout(sheet), set()
+            count = len(layout.pages)
+            page = min(page, max(count - 1, 0))
+            seen.add(page)
+            self._draw(sheet, layout, page, message)
+            key, message = self.keyboard.read_after(shown), ""
+            if key == ENDED or (not count and key == "q"):
                 return "q"
-            count = len(self._pages(sheet, self._frame(sheet, message)))
-            page, message = min(page, count - 1), ""
             if key == RESIZED:
-                seen = {page}
-            elif key in " \t" and (count > 1 or "" not in dict(sheet.keys)):
+                seen = set()
+            elif count and key in " \t" and (count > 1 or "" not in dict(sheet.keys)):
                 page = (page + 1) % count
-                seen.add(page)
-            else:
+            elif count:
                 taken, message = self._taken(sheet, key, len(seen) >= count)
                 if taken is not None:
                     return taken
-            self._draw(sheet, page, message)
 
     def _taken(self, sheet: Sheet, key: str, all_seen: bool) -> tuple[str | None, str]:
         """The key of the sheet that was pressed, or None and why it isn't taken."""
@@ -95,50 +108,74 @@ class Screen:
         if key not in keys:
             return None, f"{key if key.isprintable() else 'that'} isn't one of the keys"
         if key in sheet.whole and not all_seen:
-            return None, "look at all of it first: space shows more"
+            return None, "look at all first: space shows more"
         return key, ""
 
     # ---- drawing
 
-    def _draw(self, sheet: Sheet, page: int, message: str) -> None:
-        """One page of a sheet, over whatever the screen shows."""
-        width, height = self.console.size
-        frame = self._frame(sheet, message)
-        parts = self._pages(sheet, frame)
-        lines = frame.head + parts[page] + frame.under
-        foot = frame.foot + self._text(self._keys(sheet, page, len(parts)), "reverse")
-        spare = height - len(lines) - len(foot)
-        if spare > 1 and frame.under:
-            lines[len(lines) - len(frame.under):len(lines) - len(frame.under)] = [[]]
-            spare -= 1
-        lines += [[] for _ in range(spare)]
-        lines += foot
+    def _draw(self, sheet: Sheet, layout: Layout, page: int, message: str) -> None:
+        """One page of a sheet, over whatever the screen shows; a message stands in the place of the foot."""
+        width, height = layout.size
+        if not layout.pages:
+            self._print(self._too_small(height), width, height)
+            return
+        lines = layout.head + layout.pages[page]
+        said = self._text(message, "bold")[:len(layout.foot)] if message else layout.foot
+        foot = [[] for _ in layout.foot[len(said):]] + said + self._text(self._keys(sheet, page, len(layout.pages)), "reverse")
+        spare = height - len(lines) - len(layout.under) - len(foot)
+        above: Lines = [[]] if spare > 1 and layout.under else []
+        lines = lines + above + layout.under
+        self._print(lines + [[] for _ in range(height - len(lines) - len(foot))] + foot, width, height)
+
+    def _print(self, lines: Lines, width: int, height: int) -> None:
+        """Exactly so many lines of this width."""
         shaped = Segment.set_shape(lines[:height], width, height)
         with self.console:
             self.console.control(Control.home())
             self.console.print(SegmentLines(shaped[:-1], new_lines=True), end="")
             self.console.print(SegmentLines(shaped[-1:]), end="")
 
-    def _frame(self, sheet: Sheet, message: str) -> Frame:
-        """What stands around the body; the lines of the keys come last."""
-        under = [line for text in filter(None, (sheet.legend, *sheet.under)) for line in self._text(text)]
-        foot = [line for text in sheet.foot for line in self._text(text)]
-        return Frame(self._text(sheet.head, "bold"), under, foot + (self._text(message, "bold") if message else []))
+    def _too_small(self, height: int) -> Lines:
+        """That the window is too small, in as many words as it has room for."""
+        said = [self._text(text, "bold") for text in TOO_SMALL]
+        return next((lines for lines in said if len(lines) <= height), said[-1])
 
-    def _pages(self, sheet: Sheet, frame: Frame) -> list[Lines]:
-        """The body of a sheet, cut where the screen ends; a picture is cut only where it is higher than the screen."""
-        width, height = self.console.size
-        rest = height - len(frame.head) - len(frame.under) - len(frame.foot)
-        for count in (1, 2):            # what is said of further pages takes room itself
-            room = max(LEAST_BODY, rest - len(self._text(self._keys(sheet, 0, count))))
-            cut: list[Lines] = [[]]
-            for block in sheet.blocks:
-                for unit in self._units(block, width, room, len(cut[-1])):
-                    if cut[-1] and len(cut[-1]) + len(unit) > room:
-                        cut.append([])
-                    cut[-1] = cut[-1] + unit
-            if len(cut) == 1:
-                break
+    def _layout(self, sheet: Sheet) -> Layout:
+        """A sheet at the size of the screen. What stands around the body gives way where it has no room: the foot first, then
+        what marks mean, then what happened. The last text below the body, which says what is asked, and the head stay."""
+        head, under = self._text(sheet.head, "bold"), [self._text(text) for text in (*filter(None, [sheet.legend]), *sheet.under)]
+        foot = [line for text in sheet.foot for line in self._text(text)]
+        least: Lines = [] if "" in dict(sheet.keys) else [[]]       # a message has a line
+        for first, below in [(foot or least, 0)] + [(least, gone) for gone in range(max(1, len(under)))]:
+            made = Layout(self.console.size, head, [], [line for lines in under[below:] for line in lines], first)
+            cut = self._pages(sheet, made)
+            if cut:
+                return replace(made, pages=cut)
+        return Layout(self.console.size, [], [], [], [])
+
+    def _pages(self, sheet: Sheet, around: Layout) -> list[Lines]:
+        """The body of a sheet, cut where the screen ends; a picture is cut only where it is higher than the screen. No pages
+        where the whole isn't one and they would have less than the least room."""
+        width, height = around.size
+        rest = height - len(around.head) - len(around.under) - len(around.foot)
+        count = 1
+        while True:             # what is said of further pages takes room itself
+            room = rest - len(self._text(self._keys(sheet, count - 1, count)))
+            if room < (LEAST_BODY if count > 1 else 1):
+                return []
+            cut = self._cut(sheet, width, room)
+            if len(cut) <= count:
+                return cut
+            count = len(cut)
+
+    def _cut(self, sheet: Sheet, width: int, room: int) -> list[Lines]:
+        """The body of a sheet on pages of so many lines."""
+        cut: list[Lines] = [[]]
+        for block in sheet.blocks:
+            for unit in self._units(block, width, room, len(cut[-1])):
+                if cut[-1] and len(cut[-1]) + len(unit) > room:
+                    cut.append([])
+                cut[-1] = cut[-1] + unit
         return cut
 
     def _units(self, block: Block, width: int, room: int, used: int) -> Iterator[Lines]:
@@ -164,3 +201,19 @@ class Screen:
             if len(between.join(words)) <= self.console.width:
                 return between.join(words)
         return "  ".join(keys_text(sheet.keys, 2) + [f"space {page + 1}/{count}"] * bool(more))
+
+
+def opened() -> Screen:
+    """The screen of the terminal that is there, which is drawn in ASCII where the locale has no more."""
+    plain = not locale.nl_langinfo(locale.CODESET).upper().replace("-", "").startswith("UTF8")
+    console = (AsciiConsole if plain else Console)(highlight=False, markup=False, emoji=False)
+    return Screen(console, Keyboard(sys.stdin.fileno()))
+
+
+class AsciiConsole(Console):
+    """A console that draws lines in ASCII. Names are printed as they are all the same."""
+
+    @property
+    def encoding(self) -> str:
+        """What can be drawn."""
+        return "ascii"

@@ -7,21 +7,22 @@ at here as well. Solutions aren't counted.
 
 from __future__ import annotations
 
+import dataclasses
 import itertools
 import os
+import re
 import shutil
-import subprocess
 import tempfile
 from collections.abc import Iterable, Sequence
 from dataclasses import dataclass
 
-from model import Rule, Values
-from talk import Program
+from model import Count, Rule, Values
+from talk import Clock, Endless, Late, Program, called, something_else
 from vocabulary import Vocabulary
 
 # the words behind a solver's name; minisat writes its model to a file, the others print it
 SOLVERS = {"cadical": ("-q",), "minisat": ("-verb=0",), "clasp": ("--verbose=0",)}
-SATISFIABLE = 10
+SATISFIABLE = (10, 30)      # clasp says 30 where it has found all
 SECONDS = 5.0               # for one call
 MOST_LITERALS = 4_000_000   # of all clauses together; above it no solver is asked
 
@@ -52,28 +53,35 @@ class Clauses:
         return [self.number[pair] for pair in sorted(values.items())]
 
 
-def clauses_of(program: Program, vocabulary: Vocabulary, journal: str) -> Clauses | None:
-    """What `cnf` prints of a journal; None where it is refused."""
-    reply = program.call([journal, "cnf"])
+def clauses_of(program: Program, vocabulary: Vocabulary, journal: str, clock: Clock | None = None) -> Clauses | None:
+    """What `cnf` prints of a journal; None where it is refused, or isn't there in time."""
+    try:
+        reply = program.call([journal, "cnf"], clock=clock)
+    except Late:
+        return None
     if reply.status != 0:
         return None
     number: dict[tuple[int, int], int] = {}
     found: list[Clause] = []
     for line in reply.lines:
-        words = line.split()
-        if words[0] == "c":
-            number[next(iter(vocabulary.values_of([words[1]]).items()))] = int(words[2])
-        elif words[0] != "p":
-            found.append(tuple(map(int, words[:-1])))
+        head, *words = line.split() or [""]
+        try:
+            if head == "c":
+                number[next(iter(vocabulary.values_of(words[:1]).items()))] = int(words[1])
+            elif head != "p":
+                found.append(tuple(map(int, [head, *words[:-1]])))
+        except (IndexError, StopIteration, ValueError):
+            raise something_else(f"`{line}`") from None
     things = {thing for thing, _ in number}
     sizes = [sum(thing == other for other, _ in number) for thing in things]
     return Clauses(number, len(number), tuple(found), len(things) + sum(size * (size - 1) // 2 for size in sizes))
 
 
-def solved(count: int, clauses: Sequence[Clause]) -> set[int] | None:
+def solved(count: int, clauses: Sequence[Clause], clock: Clock | None = None) -> set[int] | None:
     """The true Booleans of a model; None where there is none, where the solver takes too long, or where none is installed."""
     solver = name()
-    if solver is None or sum(map(len, clauses)) > MOST_LITERALS:
+    own = Clock(SECONDS) if clock is None else clock.within(SECONDS)
+    if solver is None or sum(map(len, clauses)) > MOST_LITERALS or own.over:
         return None
     with tempfile.TemporaryDirectory() as folder:
         given, made = os.path.join(folder, "clauses"), os.path.join(folder, "model")
@@ -82,27 +90,29 @@ def solved(count: int, clauses: Sequence[Clause]) -> set[int] | None:
             file.writelines(" ".join(map(str, clause)) + " 0\n" for clause in clauses)
         words = [solver, *SOLVERS[solver], given, *([made] if solver == "minisat" else [])]
         try:
-            ran = subprocess.run(words, capture_output=True, text=True, check=False, stdin=subprocess.DEVNULL, timeout=SECONDS)
-        except (subprocess.TimeoutExpired, OSError):
+            status, printed = called(words, clock=own)
+            if solver == "minisat" and status in SATISFIABLE:
+                with open(made, "rb") as model:
+                    printed = model.read()
+        except (Late, Endless, OSError):
             return None
-        if ran.returncode % 20 != SATISFIABLE:      # clasp says 30 where it has found all
-            return None
-        if solver == "minisat":
-            with open(made, encoding="ascii") as file:
-                return _true(file.read())
-        return _true(ran.stdout)
+        return _true(printed) if status in SATISFIABLE else None
 
 
-def _true(text: str) -> set[int]:
-    """The positive numbers of a solver's model."""
-    lines = [line.split() for line in text.splitlines() if line[:1] not in ("c", "s", "S", "U")]
-    return {int(word) for words in lines for word in words if word.isdigit() and word != "0"}
+def _true(printed: bytes) -> set[int]:
+    """The positive numbers of a solver's model; what else it prints is passed over."""
+    lines = [line.split() for line in printed.decode(errors="replace").splitlines() if line[:1] not in ("c", "s", "S", "U")]
+    return {int(word) for words in lines for word in words if re.fullmatch("[1-9][0-9]{0,8}", word)}
 
 
-def checked(program: Program, vocabulary: Vocabulary, journal: str, clauses: Clauses, true: set[int]) -> Values | None:
-    """The plan of a solver's model as `acquire JOURNAL model` prints it; None where that refuses it."""
+def checked(program: Program, vocabulary: Vocabulary, journal: str, clauses: Clauses, true: set[int],
+            clock: Clock | None = None) -> Values | None:
+    """The plan of a solver's model as `acquire JOURNAL model` prints it; None where that refuses it, or takes too long."""
     booleans = " ".join(str(boolean) for boolean in sorted(true) if boolean <= clauses.count)
-    reply = program.call([journal, "model"], f"v {booleans} 0\n".encode())
+    try:
+        reply = program.call([journal, "model"], f"v {booleans} 0\n".encode(), clock)
+    except Late:
+        return None
     if reply.status != 0 or not reply.lines or not reply.lines[0].startswith("solution"):
         return None
     return vocabulary.values_of(reply.lines[0].split()[1:])
@@ -118,29 +128,59 @@ class Plan:
     apart: int | None           # None of the first one
 
 
-def plans(program: Program, vocabulary: Vocabulary, journal: str, most: int) -> list[Values]:
-    """Plans that the learned rules of a journal allow, far from each other; fewer where no more are found."""
-    return [plan.values for plan in far(program, vocabulary, journal, most)]
+def plans(program: Program, vocabulary: Vocabulary, journal: str, most: int, clock: Clock | None = None) -> list[Values]:
+    """Plans that the learned rules of a journal allow, far from each other; fewer where no more are found, in time."""
+    return [plan.values for plan in far(program, vocabulary, journal, most, clock)]
 
 
-def far(program: Program, vocabulary: Vocabulary, journal: str, most: int) -> list[Plan]:
+def far(program: Program, vocabulary: Vocabulary, journal: str, most: int, clock: Clock | None = None) -> list[Plan]:
     """Such plans with their distances: each differs from those before in as many values as any plan does that the solver
     finds in its time."""
-    clauses = clauses_of(program, vocabulary, journal)
+    clauses = clauses_of(program, vocabulary, journal, clock)
+    wanted = None if clauses is None else with_known(clauses, vocabulary)
     found: list[Plan] = []
-    while clauses is not None and len(found) < most:
-        true, apart = _farthest(clauses, [plan.values for plan in found])
-        values = None if true is None else checked(program, vocabulary, journal, clauses, true)
+    while clauses is not None and wanted is not None and len(found) < most:
+        if clock is not None:
+            clock.doing(f"looking for plan {len(found) + 1} of {most}")
+        true, apart = _farthest(wanted, [plan.values for plan in found], clock)
+        values = None if true is None else checked(program, vocabulary, journal, clauses, true, clock)
         if values is None:
             break
         found.append(Plan(values, apart))
     return found
 
 
-def _farthest(clauses: Clauses, before: list[Values]) -> tuple[set[int] | None, int | None]:
+def with_known(clauses: Clauses, vocabulary: Vocabulary) -> Clauses:
+    """The clauses with those that say what the person knows and isn't asked about. The Booleans that they need come last."""
+    made, count = list(clauses.clauses), clauses.count
+    for known in vocabulary.case.known:
+        for rule in known.rules:
+            made += rejected(clauses, rule)
+        for one in known.counts:
+            more, count = counted(clauses, one, count)
+            made += more
+    return Clauses(clauses.number, count, tuple(made), clauses.own)
+
+
+def counted(clauses: Clauses, count: Count, last: int) -> tuple[list[Clause], int]:
+    """A count as clauses, and how many Booleans there are then; each thing has exactly one value."""
+    literals = [number for (thing, value), number in clauses.number.items() if thing in count.things and value in count.values]
+    made: list[Clause] = []
+    if count.most < len(literals):
+        more, last = at_least(literals, len(literals) - count.most, last)
+        made += more
+    if count.least > len(literals):
+        return [(1,), (-1,)], last      # no plan has so many
+    if count.least:
+        more, last = at_least([-literal for literal in literals], count.least, last)
+        made += more
+    return made, last
+
+
+def _farthest(clauses: Clauses, before: list[Values], clock: Clock | None = None) -> tuple[set[int] | None, int | None]:
     """The model that differs most from some plans, by halving, and in how many values."""
     if not before:
-        return solved(clauses.count, clauses.clauses), None
+        return solved(clauses.count, clauses.clauses, clock), None
     low, high = 0, len(before[0])       # a plan that differs in `low` values was found, none in more than `high`
     best: set[int] | None = None
     while low < high:
@@ -149,7 +189,7 @@ def _farthest(clauses: Clauses, before: list[Values]) -> tuple[set[int] | None, 
         for values in before:
             more, count = at_least(clauses.literals(values), middle, count)
             extra += more
-        true = solved(count, extra)
+        true = solved(count, extra, clock)
         reached = -1 if true is None else min(_distance(clauses.values(true), values) for values in before)
         if reached < middle:            # also where a solver says what isn't so
             high = middle - 1
@@ -181,18 +221,19 @@ def at_least(literals: Sequence[int], least: int, count: int) -> tuple[list[Clau
 # ---------------------------------------------------------------- a plan that breaks one rule
 
 def breaking(program: Program, vocabulary: Vocabulary, journal: str, rule: Rule, others: Sequence[Rule],
-             clauses: Clauses | None = None) -> Values | None:
-    """A plan that breaks a rule and keeps the others; None where the solver finds none.
+             clauses: Clauses | None = None, clock: Clock | None = None) -> Values | None:
+    """A plan that breaks a rule and keeps the others; None where the solver finds none in time.
 
     `rule` and `others` are all rules that were learned, so the plan is refused for this one alone."""
-    clauses = clauses or clauses_of(program, vocabulary, journal)
-    if clauses is None:
+    clauses = clauses or clauses_of(program, vocabulary, journal, clock)
+    if clauses is None or clock is not None and clock.over:
         return None
-    extra = list(clauses.clauses[:clauses.own])
+    wanted = with_known(dataclasses.replace(clauses, clauses=clauses.clauses[:clauses.own]), vocabulary)
+    extra = list(wanted.clauses)
     for other in others:
         extra += rejected(clauses, other)
-    picks, count = _one_of(clauses, rule)
-    true = solved(count, extra + picks)
+    picks, count = _one_of(wanted, rule)
+    true = solved(count, extra + picks, clock)
     if true is None:
         return None
     values = clauses.values(true)

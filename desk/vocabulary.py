@@ -18,11 +18,16 @@ import coding
 import names
 from closing import Closing, Relation
 from coding import MOST_BY_ARITY, Coding
-from model import MOST_RELATIONS, Case, Constraint, Fault, Group, Rule, Values, Word
+from model import MOST_RELATIONS, Case, Constraint, Fault, Group, Question, Rule, Values, Word
+from talk import is_question, something_else
 
 MOST_SCOPES = 8192          # of the program
 MOST_BYTES = 4_194_304      # of the program
+ALL_OF = {2: "all", 3: "all triples", 4: "all fours"}
+MOST_TRIED = 20             # words of which it is looked for which to drop
 SPEAKS_OF = {1: "never V", 2: "different", 3: "all three different", 4: "all four different"}
+
+NOT_ASKED = "write `known` in place of `always`: sample plans keep it then, and it isn't asked about"
 
 # a word at places of a group, as `never Ann` at its second place
 Lifted = tuple[Word, tuple[int, ...]]
@@ -70,12 +75,27 @@ class Vocabulary:
         return [f"{self.names[thing]}={self.number(thing, value)}" for thing, value in sorted(values.items())]
 
     def values_of(self, tokens: list[str]) -> Values:
-        """The way back."""
+        """The way back; a fault where a token isn't one that the program has."""
         found = {}
         for token in tokens:
             name, _, number = token.rpartition("=")
+            if name not in self._place or not number.isdecimal() or not 1 <= int(number) <= self.coding.size:
+                raise something_else(f"`{token}`")
             found[self._place[name]] = self.coding.value_of[int(number) - 1]
         return found
+
+    def asked(self, line: str) -> Question | None:
+        """The question of a line, without an answer behind it; None of another line."""
+        head, *tokens = line.split() or [""]
+        return Question(int(head[1:]), self.values_of(tokens)) if is_question(head) else None
+
+    def answered(self, line: str) -> tuple[Question, bool] | None:
+        """The question of a line and the answer behind it; None of another line."""
+        head, _, answer = line.rpartition(" ")
+        question = self.asked(head)
+        if question is not None and answer not in ("yes", "no"):
+            raise something_else(f"`{line}`")
+        return None if question is None else (question, answer == "yes")
 
     def number(self, thing: int, value: int) -> int:
         """The program's number for a value of a thing."""
@@ -83,8 +103,11 @@ class Vocabulary:
 
     def constraint(self, line: str) -> Constraint:
         """A learned line."""
-        head, *variables = line.split()
-        return Constraint(line, tuple(self._place[name] for name in variables), tuple(head.split("&")))
+        head, *variables = line.split() or [""]
+        names_of = tuple(head.split("&"))
+        if not all(name in self._place for name in variables) or not all((len(variables), name) in self._by_name for name in names_of):
+            raise something_else(f"`{line}`")
+        return Constraint(line, tuple(self._place[name] for name in variables), names_of)
 
     def table(self, constraint: Constraint) -> int:
         """What a constraint accepts, within the ranges of its things."""
@@ -145,14 +168,17 @@ class Vocabulary:
         yield from self._lifts[len(scope)]
 
     def claims(self, constraint: Constraint) -> tuple[Rule, ...]:
-        """The fewest rules in the case's words that together say a constraint.
+        """The fewest rules in the case's words that together say a constraint."""
+        return self.fewest(constraint.scope, self.table(constraint))
+
+    def fewest(self, scope: tuple[int, ...], target: int) -> tuple[Rule, ...]:
+        """The fewest rules in the case's words that together accept on a scope what a table does.
 
         Of each size the first choice is taken, in the order of the words; from five rules on it is whatever is left after
         each rule has been dropped that the others say as well.
         """
-        target = self.table(constraint)
-        some = [(rule, table) for rule, table in self.rules_on(constraint.scope) if table & target == target]
-        inside = self.inside(constraint.scope)
+        some = [(rule, table) for rule, table in self.rules_on(scope) if table & target == target]
+        inside = self.inside(scope)
         for count in range(5):
             for chosen in itertools.combinations(some, count):
                 if _all_of(chosen, inside) == target:
@@ -166,6 +192,10 @@ class Vocabulary:
 
     def network(self, rules: Iterable[Rule]) -> list[list[str]]:
         """Rules as a network for `play`: on each scope the relations that together say those of them that may be learned there."""
+        return [self.item(scope, table) for scope, table in self.together(rules).items() if table != self.inside(scope)]
+
+    def together(self, rules: Iterable[Rule]) -> dict[tuple[int, ...], int]:
+        """On each scope what those of some rules accept together that may be learned there."""
         said: dict[tuple[int, ...], int] = {}
         choices: dict[tuple[int, ...], set[int]] = {}
         for rule in rules:
@@ -173,7 +203,7 @@ class Vocabulary:
                 if self._may_be_learned(rule, scope, choices):
                     places = tuple(scope.index(thing) for thing in rule.things)
                     said[scope] = said.get(scope, self.inside(scope)) & self._word_table(rule.word, places, len(scope))
-        return [self.item(scope, table) for scope, table in said.items() if table != self.inside(scope)]
+        return said
 
     def item(self, scope: tuple[int, ...], table: int) -> list[str]:
         """An item of a network: the relations that hold this table, and the scope."""
@@ -293,7 +323,8 @@ class Vocabulary:
                             f"one that does is `{SPEAKS_OF[arity]}`")
         for word in case.words:
             if not word.things and word.arity > max(self.arities):
-                raise Fault(f"{path}: `{word.text}` speaks of {word.arity} things, and `ask` puts no more than {max(self.arities)} together")
+                raise Fault(f"{path}: `{word.text}` speaks of {word.arity} things, and `ask` puts no more than {max(self.arities)} together: "
+                            f"ask about `{ALL_OF[word.arity]}`, or, if it is known, write it on a line `known`")
 
     def _not_too_many(self) -> None:
         """At most 64 combined relations of each arity; else a fault that says which word to drop."""
@@ -314,6 +345,9 @@ class Vocabulary:
         """Which words to drop, one after the other, until the others are few enough."""
         self._tables = {}
         texts = [word.text for word in self.case.words]
+        if len(texts) > MOST_TRIED:
+            return (f"the {len(texts)} words combine to more rules on groups of {arity} than the {MOST_RELATIONS} that the program takes: "
+                    f"keep the few that matter most. With {MOST_TRIED} or fewer desk says which to drop")
         dropped: tuple[str, ...] = ()
         count = first = self.cost(arity)
         while count > MOST_RELATIONS and len(dropped) < len(texts):
@@ -334,10 +368,10 @@ class Vocabulary:
             who = " - ".join(self.case.things[thing].name for thing in sorted(rule.things))
             head = f"{self.case.path}: always: \"{rule.text}\" can't be learned: "
             if not around or (rule.word in self.case.words and tuple(sorted(rule.things)) == rule.things):
-                raise Fault(f"{head}`ask` doesn't put {who} together; add `{who}` to `ask`")
+                raise Fault(f"{head}`ask` doesn't put {who} together; add `{who}` to `ask`, or {NOT_ASKED}")
             if rule.word in self.case.words:
                 raise Fault(f"{head}words read things in the order of the case: {who}; add the word that says it so")
-            raise Fault(f"{head}`{rule.word.text}` isn't among the words; add it to `words`")
+            raise Fault(f"{head}`{rule.word.text}` isn't among the words; add it to `words`, or {NOT_ASKED}")
 
     def _around(self, things: tuple[int, ...]) -> list[tuple[int, ...]]:
         """The scopes that hold some things."""

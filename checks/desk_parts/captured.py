@@ -20,7 +20,7 @@ from talk import Program
 KEPT = os.path.join(drawn.TOP, "checks", "desk_captures")
 PLANS = {"ward": "scopes", "school": "quacq", "bicycle": "multi", "garden": "scopes"}
 PLANTED = [
-    ("check.py", 'yield f"Advice: plan {best.plan}.', 'yield f"Advice: plan {some[1].plan}.'),
+    ("check.py", 'yield f"Advice: {best.plan},', 'yield f"Advice: {some[1].plan},'),
     ("trials.py", "noticed += slipped(", "noticed += 1 - slipped("),
 ]
 DAYS = ["Mon", "Tue", "Wed", "Thu", "Fri", "Sat", "Sun"]
@@ -92,7 +92,7 @@ def captures(program: str, name: str, folder: str) -> dict[str, str]:
     def printed(*words: str, given: str = "") -> str:
         ran = subprocess.run([*desk, *words], input=given, capture_output=True, text=True, cwd=folder, env=environment, check=False)
         return ran.stdout + ran.stderr + f"status {ran.returncode}\n"
-    return {"check": printed("check", f"{name}.case"), "ask": printed("ask", f"{name}.case", "--plain", "--plan", PLANS[name], given=keys)}
+    return {"check": printed("check", "--seconds", "600", f"{name}.case"), "ask": printed("ask", f"{name}.case", "--plain", "--plan", PLANS[name], given=keys)}
 
 
 def run(program: str) -> list[str]:

@@ -161,6 +161,12 @@ def report(program: str, path: str, target: str) -> subprocess.CompletedProcess[
     return subprocess.run(command, capture_output=True, text=True, check=False)
 
 
+def desk(*call: str, given: str = "", env: Named | None = None) -> subprocess.CompletedProcess[str]:
+    """One call of desk with its words, as a process of its own."""
+    return subprocess.run(["/usr/bin/python3", os.path.join(DESK, "desk"), *call], input=given, capture_output=True, text=True, encoding="utf-8",
+                          errors="backslashreplace", timeout=PATIENCE, env={**os.environ, **(env or {})}, check=False)
+
+
 def answers(program: str, path: str) -> int:
     """How many answers stand in a journal."""
     lines = [line for line in acquire(program, path, "show") if line.startswith("answers ")]
@@ -386,6 +392,10 @@ class Tmux:
     def capture(self) -> str:
         """What stands on the screen."""
         return self._tmux("capture-pane", "-p", "-t", "it")
+
+    def title(self) -> str:
+        """The title of the window."""
+        return self._tmux("display-message", "-p", "-t", "it", "#{pane_title}")
 
     def wait_for(self, pattern: str, patience: float = PATIENCE) -> str:
         """The screen once the pattern is on it and it stays as it is; what is there where it never comes."""

@@ -16,16 +16,28 @@ import casefile
 import drawn
 from drawn import Owner
 from model import PLANS, Fault, Rule, Values
-from session import Session
+from session import Named, Session
 from talk import Program
 from vocabulary import Vocabulary
 
 SESSIONS = 40
 PLANTED = [
     ("foreseen.py", "return Said(False, ALWAYS, rule.text)", "return Said(True, ALWAYS, rule.text)"),
-    ("foreseen.py", "if one.yes and asked <= one.items", "if one.yes and one.items <= asked"),
-    ("foreseen.py", "if not one.yes and one.items <= asked", "if not one.yes and asked <= one.items"),
+    ("foreseen.py", "for one in self._accepted if asked <= one.items", "for one in self._accepted if one.items <= asked"),
+    ("foreseen.py", "for one in self._refused if one.items <= asked", "for one in self._refused if asked <= one.items"),
     ("session.py", "session.foreseen.forget(chosen.question.values, not chosen.yes)", "pass"),
+    # of two old answers that disagree one decides
+    ("foreseen.py", "if said is None or (yes and no):", "if said is None:"),
+    # what the person says in such a quarrel counts as given for them
+    ("session.py", "said = None if by_person else self.foreseen.answer(question.values)", "said = self.foreseen.answer(question.values)"),
+    # an old answer that was contradicted counts on
+    ("session.py", "        dropped = self.foreseen.forget(values, yes)\n", "        dropped = False\n"),
+    # what a line answered in a session before is carried over
+    ("carry.py", "        if one.yes or foreseen.violated(dict(one.values)) is None\n", ""),
+    # the text beside a session may be another case's
+    ("carry.py", "if head is None or head[1] != words.json.encode():", "if False:"),
+    # what an old answer gave stays where that one counts no more
+    ("session.py", "place = self.session.groundless() if dropped else None", "place = None"),
 ]
 Truth = Callable[[Values], bool]
 
@@ -128,6 +140,33 @@ def carried(program: Program, folder: str, seed: int, words: Vocabulary, text: s
     return faults + found + put_again(program, new), given
 
 
+def earlier(program: Program, folder: str, seed: int, words: Vocabulary, text: str) -> tuple[list[str], int]:
+    """A slip of an earlier session is carried over. The person goes back to the last answer that it gave: what it gave elsewhere is
+    asked anew then."""
+    draw = random.Random(seed)
+    truth = truth_of(words, Owner(words, draw, 0.9))
+    old, new = os.path.join(folder, "slip.case"), os.path.join(folder, "mended.case")
+    for path, plan in ((old, "scopes"), (new, "quacq")):
+        with open(path, "w", encoding="utf-8") as file:
+            file.write(f"{text}plan: {plan}\n")
+    with Session.opened(casefile.read(old), program) as session:
+        sat(session, truth, draw.randrange(4))
+    with contextlib.redirect_stdout(io.StringIO()):
+        carry.main(old, new, argparse.Namespace(acquire=program.path, budget=None))
+    with Session.opened(casefile.read(new), program) as session, session.sit() as sitting:
+        def wrong() -> list[int]:
+            while sitting.question is not None:
+                sitting.answer(truth(sitting.question.values))
+                sitting.advance()
+            return [place for place, answer in enumerate(session.answers) if answer.yes != truth(answer.question.values)]
+        sitting.advance()
+        places = wrong()
+        if not places:
+            return [], 0
+        sitting.back_to(places[-1])
+        return [f"{session.answers[place]} is left" for place in wrong()], 1
+
+
 def put_again(program: Program, path: str) -> list[str]:
     """Who goes back to an answer that was carried over is asked, also on another day: it isn't given again."""
     with Session.opened(casefile.read(path), program) as session:
@@ -170,6 +209,57 @@ def again(program: Program, folder: str, seed: int, words: Vocabulary, text: str
         return sat(session, truth)
 
 
+def said_by_lines(program: Program) -> list[str]:
+    """What a line `always` answered isn't carried over, neither from the session in which it did nor from one before it; nor is
+    anything of a session to which the text beside it doesn't belong."""
+    text, line = "things: a b\nvalues: p q\nask: all\nwords: different, same\nplan: scopes\n", "always: different on all\n"
+    with tempfile.TemporaryDirectory() as folder, contextlib.redirect_stdout(io.StringIO()):
+        old, new = os.path.join(folder, "old.case"), os.path.join(folder, "new.case")
+        for path, said in ((old, text + line), (new, text)):
+            with open(path, "w", encoding="utf-8") as file:
+                file.write(said)
+        before: list[Named] = [{"yes": False, "by": "carried", "values": {"a": "q", "b": "q"}}]
+        with Session.opened(casefile.read(old), program, before=before) as session:
+            sat(session, lambda values: True)
+            given = [answer.said.by for answer in session.answers if answer.said is not None]
+        options = argparse.Namespace(acquire=program.path, budget=None)
+        carry.main(old, new, options)
+        with Session.opened(casefile.read(new), program) as session:
+            left = [one for one in session.foreseen.before if not one.yes]
+        with open(os.path.join(folder, "old.session"), encoding="utf-8") as file:
+            kept = file.read()
+        with open(os.path.join(folder, "old.session"), "w", encoding="utf-8") as file:
+            file.write(kept.replace("values: p q", "values: q p r"))
+        try:
+            carry.main(old, None, options)
+            return ["answers are carried over from a session that is about another case"]
+        except Fault as fault:
+            refused = "another desk made them" in str(fault)
+    return [] if given and not left and refused else [f"of {given} there are {left} carried over"]
+
+
+def disagreeing(program: Program) -> list[str]:
+    """A question about which two old answers disagree is put to the person, whose answer then is their own, and ends the quarrel."""
+    with tempfile.TemporaryDirectory() as folder:
+        path, faults = os.path.join(folder, "w.case"), []
+        with open(path, "w", encoding="utf-8") as file:
+            file.write("things: a b c\nvalues: p q r\nask: all\nwords: different, never p\n")
+        before: list[Named] = [{"yes": True, "by": "carried", "values": {"a": "p", "b": "p", "c": "q"}},
+                               {"yes": False, "by": "carried", "values": {"b": "p"}}]
+        with Session.opened(casefile.read(path), program, "scopes", before=before) as session, session.sit() as sitting:
+            sitting.advance()
+            asked, given = sitting.question, sitting.given
+            if asked is None or asked.values != {0: 0, 1: 0} or given:
+                return [f"it puts {asked} and answers {given}"]
+            sitting.answer(True)
+            if session.answers[-1].said is not None or [one.yes for one in session.foreseen.before] != [True]:
+                faults.append(f"the person's answer is {session.answers[-1]}, and {session.foreseen.before} are left")
+            sitting.advance()
+            if not sitting.back() or sitting.question != asked:
+                faults.append(f"back leads to {sitting.question} and not to {asked}")
+    return faults
+
+
 def fresh_most(session: Session) -> int:
     """The bound as it is counted anew from the journal."""
     most, answers = session.possible.most, session.answers
@@ -180,17 +270,29 @@ def fresh_most(session: Session) -> int:
 
 def run(program: str) -> list[str]:
     """Faults of all drawn sessions."""
+    return looked(program, SESSIONS)
+
+
+def quick(program: str) -> list[str]:
+    """The same in little."""
+    return looked(program, SESSIONS // 4)
+
+
+def looked(program: str, sessions: int) -> list[str]:
+    """Faults of so many drawn sessions, and of some that are written here."""
     faults: list[str] = []
-    counts = {"always": 0, "carried": 0, "again": 0}
+    counts = {"always": 0, "carried": 0, "earlier": 0, "again": 0}
     it = Program(program)
-    for seed, case, words in drawn.cases(range(9000, 9000 + SESSIONS)):
+    for seed, case, words in drawn.cases(range(9000, 9000 + sessions)):
         with tempfile.TemporaryDirectory() as folder:
-            for what, part in (("always", always), ("carried", carried), ("again", again)):
+            for what, part in (("always", always), ("carried", carried), ("earlier", earlier), ("again", again)):
                 found, given = part(it, folder, seed, words, case.text)
                 faults += named(found, f"{what}, drawn{seed}")
                 counts[what] += given
         if len(faults) > drawn.ENOUGH:
             break
-    faults += [f"{what}: nothing was ever given, which tests little" for what, count in counts.items() if not count]
-    print("known: answers given for the person, all as the person would: " + ", ".join(f"{count} {what}" for what, count in counts.items()))
+    faults += named(disagreeing(it), "disagreeing") + named(said_by_lines(it), "said by lines")
+    faults += [f"{what}: nothing was ever given, or gone back to, which tests little" for what, count in counts.items() if not count]
+    print("known: answers given for the person, all as the person would: " + ", ".join(f"{count} {what}" for what, count in counts.items() if what != "earlier")
+          + f"; {counts['earlier']} steps back to slips of an earlier session")
     return faults

@@ -16,15 +16,23 @@ from vocabulary import Vocabulary
 
 import casefile
 import catalogue
+import hands
+import solver
+from session import Session
+import sentences
 
 LIST = ["p", "q", "r", "s", "t"]
 GRID = [(day, hour) for day in ("Mon", "Tue", "Wed") for hour in ("1", "2")]
 DAY = {"Mon": 0, "Tue": 1, "Wed": 2}
 PLANTED = [
+    ("catalogue.py", "(lambda *x: any(one not in v for one in x)) if most", "(lambda *x: any(one in v for one in x)) if most"),
+    ("catalogue.py", "NUMBERS[m[2]] + 1", "NUMBERS[m[2]] + 2"),
+    ("catalogue.py", "holds, said = (lambda *x: len({seen(one) for one in x}) > 1), m[3]", "holds, said = (lambda *x: len({seen(one) for one in x}) == len(x)), m[3]"),
     ("catalogue.py", '"before": (lambda x, y: x < y,', '"before": (lambda x, y: x <= y,'),
     ("catalogue.py", "return y == x + 1 and (not last or y % last != 0)", "return y == x + 1"),
     ("coding.py", "first = len(value_of) + 1", "first = len(value_of)"),
     ("vocabulary.py", "return lambda some: holds(*(value_of[some[place] - 1] for place in places))", "return lambda some: holds(*(value_of[some[-1 - place] - 1] for place in places))"),
+    ("coding.py", "loose.append(thing)", "pass"),
 ]
 
 
@@ -67,6 +75,14 @@ ON_LIST: dict[str, tuple[int, Callable[..., bool]]] = {
     "at most two of three q": (3, lambda *names: names.count("q") < 3),
     "at least one of three q": (3, lambda *names: "q" in names),
     "at least two of three q": (3, lambda *names: names.count("q") in (2, 3)),
+    "at most one of them q": (2, lambda *names: names.count("q") < 2),
+    "at most two of them q": (3, lambda *names: names.count("q") < 3),
+    "at most three of them q": (4, lambda *names: names.count("q") < 4),
+    "at least all but one of them q": (2, lambda *names: len(names) - names.count("q") <= 1),
+    "all but two of them q": (3, lambda *names: len(names) - names.count("q") <= 2),
+    "at least all but three of them q": (4, lambda *names: len(names) - names.count("q") <= 3),
+    "at most two of them the same": (3, lambda *names: max(map(names.count, names)) <= 2),
+    "at most three of them the same": (4, lambda *names: max(map(names.count, names)) <= 3),
     "three in order": (3, lambda a, b, c: a < b < c),
     "all four different": (4, lambda *names: sorted(set(names)) == sorted(names)),
     "not all four the same": (4, lambda *names: any(name != names[0] for name in names)),
@@ -92,6 +108,8 @@ ON_GRID: dict[str, tuple[int, Callable[..., bool]]] = {
     "Mon not with Tue 1": (2, lambda a, b: not (a.startswith("Mon") and b == "Tue 1" or b.startswith("Mon") and a == "Tue 1")),
     "all three different day": (3, of_grid(lambda a, b, c: len({a[0], b[0], c[0]}) == 3)),
     "not all three the same hour": (3, of_grid(lambda a, b, c: not a[1] == b[1] == c[1])),
+    "at most two of them Wed": (3, lambda *names: sum(name.startswith("Wed") for name in names) <= 2),
+    "at most two of them the same day": (3, of_grid(lambda a, b, c: len({a[0], b[0], c[0]}) > 1)),
     "at most one of three Wed": (3, lambda *names: sum(name.startswith("Wed") for name in names) <= 1),
 }
 
@@ -176,6 +194,48 @@ def lifted(program: str) -> list[str]:
     return faults
 
 
+def counted_over_all(program: str) -> list[str]:
+    """A count of K on all groups of K + 1 is that count of all things, in the plans and in the sentence about all of them."""
+    faults = []
+    for text, ask, wanted, said in (
+            ("at most one of them q", "all", lambda plan: plan.count("q") <= 1, "at most one of a, b, c, d and e are q"),
+            ("at most two of them q", "all triples", lambda plan: plan.count("q") <= 2, "at most two of a, b, c, d and e are q"),
+            ("at most three of them q", "all fours", lambda plan: plan.count("q") <= 3, "at most three of a, b, c, d and e are q"),
+            ("at least all but two of them q", "all triples", lambda plan: plan.count("q") >= 3, "at least all but two of a, b, c, d and e are q"),
+            ("at most two of them the same", "all triples", lambda plan: max(map(plan.count, plan)) <= 2, "at most two of a, b, c, d and e are the same")):
+        words = Vocabulary(casefile.parse(f"things: a b c d e\nvalues: p q\nask: {ask}\nwords: {text}\n", text))
+        rules = [rule for scope in words.scopes for rule, _ in words.rules_on(scope)]
+        for plan in itertools.product("pq", repeat=5):
+            values = {thing: words.case.values.index(name) for thing, name in enumerate(plan)}
+            if any(rule.violated(values) for rule in rules) == wanted(plan):
+                faults.append(f"`{text}` on {ask}: {plan}")
+        constraints = [words.constraint(" ".join(words.item(scope, words.strictest(scope)))) for scope in words.scopes]
+        told = [sentence.text for sentence in sentences.grouped(words, constraints)]
+        if told != [said]:
+            faults.append(f"`{text}` on {ask} is said as {told}")
+    return faults
+
+
+def loose(program: str) -> list[str]:
+    """Where what each thing may take can't be made one range of numbers, a value in a thing's range that it mustn't take is never
+    put to a person, and no plan has it."""
+    text = ("things: t1 t2 t3 t4 t5 t6\nvalues: 1 .. 20\nonly t1: 1 2\nonly t2: 2 3\nonly t3: 1 3\nask: t1 - t3, t2 - t3, t3 - t4\nwords: different\n")
+    with hands.room("loose", text) as path, Session.opened(casefile.read(path), Program(program), "scopes") as session, session.sit() as sitting:
+        case, outside, faults = casefile.read(path), [], []
+        if len(session.vocabulary.coding.loose) != 1:
+            faults.append(f"loose: the ranges are {session.vocabulary.coding.ranges}")
+        sitting.advance()
+        while sitting.question is not None:
+            outside += [values for values in [sitting.question.values] if any(value not in case.things[thing].allowed for thing, value in values.items())]
+            sitting.answer(len(set(sitting.question.values.values())) == len(sitting.question.values))
+            sitting.advance()
+        plans = solver.plans(session.program, session.vocabulary, session.journal, 3) if solver.name() else [{0: 0, 1: 1, 2: 2, 3: 5, 4: 5, 5: 5}]
+        outside += [plan for plan in plans if any(value not in case.things[thing].allowed for thing, value in plan.items())]
+        if outside or not plans:
+            faults.append(f"loose: a thing has a value that `only` forbids: {outside[:2]}, in {len(plans)} plans")
+    return faults
+
+
 def too_many() -> list[str]:
     """Too many words: desk says which to drop, and without that one the program takes the others."""
     head = "things: a b\nvalues: p q r s t\nask: all\n"
@@ -201,7 +261,7 @@ def listed() -> list[str]:
 
 def run(program: str) -> list[str]:
     """Faults of all words."""
-    faults = listed() + named_things(program) + lifted(program) + too_many()
+    faults = listed() + named_things(program) + lifted(program) + loose(program) + counted_over_all(program) + too_many()
     for text, (arity, meaning) in ON_LIST.items():
         faults += one(program, text, arity, meaning, LIST, "p q r s t")
     for text, (arity, meaning) in ON_GRID.items():

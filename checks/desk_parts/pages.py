@@ -24,12 +24,22 @@ import style
 import talk
 
 VOID = {"meta", "br"}
+TAGS = {"html", "head", "meta", "title", "style", "body", "main", "section", "h1", "h2", "p", "ul", "li", "span", "div", "figure", "figcaption",
+        "table", "thead", "tbody", "tr", "th", "td", "br", "details", "summary", "pre", "code"}
+ATTRIBUTES = {"lang", "charset", "name", "content", "http-equiv", "class", "scope"}
+POLICY = "default-src 'none'; style-src 'unsafe-inline'"
 BROWSERS = ("chromium", "chromium-browser", "google-chrome")
 MARKED = """title: Bäckerei <b>&"'</b> &amp; ünd
 things: day Mo Di x schicht früh spät nachts
 values: Änne <i>Ben</i> "Cas" D&D
 ask: same day
 words: different, never <i>Ben</i>
+"""
+HOSTILE = """title: </title></style><script>alert(1)</script><!-- &lt;b&gt; ]]> <?php
+things: </td><td onclick>, '><script>alert(1)</script>, &#60;i&#62;, <svg/onload>
+values: </ul></section>, javascript:alert(1), <!--
+ask: all
+words: different, never <!--
 """
 TEMPER = """title: Leer
 thing a: x y
@@ -43,6 +53,10 @@ PLANTED = [
     ("markup.py", "else html.escape(piece) for piece", "else piece for piece"),
     # the days of a plan are shifted by one
     ("page.py", "name, scope=\"col\") for name in grid.heads)", "name, scope=\"col\") for name in grid.heads[1:] + grid.heads[:1])"),
+    # what was given again counts as said beforehand
+    ("page.py", "by[ALWAYS] + by[CARRIED]} said beforehand", "by[ALWAYS] + by[CARRIED] + by[AGAIN]} said beforehand"),
+    # the person's own answers are counted wrong
+    ("page.py", "{by['']} of them given one by one", "{by[''] + by[AGAIN]} of them given one by one"),
     # a text that is hard to read
     ("style.py", "\"dim\": (\"#566072\"", "\"dim\": (\"#8a93a3\""),
 ]
@@ -62,7 +76,7 @@ def run(program: str) -> list[str]:
             ending = hands.answered(path, program, owner, plan, most)
             looked += 1
             faults += [f"pages: {name} in {plan}, {ending}: {fault}" for fault in one_page(program, path, ending, browser if looked != 4 else None)]
-    for row in (clash, unwritable, no_session):
+    for row in (hostile, clash, given, unwritable, no_session):
         faults += [f"pages: {row.__name__}: {fault}" for fault in row(program)]
     print(f"pages: {looked} pages" + ("" if browser else "; no chromium is installed, so no browser looked at them"))
     return faults
@@ -72,7 +86,7 @@ def quick(program: str) -> list[str]:
     """The same in little, without a browser."""
     with hands.room("marked", MARKED) as path:
         ending = hands.answered(path, program, lambda q: len(set(q.values())) == len(q))
-        return [*contrast(), *one_page(program, path, ending, None)]
+        return [*contrast(), *one_page(program, path, ending, None), *given(program)]
 
 
 # ---------------------------------------------------------------- reading a page
@@ -106,6 +120,15 @@ class Page(HTMLParser):
             self.tables[-1].append([])
         if tag in ("td", "th"):
             self.tables[-1][-1].append("")
+
+    def handle_comment(self, data: str) -> None:
+        self.faults.append(f"a comment: {data[:40]}")
+
+    def unknown_decl(self, data: str) -> None:
+        self.faults.append(f"a declaration: {data[:40]}")
+
+    def handle_pi(self, data: str) -> None:
+        self.faults.append(f"an instruction: {data[:40]}")
 
     def handle_endtag(self, tag: str) -> None:
         if not self.open or self.open.pop() != tag:
@@ -148,10 +171,13 @@ def form(content: str) -> list[str]:
     found = list(page.faults)
     if not content.startswith("<!DOCTYPE html>\n<html lang=\"en\"><head><meta charset=\"utf-8\">"):
         found.append(f"begins {content[:60]!r}")
-    if names & {"script", "link", "img", "iframe", "object", "b", "i"} or "http" in content or "url(" in content or "@import" in content:
-        found.append(f"has {names & {'script', 'link', 'img', 'iframe', 'b', 'i'}} or fetches something")
-    if any(key.startswith("on") for _, attrs in page.tags for key in attrs):
-        found.append("has an attribute that runs something")
+    if names - TAGS or re.search(r"https?:", content) or "url(" in content or "@import" in content:
+        found.append(f"has {names - TAGS} or fetches something")
+    if other := {key for _, attrs in page.tags for key in attrs} - ATTRIBUTES:
+        found.append(f"has attributes that no page needs: {other}")
+    policies = [place for place, (tag, attrs) in enumerate(page.tags) if attrs.get("http-equiv") == "Content-Security-Policy" and attrs["content"] == POLICY]
+    if len(policies) != 1 or policies[0] > [tag for tag, _ in page.tags].index("title"):
+        found.append("no policy says in front of all else that a browser only shows it")
     heads = [attrs.get("scope") for tag, attrs in page.tags if tag == "th"]
     if not all(scope in ("col", "row") for scope in heads) or page.texts.get("thead", []) == [] != page.texts.get("table", []):
         found.append("a table has no heads")
@@ -167,7 +193,7 @@ def said(one: session.Session, page: Page, state: object, ending: str) -> list[s
     if page.texts["title"] != [one.case.title] or page.texts["h1"] != [one.case.title]:
         found.append(f"the title is {page.texts['title']} and {page.texts['h1']}")
     learned = one.learned()
-    wanted = [it.whole for it in sentences.grouped(one.vocabulary, learned, one.reduced() if ending == "converged" else None)]
+    wanted = [it.whole for it in sentences.grouped(one.vocabulary, learned, one.reduced() if ending == "converged" else None, one.answers)]
     lines = page.texts.get("li", [])
     found += [f"{text!r} isn't among the rules" for text in wanted if text not in lines]
     if ending != "converged" and "Not finished: 30 answers" not in " ".join(page.texts["p"]):
@@ -306,6 +332,21 @@ def contrast() -> list[str]:
     return found
 
 
+def hostile(program: str) -> list[str]:
+    """Names, a title and a file name that look like a page's own tags are text of it, wherever they stand."""
+    with hands.room("hostile", HOSTILE) as path:
+        ending = hands.answered(path, program, lambda q: len(set(q.values())) == len(q))
+        found = one_page(program, path, ending, None)
+        target = os.path.join(os.path.dirname(path), "<script>alert(1)<!--\"'&.html")
+        ran = hands.report(program, path, target)
+        with open(target, encoding="utf-8") as file:
+            page = Page(file.read())
+        codes = page.texts.get("code", [])
+        if ran.returncode or page.faults or {tag for tag, _ in page.tags} - TAGS or os.path.basename(target).replace(".html", ".certificate") not in codes:
+            found.append(f"a file name that looks like a tag: {page.faults}, {codes}, {ran.stderr}")
+        return found
+
+
 def clash(program: str) -> list[str]:
     """Of answers that clash there are no rules on the page."""
     with hands.room() as path:
@@ -318,6 +359,35 @@ def clash(program: str) -> list[str]:
         if ending != "collapsed" or ran.returncode != 0:
             return [f"{ending}, {ran.returncode}, {ran.stderr}"]
         return [] if "The answers clash" in content and "rules" not in "".join(page.texts["h2"]) else [f"it says {page.texts['h2']}"]
+
+
+def given(program: str) -> list[str]:
+    """How many answers were given one by one, again after going back, and otherwise is what stands beside each of them."""
+    with hands.room("w", hands.TEAM + "always: different on Bär - Öz\n") as path:
+        one = casefile.read(path)
+        with session.Session.opened(one, talk.Program(program), "scopes") as it, it.sit() as sitting:
+            sitting.advance()
+            own = 0
+            while own < 12 and sitting.question is not None:
+                sitting.answer(hands.team({one.things[thing].name: one.values[value] for thing, value in sitting.question.values.items()}))
+                own += 1
+                sitting.advance()
+            places = [place for place, answer in enumerate(it.answers) if answer.said is None]
+            yes = it.answers[places[-6]].yes
+            sitting.back_to(places[-6])
+            sitting.answer(yes)
+            sitting.advance()
+        target = path + ".html"
+        hands.report(program, path, target)
+        with open(target, encoding="utf-8") as file:
+            page = Page(file.read())
+    came = [row[3] for row in page.tables[-1][1:]]
+    counts = [came.count("asked"), sum(how.startswith("said before you went back") for how in came), sum(how.startswith("said beforehand") for how in came)]
+    wanted = (f"{len(came)} answers, {counts[0]} of them given one by one, {counts[1]} again as before you went back, "
+              f"{counts[2]} said beforehand or carried over")
+    if min(counts) == 0 or sum(counts) != len(came) or counts[0] != own - 5:
+        return [f"the answers came as {came}"]
+    return [] if wanted in " ".join(page.texts["p"]) else [f"it says {page.texts['p'][0]!r} and not {wanted!r}"]
 
 
 def unwritable(program: str) -> list[str]:

@@ -12,17 +12,20 @@ import random
 import shutil
 import stat
 import tempfile
+import time
+from collections.abc import Callable
 
 import hands        # desk's folder is on the path now
 import casefile
 import model
+import page
 import review
 import sentences
 import session
 import solver
 import talk
 
-SESSIONS = 5
+SESSIONS = 8
 SMALL = """title: Small
 things: day Mon Tue x shift early late night
 values: Ann Ben Cas
@@ -35,8 +38,26 @@ values: x y z
 ask: a-b-c, b-c-d
 words: all three different, not all three the same, at most one of three x
 """
+# what is known and isn't asked about, as a line of a case and as a test of a plan by names
+KNOWN = {
+    SMALL: ("known: at most one of them Cas on same day, exactly 2 of them Ben, at least 1 of them Ann on Tue\n",
+            lambda plan: all(sum(plan[f"{day} {shift}"] == "Cas" for shift in ("early", "late", "night")) <= 1 for day in ("Mon", "Tue"))
+            and list(plan.values()).count("Ben") == 2 and "Ann" in [plan[f"Tue {shift}"] for shift in ("early", "late", "night")]),
+    TRIO: ("known: at most two letters alike\nknown: different on a - d\n",
+           lambda plan: max(map(list(plan.values()).count, plan.values())) <= 2 and plan["a"] != plan["d"]),
+}
 
 PLANTED = [
+    # what is known isn't kept
+    ("solver.py", "    wanted = None if clauses is None else with_known(clauses, vocabulary)", "    wanted = clauses"),
+    ("solver.py", "at_least(literals, len(literals) - count.most, last)", "at_least(literals, len(literals) - count.most - 1, last)"),
+    ("solver.py", "at_least([-literal for literal in literals], count.least, last)", "at_least(literals, count.least, last)"),
+    ("solver.py", "    wanted = with_known(dataclasses.replace(clauses, clauses=clauses.clauses[:clauses.own]), vocabulary)",
+     "    wanted = dataclasses.replace(clauses, clauses=clauses.clauses[:clauses.own])"),
+    ("solver.py", "clock.within(SECONDS)", "Clock(SECONDS)"),
+    ("page.py", "*beside(session.case), ", ""),
+    ("counts.py", "0 if found[1] == \"at most\" else number,", "0 if found[1] != \"at least\" else number,"),
+    ("counts.py", "thing.place for thing in things if thing.at[k] == member)", "thing.place for thing in things if thing.at[k] >= member)"),
     # what a solver prints is shown unchecked
     ("solver.py", "    if reply.status != 0 or not reply.lines or not reply.lines[0].startswith(\"solution\"):\n        return None\n"
      "    return vocabulary.values_of(reply.lines[0].split()[1:])", "    return clauses.values(true)"),
@@ -49,13 +70,14 @@ def run(program: str) -> list[str]:
     """The faults that were found."""
     faults: list[str] = []
     installed = [name for name in solver.SOLVERS if shutil.which(name)]
-    counts = [0, 0]
+    counts = [0, 0, 0]      # plans, broken rules, sessions with something known
     for turn in range(SESSIONS):
         for name in installed:
             faults += [f"plans: {name}, session {turn}: {fault}" for fault in one_session(program, turn, name, counts)]
     faults += [f"plans: {fault}" for fault in without(program)]
     if installed:
         faults += [f"plans: a solver that lies: {fault}" for fault in lying(program)]
+        faults += [f"plans: a solver that is stuck: {fault}" for fault in stuck(program)]
     missing = [name for name in solver.SOLVERS if name not in installed]
     print(f"plans: {counts[0]} plans and {counts[1]} broken rules by {', '.join(installed) or 'no solver'}"
           + (f"; not installed: {', '.join(missing)}" if missing else ""))
@@ -66,9 +88,10 @@ def one_session(program: str, turn: int, name: str, counts: list[int]) -> list[s
     """The plans of one session."""
     draw = random.Random(turn)
     text = (SMALL, TRIO)[turn % 2]
+    line, keeps = KNOWN[text] if turn >= SESSIONS // 2 else ("", lambda plan: True)
     real, solver.name = solver.name, lambda: name
     try:
-        with hands.room("small", text) as path:
+        with hands.room("small", text + line) as path:
             case = casefile.read(path)
             rules = drawn_rules(draw, case)
             hands.answered(path, program, lambda q: not any(broken(rule, q) for rule in rules))
@@ -76,8 +99,14 @@ def one_session(program: str, turn: int, name: str, counts: list[int]) -> list[s
                 ending = one.state()
                 if ending.word != "converged":
                     return [f"ends {ending.word}"]
-                every = all_plans(one, ending.learned)
-                return far(one, every, counts) + alone(one, ending, every, counts)
+                def kept(plan: model.Values) -> bool:
+                    return keeps({case.things[thing].name: case.values[value] for thing, value in plan.items()})
+                counts[2] += bool(line)
+                said = page.page(one, ending, None) if line and counts[2] == 1 else ""
+                if said and not all(f"<li>{known.text}</li>" in said for known in case.known):
+                    return ["the page doesn't have what is known"]
+                every = [plan for plan in all_plans(one, ending.learned) if kept(plan)]
+                return far(one, every, counts) + alone(one, ending, every, counts, kept)
     finally:
         solver.name = real
 
@@ -128,11 +157,12 @@ def far(one: session.Session, every: list[model.Values], counts: list[int]) -> l
     return found
 
 
-def alone(one: session.Session, ending: model.Ending, every: list[model.Values], counts: list[int]) -> list[str]:
-    """A plan for each rule that can be broken alone, and none else."""
+def alone(one: session.Session, ending: model.Ending, every: list[model.Values], counts: list[int],
+          kept: Callable[[model.Values], bool]) -> list[str]:
+    """A plan for each rule that can be broken alone, while what is known is kept, and none else."""
     said = sentences.grouped(one.vocabulary, ending.learned, one.reduced())
     rules = [rule for sentence in said for rule in sentence.rules]
-    plans = [dict(enumerate(some)) for some in itertools.product(*(thing.allowed for thing in one.case.things))]
+    plans = [plan for some in itertools.product(*(thing.allowed for thing in one.case.things)) if kept(plan := dict(enumerate(some)))]
     found = []
     for rule in rules:
         counts[1] += 1
@@ -172,6 +202,41 @@ def constant(program: str, path: str) -> str:
         clauses = solver.clauses_of(one.program, one.vocabulary, one.journal)
         assert clauses is not None
         return "s SATISFIABLE\nv " + " ".join(map(str, clauses.literals(all_plans(one, one.state().learned)[0]))) + " 0\n"
+
+
+STUCK = """#!/bin/sh
+# a solver that answers once, and never again
+[ -e FOLDER/answered ] && exec sleep 1000
+touch FOLDER/answered
+exec REAL "$@"
+"""
+
+
+def stuck(program: str) -> list[str]:
+    """With a solver that doesn't come to an end plans are looked for as long as the clock says."""
+    found: list[str] = []
+    before, real = os.environ["PATH"], shutil.which("cadical")
+    if real is None:
+        return []
+    with tempfile.TemporaryDirectory() as folder, hands.room("small", SMALL) as path:
+        hands.answered(path, program, lambda q: len(set(q.values())) == len(q))
+        fake = os.path.join(folder, "cadical")
+        with open(fake, "w", encoding="utf-8") as file:
+            file.write(STUCK.replace("FOLDER", folder).replace("REAL", real))
+        os.chmod(fake, 0o755)
+        os.environ["PATH"] = folder + os.pathsep + before
+        try:
+            with session.Session.opened(casefile.read(path), talk.Program(program)) as one:
+                began = time.monotonic()
+                plans = solver.far(one.program, one.vocabulary, one.journal, 3, talk.Clock(1.5))
+                said = sentences.grouped(one.vocabulary, one.state().learned)
+                broken = review.broken_alone(one, said[0], said, clock=talk.Clock(1.5))
+                took = time.monotonic() - began
+            if len(plans) != 1 or broken is not None or took > 9:
+                found.append(f"{len(plans)} plans and {broken} after {took:.1f} s of 3")
+        finally:
+            os.environ["PATH"] = before
+    return found
 
 
 def lying(program: str) -> list[str]:

@@ -3,8 +3,11 @@ acknowledged is lost, and no process is left behind."""
 
 from __future__ import annotations
 
+import fcntl
 import os
 import random
+import re
+import shutil
 import signal
 import subprocess
 import sys
@@ -27,6 +30,16 @@ PLANTED = [
     ("session.py", "fcntl.flock(file, fcntl.LOCK_EX | fcntl.LOCK_NB)", "pass"),
     ("session.py", '            self._run.say("back")\n            if not self._next():', '            self._run.say("back")\n            self._run.say("back")\n            if not self._next():'),
     ("session.py", '("its values are others", before.values, now.values)', '("its values are others", 0, 0)'),
+    # a line that contradicts an answer is taken into the session's text, so that it can't be taken out again
+    ("session.py", "if began != self.case.text and not self.against():", "if began != self.case.text:"),
+    # an empty journal stays behind
+    ("session.py", "    if os.fstat(lock).st_size == 0 and _is_there(lock, journal):", "    if False:"),
+    # what was moved away is worked on
+    ("session.py", "            if _is_there(file, journal):\n                return file\n", "            return file\n"),
+    # a line that is gone doesn't change a session
+    ("session.py", "if any((rule.word.text, rule.things) not in said for rule in before.always):", "if False:"),
+    # one byte more is cut off than is damaged
+    ("session.py", "place, file = int(damaged[1]), shlex.quote(journal)", "place, file = int(damaged[1]) - 1, shlex.quote(journal)"),
 ]
 
 
@@ -182,6 +195,28 @@ def changed(program: Program, folder: str) -> list[str]:
     return faults
 
 
+def moved(program: Program, folder: str) -> list[str]:
+    """A journal that another desk moves away while this one opens it: the one that is there then is locked, not the one that was."""
+    path = fresh(folder)
+    with Session.opened(casefile.read(path), program, "scopes") as session:
+        answers = sat(session, 3)
+    really, calls = fcntl.flock, []
+    def meanwhile(file: int, how: int) -> None:
+        calls.append(file)
+        if len(calls) == 1:
+            shutil.copy(journal_of(path), path + ".copy")
+            os.replace(path + ".copy", journal_of(path))
+        really(file, how)
+    fcntl.flock = meanwhile
+    try:
+        with Session.opened(casefile.read(path), program) as session:
+            there = os.path.samestat(os.fstat(session._lock), os.stat(journal_of(path)))
+            stand = plain(session.answers)
+    finally:
+        fcntl.flock = really
+    return [] if there and stand == answers else ["a journal is locked that has another name now"]
+
+
 def damaged(program: Program, folder: str) -> list[str]:
     """Files that are no journal, no session or may not be written are told, and stay as they were."""
     faults = []
@@ -199,6 +234,8 @@ def damaged(program: Program, folder: str) -> list[str]:
             if file.read() != content:
                 faults.append(f"{content!r} was changed")
     path = fresh(folder)
+    with open(journal_of(path), "wb"):
+        pass
     try:
         with Session.opened(casefile.read(path), program, make=False):
             faults.append("a session is there that nobody began")
@@ -208,16 +245,60 @@ def damaged(program: Program, folder: str) -> list[str]:
     return faults
 
 
+def mended(program: Program, folder: str) -> list[str]:
+    """A journal that was cut off: what is told to do about it is done by a shell, and keeps all answers but the last."""
+    path = fresh(folder)
+    with Session.opened(casefile.read(path), program, "scopes") as session:
+        answers = sat(session, 4)
+    os.truncate(journal_of(path), os.path.getsize(journal_of(path)) - 2)
+    try:
+        with Session.opened(casefile.read(path), program):
+            return ["a journal that was cut off is taken"]
+    except Fault as fault:
+        told = re.search(r"`(cp .*)`", str(fault))
+    if told is None:
+        return ["nothing is told to do about a journal that was cut off"]
+    subprocess.run(["sh", "-c", told[1]], check=True)
+    with Session.opened(casefile.read(path), program) as session:
+        return [] if plain(session.answers) == answers[:-1] else [f"of {len(answers)} answers {len(session.answers)} are kept"]
+
+
+def contradicted(program: Program, folder: str) -> list[str]:
+    """An `always` line that says otherwise than an answer is told as long as it stands; taken out, all is as it was; where the
+    person goes back, the line answers, and the later answers are given again as far as it lets them."""
+    path, line = fresh(folder), "always: different on Mon early - Mon late\n"
+    with Session.opened(casefile.read(path), program, "scopes") as session, session.sit() as sitting:
+        sitting.advance()
+        for yes in (True, False, False, True):      # the first is about Mon early and Mon late, with the same value
+            sitting.answer(yes)
+            sitting.advance()
+        before = plain(session.answers)
+    for text, wanted in ((CASE + line, [0]), (CASE, []), (CASE + line, [0]), (CASE + line, [0])):
+        with open(path, "w", encoding="utf-8") as file:
+            file.write(text)
+        with Session.opened(casefile.read(path), program) as session:
+            if [place for place, _ in session.against()] != wanted or plain(session.answers) != before:
+                return [f"of {text!r} it tells {session.against()}"]
+    with Session.opened(casefile.read(path), program) as session, session.sit() as sitting:
+        sitting.back_to(0)
+        sitting.advance()
+        now = plain(session.answers)
+        if now[0] != (before[0][0], False) or session.against() or session.answers[0].said is None:
+            return [f"after going back {now} stands"]
+    with Session.opened(casefile.read(path), program) as session:
+        return [] if plain(session.answers) == now and not session.against() else [f"on another day {plain(session.answers)} stands and not {now}"]
+
+
 def run(program: str) -> list[str]:
     """Faults of all these sessions."""
     faults: list[str] = []
     with tempfile.TemporaryDirectory() as folder:
-        for part in (stopped, taken_back, killed, locked, changed, damaged):
+        for part in (stopped, taken_back, killed, locked, moved, changed, contradicted, damaged, mended):
             faults += [f"{part.__name__}: {fault}" for fault in part(Program(program), folder)]
     try:
         os.waitpid(-1, os.WNOHANG)
         faults.append("a process is left behind")
     except ChildProcessError:
         pass
-    print("runs: sessions stopped, taken back, killed, locked, changed and damaged")
+    print("runs: sessions stopped, taken back, killed, locked, changed, contradicted and damaged")
     return faults

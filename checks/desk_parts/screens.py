@@ -12,6 +12,7 @@ import re
 
 import hands        # desk's folder is on the path now
 import casefile
+import drawing
 import face
 import model
 import picture
@@ -26,11 +27,22 @@ NAMES = ("Ann", "Bär", "Çelik", "Łukasz Nowak", "李小龍", "Ōno", "a-very-
 
 PLANTED = [
     # a cell is dropped where a list stands in
-    ("picture.py", "in_columns(entries[at:at + a_page], columns, wide) for at", "in_columns(entries[at:at + a_page - 1], columns, wide) for at"),
+    ("drawing.py", "in_columns(entries[at:at + a_page], columns, wide) for at", "in_columns(entries[at:at + a_page - 1], columns, wide) for at"),
     # a table that is too wide isn't turned or listed, but cut off
-    ("picture.py", "first + sum(widths) + 3 * len(widths) + 4", "first + sum(widths)"),
+    ("drawing.py", "first + sum(widths) + 3 * len(widths) + 4", "first + sum(widths)"),
     # what has stayed is marked, and what has changed isn't
     ("ask.py", "if before.values.get(thing) != value}", "if before.values.get(thing) == value}"),
+    # a window that is too small for a page takes answers
+    ("screen.py", "            if room < (LEAST_BODY if count > 1 else 1):\n                return []\n", ""),
+    ("screen.py", "            elif count:\n                taken", "            else:\n                taken"),
+    # what stands around a page never gives way, or the last line, which says what is asked, does
+    ("screen.py", "for gone in range(max(1, len(under)))]", "for gone in range(1)]"),
+    ("screen.py", "for gone in range(max(1, len(under)))]", "for gone in range(1 + len(under))]"),
+    # a message takes room of its own, so that what was looked at isn't what is counted
+    ("screen.py", "said = self._text(message, \"bold\")[:len(layout.foot)] if message else layout.foot", "said = self._text(message, \"bold\") + layout.foot if message else layout.foot"),
+    # after another size of the window the old pages count
+    ("screen.py", "                layout, seen = self._layout(sheet), set()\n", "                layout = self._layout(sheet)\n"),
+    ("screen.py", "            page = min(page, max(count - 1, 0))\n", ""),
 ]
 
 
@@ -49,7 +61,7 @@ def run(program: str) -> list[str]:
             for height in (3, 6, 12, 40, None):
                 looked += 1
                 faults += [f"screens: case {turn} at {width}x{height}: {fault}" for fault in lost(it, width, height)]
-    for row in (whole_screens, changes, notes, lines_of_plan, markup_is_text):
+    for row in (whole_screens, every_window, changes, notes, lines_of_plan, markup_is_text):
         faults += [f"screens: {row.__name__}: {fault}" for fault in row()]
     print(f"screens: {looked} pictures of {DRAWN} drawn cases")
     return faults[:20]
@@ -89,14 +101,14 @@ def console(width: int, height: int = 24) -> Console:
     return Console(width=width, height=height, file=io.StringIO(), force_terminal=True, color_system=None, legacy_windows=False)
 
 
-def text_of(page: picture.Lines) -> list[str]:
+def text_of(page: drawing.Lines) -> list[str]:
     """The lines of a page without colours."""
     return ["".join(part.text for part in line) for line in page]
 
 
 def lost(it: picture.Picture, width: int, height: int | None) -> list[str]:
     """What is wrong with a picture at this size: a line too wide, a page too high, a cell that isn't there."""
-    pages = [text_of(page) for page in picture.pages(console(width), it, width, height)]
+    pages = [text_of(page) for page in drawing.pages(console(width), it, width, height)]
     found = [f"a line is wider: {line!r}" for page in pages for line in page if cell_len(line) > width]
     if height is not None and any(len(page) > height for page in pages):
         found.append(f"a page has {max(map(len, pages))} lines")
@@ -143,11 +155,12 @@ def whole_screens() -> list[str]:
     for width, height in ((200, 50), (80, 24), (60, 20), (40, 12), (40, 10)):
         it = screen.Screen.__new__(screen.Screen)
         it.console = console(width, height)
-        pages = it._pages(sheet, it._frame(sheet, ""))
+        layout = it._layout(sheet)
+        pages = layout.pages
         text = "\n".join("\n".join(text_of(page)) for page in pages)
         for page in range(len(pages)):
             it.console.file = io.StringIO()
-            it._draw(sheet, page, "")
+            it._draw(sheet, layout, page, "")
             drawn = it.console.file.getvalue().removeprefix("\x1b[H").split("\n")
             if len(drawn) != height or any(cell_len(re.sub(r"\x1b\[[0-9;?]*[A-Za-z]", "", line)) != width for line in drawn):
                 found.append(f"{width}x{height}: {len(drawn)} lines")
@@ -159,6 +172,117 @@ def whole_screens() -> list[str]:
         if missing or sum(text.count(value) for value in case.values) != len(values):
             found.append(f"{width}x{height}: {missing}, {sum(text.count(value) for value in case.values)} values")
     return found
+
+
+class Script:
+    """A keyboard whose keys are written down."""
+
+    def __init__(self, keys: str) -> None:
+        self.keys: list[str | tuple[tuple[int, int], str]] = list(keys)     # a key, or a new size of the window and then a key
+        self.leave = self.enter = self.screen = None
+
+    def __enter__(self) -> Script:
+        return self
+
+    def __exit__(self, *_: object) -> None:
+        """Nothing has to be put back."""
+
+    def read_after(self, shown: float) -> str:
+        """The next key, and a stop behind the last."""
+        key = self.keys.pop(0) if self.keys else "q"
+        if isinstance(key, tuple):
+            (width, height), key = key
+            self.screen.console = console(width, height)    # type: ignore[attr-defined]
+        return key
+
+
+class Shown(screen.Screen):
+    """A screen that remembers what it has shown."""
+
+    def __init__(self, width: int, height: int, keys: str) -> None:
+        super().__init__(console(width, height), Script(keys))     # type: ignore[arg-type]
+        self.frames: list[list[str]] = []
+
+    def _print(self, lines: drawing.Lines, width: int, height: int) -> None:
+        self.console.file = io.StringIO()
+        super()._print(lines, width, height)
+        self.frames.append(re.sub(r"\x1b\[[0-9;?]*[A-Za-z]", "", self.console.file.getvalue()).split("\n"))
+
+
+SIZES = tuple((width, height) for width in (4, 9, 20, 33, 40, 60, 80) for height in (2, 3, 5, 6, 7, 8, 10, 12, 14, 18, 24))
+
+
+def swept(sheet: face.Sheet, keys: str, width: int, height: int) -> tuple[str, Shown]:
+    """Which key a sheet takes of some that are pressed, and what was shown meanwhile."""
+    it = Shown(width, height, keys)
+    return it.put(sheet), it
+
+
+def every_window() -> list[str]:
+    """At each size of a window, with wrong keys and turned pages: a screen has exactly its lines; a yes is taken where each cell
+    was shown before, and nowhere else; a window that is too small says so, and takes nothing but q."""
+    names = "abcdefghijklmnopqrstu"
+    case = casefile.parse(f"title: Test\nthings: {' '.join(names)}\nvalues: {' '.join(names.upper())}\nask: all\nwords: same\n", "test.case")
+    found = []
+    for count in (1, 3, 21):
+        values = {thing: thing for thing in range(count)}
+        it = picture.Picture(case, values, {0: picture.CHANGED})
+        sheet = face.Sheet("Test: question 1, a part of the one before", (it,), "* has changed", ("A note of some words.", "Judge it."), ("settled 1 of 9",),
+                           (("y", "yes"), ("n", "no"), ("b", "back"), ("w", "why"), ("q", "stop")), frozenset("y"))
+        for width, height in SIZES:
+            for keys in ("y" + " y" * 9, "\x1b y y" + " y" * 9):
+                key, shown = swept(sheet, keys, width, height)
+                text = "\n".join("\n".join(frame) for frame in shown.frames)
+                missing = [name for name in names[:count] if not re.search(rf"\b{name} +{name.upper()}\b", text)]
+                small = "small" in re.sub(r"\s", "", text)
+                whole = ["".join("".join(frame).split()) for frame in shown.frames]
+                if any("small" not in text and not ("Judgeit." in text and "yyes" in text) for text in whole) and height * width > 8:
+                    found.append(f"{count} cells at {width}x{height}: a screen doesn't say what is asked, or has no keys")
+                if any(len(frame) != height or any(cell_len(line) != width for line in frame) for frame in shown.frames):
+                    found.append(f"{count} cells at {width}x{height}: a screen hasn't its lines")
+                if (key == "y") == bool(missing or small) or missing and not small:
+                    found.append(f"{count} cells at {width}x{height}: {key!r} is taken, {missing} were never shown, too small: {small}")
+        if swept(sheet, "n", 4, 2)[0] != "q" or swept(sheet, "n", 40, 12)[0] != "n":
+            found.append(f"{count} cells: a no is taken at 4x2, or not at 40x12")
+        if count < 4 and swept(sheet, "y", 40, 6)[0] != "y":
+            found.append(f"{count} cells: what stands around them doesn't give way at 40x6")
+    return found[:9] + pages_that_go() + other_sizes(case)
+
+
+def other_sizes(case: model.Case) -> list[str]:
+    """The window gets another size, and the key that comes next is the word for that or one of the person's: pages count from there on."""
+    found = []
+    sheet = face.Sheet("Test: question 1", (picture.Picture(case, {thing: thing for thing in range(21)}),), under=("Judge it.",),
+                       keys=(("y", "yes"), ("q", "stop")), whole=frozenset("y"))
+    for before, behind in (((20, 8), (33, 7)), ((33, 8), (80, 24)), ((33, 24), (33, 8)), ((60, 8), (33, 8)), ((33, 7), (60, 7))):
+        for key in (screen.RESIZED, " ", "x"):
+            it = Shown(*before, "")
+            it.keyboard.keys = [" "] * 6 + [(behind, key), *"y " * 12]      # type: ignore[attr-defined]
+            it.keyboard.screen = it     # type: ignore[attr-defined]
+            try:
+                taken = it.put(sheet)
+            except IndexError as error:
+                found.append(f"{before} to {behind}, then {key!r}: {error!r}")
+                continue
+            text = "\n".join("\n".join(frame) for frame in it.frames if len(frame) == behind[1] and cell_len(frame[0]) == behind[0])
+            missing = [thing.name for thing in case.things if not re.search(rf"\b{thing.name} +{thing.name.upper()}\b", text)]
+            if taken != "y" or missing:
+                found.append(f"{before} to {behind}, then {key!r}: {taken!r} is taken, {missing} weren't shown since")
+    return found
+
+
+def pages_that_go() -> list[str]:
+    """A wrong key whose message takes a line, and then space, on sheets around each number of lines that fills a window."""
+    found = []
+    for width, height in (size for size in SIZES if size[0] in (20, 60)):
+        for lines in (1, *range(max(2, height - 8), height + 1)):
+            sheet = face.Sheet("Your answers clash", tuple(f"line {k}" for k in range(lines)), keys=(("b", "back"), ("a", "go back to it"), ("q", "stop")))
+            for keys in ("y ", "y y ", "  y "):
+                try:
+                    swept(sheet, keys, width, height)
+                except IndexError as error:
+                    found.append(f"{lines} lines at {width}x{height}, {keys!r}: {error!r}")
+    return found[:9]
 
 
 def changes() -> list[str]:
@@ -184,7 +308,7 @@ def notes() -> list[str]:
     case = casefile.parse(hands.WARD, "ward.case")
     class Still:
         """A session that is asked how far it is."""
-        settled, total, most = 120, 231, 114
+        progress = "6 of 21 groups finished; at most 114 more questions"
     class Quiet:
         """What a sheet is made of."""
         possible = Still()
@@ -198,7 +322,7 @@ def notes() -> list[str]:
         found.append(f"a part: {part}")
     if "don't think of the rest" in " ".join(whole.under):
         found.append("a whole plan has the note for a part")
-    if part.foot != ("settled 120 of 231; at most 114 more questions",) or part.whole != frozenset("y"):
+    if part.foot != (Still.progress,) or part.whole != frozenset("y"):
         found.append(f"how far: {part.foot}")
     said = io.StringIO()
     plain.Lines(io.StringIO("y\n"), said).put(part)
@@ -220,7 +344,7 @@ def lines_of_plan() -> list[str]:
     values = {thing.place: thing.place * 2 for thing in case.things}
     found = []
     for width in (30, 40, 80):
-        lines = screen.plan_lines(case, values, width)
+        lines = drawing.plan_lines(case, values, width)
         shown = all(any(thing.name in line for line in lines) for thing in case.things)
         if not shown or any("\x1b" in line or cell_len(line) > width for line in lines):
             found.append(f"at {width}: {lines}")
@@ -230,5 +354,5 @@ def lines_of_plan() -> list[str]:
 def markup_is_text() -> list[str]:
     """Names that look like rich's markup are names."""
     case = model.Case("x", "", "[red]T[/red]", (model.Thing(0, "[bold]x[/bold]", (), (0,)),), (), (":smile:",), (), (), (), (), None)
-    text = "\n".join(screen.plan_lines(case, {0: 0}, 80))
+    text = "\n".join(drawing.plan_lines(case, {0: 0}, 80))
     return [] if "[bold]x[/bold]" in text and ":smile:" in text else [text]

@@ -1,7 +1,8 @@
-"""A sitting from end to end, over pipes: keys, going back, what is answered for the person, a clash, the plans at the end.
+"""A sitting from end to end, over pipes: keys, going back, what is answered for the person, a
+clash, the plans at the end.
 
-The person of each row knows the rules of the case and may slip once. What the journal holds at the end is compared with the
-session of a person who never slipped.
+The person of each row knows the rules of the case and may slip once. What the journal holds at the
+end is compared with the session of a person who never slipped.
 """
 
 from __future__ import annotations
@@ -11,7 +12,12 @@ import subprocess
 from collections.abc import Iterable
 
 import hands        # desk's folder is on the path now
+import casefile
+import sentences
+import session
 import solver
+import talk
+import views
 from hands import Owner, Piped, is_question, plain_values, room
 
 ALWAYS = hands.WARD + "always: different on same day\n"
@@ -23,11 +29,27 @@ words: different
 """
 
 PLANTED = [
+    # a line that contradicts an answer isn't told
+    ("ask.py", "        if self.session.against():\n            place", "        if False:\n            place"),
     # an answer is turned round
     ("ask.py", "self.sitting.answer(key == \"y\")", "self.sitting.answer(key == \"n\")"),
     # another answer is gone back to than the one that was chosen
-    ("goback.py", "self.place_of = dict(zip(letters, dict.fromkeys(place for place in places if may(session, place))))",
-     "self.place_of = dict(zip(letters, dict.fromkeys(place - 1 for place in places if may(session, place) and place)))"),
+    ("goback.py", "super().__init__([place for place in places if may(session, place)], keys,",
+     "super().__init__([place - 1 for place in places if may(session, place) and place], keys,"),
+    # behind a broken plan only a single answer that explains it is shown
+    ("review.py", "    if places or shown.rule is None:\n        return places", "    return places"),
+    # a second step back forgets what the first one took
+    ("session.py", "*(self._aside.every if self._aside else ())", ""),
+    # what decides the question that waits is dropped for good
+    ("session.py", "return self.mine + self.reasons", "return self.mine"),
+    # letters stay at the first answers
+    ("goback.py", "self._first += len(self._letters)", "self._first += 0"),
+    # rules that nobody saw kept don't come first
+    ("review.py", "            if plans and said.unseen:", "            if False:"),
+    # cells that are pointed at are judged with all others
+    ("review.py", "values = {thing: shown.values[thing] for thing in cells} if cells else shown.values", "values = shown.values"),
+    # the answers behind a sentence are those about anything
+    ("views.py", "if asked in scopes and any(", "if any("),
 ]
 
 
@@ -38,7 +60,7 @@ def run(program: str) -> list[str]:
 
 def quick(program: str) -> list[str]:
     """The same in little."""
-    return looked(program, (keys, odd_one))
+    return looked(program, (keys, odd_one, contradicted, refused_twice, from_rules, behind_sentences, from_answers, step_by_step, never_seen, pointed))
 
 
 def looked(program: str, rows: Iterable[object]) -> list[str]:
@@ -99,7 +121,8 @@ def keys(program: str) -> list[str]:
         it = Piped(path, program, "--plan", "scopes")
         first = it.sheet() or []
         steps = (("b", "no answer of yours"), ("y", "question 2"), ("n", "question 3"), ("w", "Why question 3"), ("", "question 3"),
-                 ("s", "1. yes: Mon early Ann, Mon late Ann"), ("", "2. no:"), ("r", "Rules so far"), ("?", "y  yes"), ("b", "question 2"))
+                 ("s", "1. yes: Mon early Ann, Mon late Ann"), ("", "2. no:"), ("o", "question 3"), ("r", "Rules so far"), ("?", "y  yes"),
+                 ("b", "question 2"))
         for key, wanted in steps:
             if key:
                 it.say(key)
@@ -120,7 +143,8 @@ def keys(program: str) -> list[str]:
 
 
 def goes_on(program: str) -> list[str]:
-    """A second sitting begins at the question at which the first ended, and ends with the same rules."""
+    """A second sitting begins at the question at which the first ended, and ends with the same
+    rules."""
     with room() as path:
         it = Piped(path, program, "--plan", "quacq")
         sat(it, hands.ward, most=20)
@@ -137,7 +161,8 @@ def goes_on(program: str) -> list[str]:
 
 
 def clash(program: str) -> list[str]:
-    """A slip that collapses: it is among the suspects, going back to it in the same sitting mends it, and little is asked anew."""
+    """A slip that collapses: it is among the suspects, going back to it in the same sitting mends
+    it, and little is asked anew."""
     wanted, found = right(program, "quacq"), []
     for slip in (60, 90):
         with room() as path:
@@ -217,6 +242,8 @@ def always(program: str) -> list[str]:
         it.say("s")
         if not any("(said beforehand: Mon early and Mon late differ)" in line for line in it.sheet() or []):
             found.append("s doesn't mark what was said beforehand")
+        it.say("o")
+        it.sheet()
         it.say("y" if hands.ward(plain_values(first)) else "n")
         count, end = sat(it, lambda q: hands.ward(q) and len(set(q.values())) == len(q))
         it.say("q")
@@ -240,7 +267,8 @@ def why_is_capped(program: str) -> list[str]:
 
 
 def allowed_plan(program: str) -> list[str]:
-    """A plan that is judged wrong leads to the answers behind it, or to what the words can't say."""
+    """A plan that is judged wrong leads to the answers behind it, or to what the words can't
+    say."""
     found = []
     with room("two", TWO) as path:
         it = Piped(path, program, "--plan", "scopes")
@@ -248,6 +276,8 @@ def allowed_plan(program: str) -> list[str]:
         it.say("g")
         plan = it.sheet() or []
         it.say("n")
+        it.sheet()
+        it.say("o")             # which cells are wrong isn't said
         behind = it.sheet() or []
         letter = letter_of(behind, 1)
         if not letter or "The rules allow it." not in plan[0] or "Is this right?" not in plan:
@@ -260,7 +290,7 @@ def allowed_plan(program: str) -> list[str]:
             found.append(f"after o: {cant}, {it.ran.returncode}, {it.lines[-4:]}")
         it = Piped(path, program)
         it.sheet()
-        for key in ("g", "n", letter, "y"):
+        for key in ("g", "n", "o", letter, "y"):
             it.say(key)
             sheet = it.sheet() or []
         if "question 1" not in sheet[0]:
@@ -269,19 +299,20 @@ def allowed_plan(program: str) -> list[str]:
         sheet = it.sheet() or []
         it.say("q")
         it.end()
-        if "- a and b differ" not in sheet or learned(program, path) != ["different a b"]:
+        if "- a and b differ (never seen yet)" not in sheet or learned(program, path) != ["different a b"]:
             found.append(f"after going back: {sheet}")
     return found
 
 
 def refused_plan(program: str) -> list[str]:
-    """A refused plan that is judged right leads to the no behind it; going back to that takes the rule away."""
+    """A refused plan that is judged right leads to the no behind it; going back to that takes the
+    rule away."""
     with room("two", TWO) as path:
         it = Piped(path, program, "--plan", "scopes")
         sat(it, lambda q: len(set(q.values())) == len(q))
         it.say("g")
         sheet = it.sheet() or []
-        while "The rules allow it." in sheet[0]:
+        while "Is it right that it is refused?" not in sheet:
             it.say("y")
             sheet = it.sheet() or []
         marked = [line for line in sheet if line.endswith("(this breaks it)")]
@@ -303,8 +334,30 @@ def refused_plan(program: str) -> list[str]:
         return [] if learned(program, path) == [] and "No rule is needed" in " ".join(end) else [f"{end}, {learned(program, path)}"]
 
 
+def refused_twice(program: str) -> list[str]:
+    """Behind a refused plan that is right stand all answers that refuse what its rule refuses,
+    where no single one explains it."""
+    with room("two", TWO.replace("different", "different, not both x")) as path:
+        it = Piped(path, program, "--plan", "scopes")
+        sat(it, lambda q: len(set(q.values())) == len(q))
+        it.say("g")
+        sheet = it.sheet() or []
+        while "Is it right that it is refused?" not in sheet:
+            it.say("y")
+            sheet = it.sheet() or []
+        it.say("n")
+        behind = it.sheet() or [""]
+        it.say("q")
+        it.end()
+        refused = sorted(line.split()[1] for line in behind if ". no: " in line)
+        noes = sorted(line.split()[0].removeprefix("q") + "." for line in hands.acquire(program, path, "show") if line.endswith(" no"))
+        right = behind[0].startswith("If it is as you say, one of these answers was a slip, or your words can't say it") and len(noes) == 2
+        return [] if right and refused == noes else [f"{behind}, and the noes are {noes}"]
+
+
 def refused_beforehand(program: str) -> list[str]:
-    """A plan that is refused for a rule said beforehand: no answer is blamed, and it is said where the rule stands."""
+    """A plan that is refused for a rule said beforehand: no answer is blamed, and it is said where
+    the rule stands."""
     with room("two", TWO + "always: different on all\n") as path:
         it = Piped(path, program, "--plan", "scopes")
         sat(it, lambda q: True)
@@ -321,7 +374,8 @@ def refused_beforehand(program: str) -> list[str]:
 
 
 def odd_one(program: str) -> list[str]:
-    """A slip in plan scopes ends in rules; the odd one out shows it, at any time, and going back to it mends them."""
+    """A slip in plan scopes ends in rules; the odd one out shows it, at any time, and going back to
+    it mends them."""
     def all_days(q: hands.Named) -> bool:
         """The ward's rules without an exception."""
         return hands.ward(q) and not ("Sun early" in q and q.get("Sun early") == q.get("Sun late"))
@@ -362,8 +416,41 @@ def changed(program: str) -> list[str]:
         return []
 
 
+def contradicted(program: str) -> list[str]:
+    """A line `always` that was added and says otherwise than an answer: it is shown with that
+    answer before anything is asked, and `report` refuses; q leaves all as it was, and b goes
+    back."""
+    found = []
+    with room("two", TWO) as path:
+        it = Piped(path, program, "--plan", "scopes")
+        it.sheet()
+        it.say("y")
+        it.end()
+        with open(path, "a", encoding="utf-8") as file:
+            file.write("always: different on all\n")
+        told = hands.report(program, path, path + ".html").stderr
+        if any(said not in told for said in ("a and b differ", "question 1 (a x, b x)", "desk ask", "take the line out")):
+            found.append(f"report says {told!r}")
+        it = Piped(path, program)
+        sheet = it.sheet() or [""]
+        it.say("q")
+        status = it.end()
+        if "your answer to question 1" not in sheet[0] or "a: x (this breaks it)" not in sheet or status != 6 or "take the line out" not in it.lines[-1]:
+            found.append(f"{sheet}, {status}, {it.lines[-1]}")
+        it = Piped(path, program)
+        it.sheet()
+        it.say("b")
+        end = it.sheet() or []
+        it.say("q")
+        it.end()
+        if hands.acquire(program, path, "show")[1:2] != ["q1 a=1 b=1 no"] or "- a and b differ" not in end:
+            found.append(f"after b: {end}")
+    return found
+
+
 def undecided(program: str) -> list[str]:
-    """A search that is too long: what was learned, what is open, status 5, and no question goes lost."""
+    """A search that is too long: what was learned, what is open, status 5, and no question goes
+    lost."""
     with room() as path:
         it = Piped(path, program, "--plan", "quacq", "--budget", "1")
         count, _ = sat(it, hands.ward)
@@ -373,5 +460,175 @@ def undecided(program: str) -> list[str]:
         return [] if status == 5 and any("Not settled" in line for line in it.lines) else [f"{status}, {it.lines[-5:]}, {it.errors}"]
 
 
-WITH_SOLVER = (allowed_plan, refused_plan, refused_beforehand)
-ROWS = (keys, always, minimal, allowed_plan, refused_plan, refused_beforehand, why_is_capped, clash, goes_on, clash_kept, odd_one, changed, undecided)
+# ---------------------------------------------------------------- back from anywhere
+
+def from_rules(program: str) -> list[str]:
+    """From a sentence among the rules so far to the answers about its things, and back to one; what
+    was said later counts again."""
+    with room() as path:
+        it = Piped(path, program, "--plan", "scopes")
+        sat(it, hands.ward, most=40)
+        it.say("r")
+        rules = it.sheet() or []
+        letter = next((line.split()[0] for line in rules if line.endswith("Tue: each two of early, late and night differ")
+                       or "differ" in line and line[0].isalpha() and line[1:3] == "  "), "")
+        it.say(letter)
+        behind = it.sheet() or []
+        numbers = [int(m[1]) for line in behind if (m := re.match(r"[a-z]  (\d+)\. ", line))]
+        if behind[0] != "The answers behind it" or not numbers or not any(". no: " in line for line in behind):
+            it.end()
+            return [f"{rules}, then {behind}"]
+        it.say(letter_of(behind, numbers[0]))
+        it.sheet()
+        it.say("y")
+        sheet = it.sheet() or [""]
+        found = [] if re.search(rf"question {numbers[0]}\b", sheet[0]) else [f"back to {numbers[0]}: {sheet}"]
+        it.say("y" if hands.ward(plain_values(sheet)) else "n")
+        again = "\n".join(it.sheet() or [])
+        it.end()
+        if "said before you went back" not in again or hands.answers(program, path) != 40:
+            found.append(f"later answers: {again}, {hands.answers(program, path)} answers")
+        return found
+
+
+def behind_sentences(program: str) -> list[str]:
+    """Behind a sentence are the answers about whole groups that hold the things of one of its rules, and no others."""
+    found = []
+    with room() as path:
+        hands.answered(path, program, hands.ward, "quacq", most=120)
+        with session.Session.opened(casefile.read(path), talk.Program(program)) as one:
+            scopes = [set(scope) for scope in one.vocabulary.scopes]
+            for said in sentences.grouped(one.vocabulary, one.learned()):
+                wanted = [place for place, answer in enumerate(one.answers) if set(answer.question.values) in scopes
+                          and any(set(rule.things) <= set(answer.question.values) for rule in said.rules)]
+                if not wanted or views.behind(one, said.rules) != wanted:
+                    found.append(f"{said.text}: {views.behind(one, said.rules)} and not {wanted}")
+    return found
+
+
+def from_answers(program: str) -> list[str]:
+    """The answers come newest first, with a letter each; m leads to earlier ones, and a letter back
+    to any of them."""
+    with room() as path:
+        it = Piped(path, program, "--plan", "scopes")
+        sat(it, hands.ward, most=40)
+        it.say("s")
+        seen, sheets = [], []
+        for _ in range(3):
+            sheets.append(it.sheet() or [])
+            seen += [int(m[1]) for line in sheets[-1] if (m := re.match(r"[a-z]  (\d+)\. ", line))]
+            it.say("m")
+        it.sheet()
+        for key in ("m", "m", letter_of(sheets[-1], 3), "y"):
+            it.say(key)
+            sheet = it.sheet() or [""]
+        it.end()
+        if seen != list(range(40, 0, -1)) or not re.search(r"question 3\b", sheet[0]):
+            return [f"the answers {seen}, then {sheet[:1]}"]
+        return []
+
+
+def step_by_step(program: str) -> list[str]:
+    """Going back by k steps is going back to the answer at which they end: the same question, and
+    the same answers count again."""
+    found = []
+    given = 0
+    for text, plan, most, steps in ((hands.WARD, "scopes", 30, 1), (hands.WARD, "scopes", 30, 4), (ALWAYS, "quacq", 30, 3),
+                                    (ALWAYS, "scopes", 30, 5), (hands.WARD, "multi", 40, 4), (hands.WARD, "quacq", 12, 6)):
+        ends = []
+        for by_steps in (True, False):
+            with room("ward", text) as path:
+                hands.answered(path, program, hands.ward, plan, most=most)
+                with session.Session.opened(casefile.read(path), talk.Program(program)) as one, one.sit() as sitting:
+                    sitting.advance()
+                    own = [place for place, answer in enumerate(one.answers) if answer.said is None]
+                    if by_steps:
+                        for _ in range(steps):
+                            sitting.back()
+                    else:
+                        sitting.back_to(own[-steps])
+                    waits = sitting.question
+                    sitting.answer(hands.ward({one.case.things[thing].name: one.case.values[value] for thing, value in waits.values.items()}))
+                    sitting.advance()
+                    ends.append((waits, frozenset(one.foreseen.before), [(answer.question, answer.yes, answer.said) for answer in one.answers],
+                                 sitting.question))
+        given += sum(said is not None and said.by == "again" for _, _, said in ends[0][2])
+        if ends[0] != ends[1]:
+            found.append(f"{plan}, {steps} steps: {ends[0]} and not {ends[1]}")
+    return found if given else [*found, "no answer counts again"]
+
+
+# ---------------------------------------------------------------- rules that aren't so
+
+SEATS = """title: Seats
+things: Ada Bo Cy Dürr
+values: table left right x seat 1 2 3 4
+ask: all
+words: different, same table, next to
+"""
+
+
+def seats(q: hands.Named) -> bool:
+    """No seat twice; Cy and Dürr at two tables, which the words of the case can't say."""
+    return len(set(q.values())) == len(q) and not ("Cy" in q and "Dürr" in q and q["Cy"].split()[0] == q["Dürr"].split()[0])
+
+
+def never_seen(program: str) -> list[str]:
+    """A rule that no accepted example keeps is marked, reviewed first, and leads to the word that
+    is missing."""
+    with room("seats", SEATS) as path:
+        it = Piped(path, program, "--plan", "scopes")
+        _, end = sat(it, seats)
+        sheets = []
+        for key in ("g", "n", "o"):
+            it.say(key)
+            sheets.append(it.sheet() or [])
+        it.say("q")
+        it.end()
+        found = [] if end and "- Cy and Dürr are next to each other (never seen yet)" in end and "differ (never" not in "".join(end) else [f"{end}"]
+        kept = sorted(line.split(":")[0] for line in sheets[0] if line.endswith("(this keeps it)"))
+        if not sheets[0][0].startswith("No plan that you accepted") or kept != ["Cy", "Dürr"]:
+            found.append(f"the first plan: {sheets[0]}")
+        if "`words: different table`" not in "".join(sheets[1]) or "desk carry" not in "".join(sheets[1]):
+            found.append(f"the word: {sheets[1]}")
+        last = [line for line in it.lines if line.startswith("- Cy ")][-1:]
+        if not last or not re.fullmatch(r"- Cy \w+ \d and Dürr \w+ \d \(allowed, and wrong\)", last[0]):
+            found.append(f"at the end: {last}")
+        return found
+
+
+def pointed(program: str) -> list[str]:
+    """Two cells that are pointed at lead to the answers about these alone, of which one alone was
+    wrong; many are all reached."""
+    with room() as path:
+        it = Piped(path, program, "--plan", "quacq")
+        owner = {"Mon early", "Tue early"}
+        sat(it, lambda q: hands.ward(q) or owner <= set(q))
+        for key in ("g",):
+            it.say(key)
+            sheet = it.sheet() or []
+        while "Is this right?" not in sheet:
+            it.say("y")
+            sheet = it.sheet() or []
+        it.say("n")
+        plan = it.sheet() or []
+        cells = {line[3:].split(":")[0]: line[0] for line in plan if re.match(r"[a-z]  ", line)}
+        it.say("m")
+        others = it.sheet() or []
+        more = {line[3:].split(":")[0]: line[0] for line in others if re.match(r"[a-z]  ", line)}
+        if len(cells) + len(more) != 21 or set(cells) & set(more):
+            it.end()
+            return [f"{len(cells)} and {len(more)} cells have a letter"]
+        it.say("m")
+        it.sheet()
+        for name in ("Mon early", "Wed early"):
+            it.say(cells[name])
+            sheet = it.sheet() or []
+        it.say("q")
+        it.end()
+        return [] if "`ask` doesn't put Mon early and Wed early together" in "".join(sheet) else [f"{sheet}"]
+
+
+WITH_SOLVER = (allowed_plan, refused_plan, refused_twice, refused_beforehand, never_seen, pointed)
+ROWS = (keys, always, minimal, allowed_plan, refused_plan, refused_twice, refused_beforehand, why_is_capped, clash, goes_on, clash_kept, odd_one, changed, contradicted, undecided,
+        from_rules, behind_sentences, from_answers, step_by_step, never_seen, pointed)

@@ -33,11 +33,12 @@ RED = re.compile(rb"\x1b\[[0-9;]*\b(3[0-7]|4[0-7]|9[0-7]|10[0-7]|38|48)\b[0-9;]*
 
 PLANTED = [
     # each value has the name of the next one
-    ("picture.py", "return self.case.label(self.values[thing]) +", "return self.case.values[(self.values[thing] + 1) % len(self.case.values)] +"),
+    ("picture.py", "return self.called(thing, self.case.label(self.values[thing]))",
+     "return self.called(thing, self.case.values[(self.values[thing] + 1) % len(self.case.values)])"),
     # the guard is off
     ("keys.py", "now - shown >= GUARD", "now - shown >= 0"),
     # the terminal isn't put back
-    ("screen.py", "            self.keyboard.__exit__()\n", ""),
+    ("screen.py", "                self.keyboard.__exit__()\n", ""),
     # yes is taken before all pages were seen
     ("screen.py", "if key in sheet.whole and not all_seen:", "if False:"),
 ]
@@ -103,7 +104,7 @@ def one_session(program: str, name: str, plan: str, most: int, size: tuple[int, 
                     continue
                 if got != wanted or not re.search(rf"question {number}\b", screens):
                     return [f"question {number} shows {got} and not {wanted}:\n{screens}"]
-                if "at most" not in shown.replace("\n", " ") or "settled" not in shown:
+                if "at most" not in shown.replace("\n", " ") or "groups finished" not in shown:
                     return [f"question {number} doesn't say how far it is:\n{shown}"]
                 press(tmux, "y" if CASES[name][1](wanted) else "n", rf"{beyond(number)}|{OVER}")
             return [] if number > 8 else [f"only {number} questions came:\n{tmux.capture()}"]
