@@ -202,8 +202,10 @@ class Asking:
         if question.part_of(self.before):
             head += ", a part of the one before"
         ask = PART if picture.part else WHOLE
-        notes = tuple(filter(None, (self.taught, self.note)))
-        return Sheet(head, (picture,), legend(picture), (*notes, ask), (self.session.possible.progress,), KEYS, frozenset("y"))
+        notes = (self.note,) if self.note else ()
+        # what was taught is part of the body, so that it is read in a small window as well
+        body = (picture, self.taught) if self.taught else (picture,)
+        return Sheet(head, body, legend(picture), (*notes, ask), (self.session.possible.progress,), KEYS, frozenset("y"))
 
 
 def marks(values: Values, before: Question | None) -> dict[int, str]:
