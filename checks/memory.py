@@ -67,6 +67,7 @@ ROWS = [
     [
         ("new", EQUAL_OR_NOT, CREATED, 0),
         ("show", b"", "plan quacq\nanswers 0\nlearned 0\nstate idle\n", 0),
+        ("run", b"yes", "q1 a=1 b=2\nsuspended 0\n", 6),
         ("run", b"yes\n", f"{BOTH}suspended 1\n", 6),
         ("new", EQUAL_OR_NOT, "refused journal session there\n", 3),
         ("run", b"no\n", "q2 a=1 b=1\nconverged 2\nne a b\n", 0),
