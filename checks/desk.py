@@ -28,12 +28,12 @@ DESK = os.environ.get("DESK_FOLDER", os.path.join(os.path.dirname(HERE), "desk")
 
 # those that take longest first
 PARTS = ("terminal", "kept", "captured", "pages", "changes", "refusals", "suspects", "known", "bounds", "sitting",
-         "cases", "lacking", "taught", "plans", "screens", "says", "unseen", "meanings", "runs", "faults",
+         "cases", "starts", "lacking", "taught", "plans", "screens", "says", "unseen", "meanings", "runs", "faults",
          "forecast", "pace")
 NEEDS_RICH = ("terminal", "captured", "pages", "sitting", "taught", "screens", "says", "pace")
 # the bugs that the gate plants: a part, and which of its list
 GATE = (("bounds", 0), ("bounds", 1), ("suspects", 1), ("meanings", 0), ("meanings", 2), ("known", 0), ("changes", 0), ("kept", 0), ("runs", 0),
-        ("faults", 0), ("unseen", 0), ("screens", 0), ("pages", 0))
+        ("faults", 0), ("starts", 0), ("unseen", 0), ("screens", 0), ("pages", 0))
 # a command, and the Debian package that has it
 TOOLS = {"tmux": "tmux", "cadical": "cadical", "minisat": "minisat", "clasp": "clasp", "chromium": "chromium", "pdfinfo": "poppler-utils"}
 PATIENCE = 1800     # seconds for a part

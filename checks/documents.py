@@ -9,7 +9,8 @@ paragraph names; the name of a file; a word with capitals or a `_`. In the pages
 a call, a definition, a crate or a word of the command line, or a member of what its row names. Links have to lead to a file and a
 heading. Beside that:
 
-- docs/map.md has a row for each crate, in the order of crates.txt, in which each crate stands on those above it;
+- docs/map.md has a row for each crate, in the order of crates.txt, in which each crate stands on those above it, and a picture of
+  those that the program stands on;
 - in docs/definitions.md a word stands in the file that its row names;
 - docs/calls.md has each public call with a clause of the crates that the program stands on, and each law, and names no other call;
 - README.md has the figures of the tables of docs/performance.md;
@@ -341,6 +342,21 @@ def map_faults(sources, page):
                 yield 1, f"in crates.txt {crate} uses {used}, which doesn't stand above it"
 
 
+def picture_faults(sources, page):
+    """The picture has each crate that the program stands on once, on a line above those on which that one stands."""
+    at = defaultdict(list)
+    for number, line in enumerate(text_of(page.name).split("```")[1].splitlines()):
+        for word in re.findall(NAME, line):
+            at[word].append(number)
+    for crate in [*product(sources), "acquire"]:
+        if len(at.get(crate, [])) != 1:
+            yield 1, f"the picture has {crate} {len(at.get(crate, []))} times"
+            continue
+        for used in sources.crates[crate].uses:
+            if used in at and at[used][0] <= at[crate][0]:
+                yield 1, f"in the picture {used} doesn't stand below {crate}, which uses it"
+
+
 def definition_faults(sources, page):
     """A row begins with words and, in brackets, the file of specs/ that has them; a bare file is one of the crates of its chapter."""
     chapter = []
@@ -486,7 +502,7 @@ def main():
     pages = {name: Page(name) for name in [*names, "THIRD-PARTY.md"]}
     parts = [(name, lambda page: naming_faults(sources, page)) for name in names]
     parts += [(name, lambda page: link_faults(pages, page)) for name in names]
-    parts += [("docs/map.md", lambda page: map_faults(sources, page))]
+    parts += [("docs/map.md", lambda page: map_faults(sources, page)), ("docs/map.md", lambda page: picture_faults(sources, page))]
     parts += [("docs/definitions.md", lambda page: definition_faults(sources, page))]
     parts += [("docs/calls.md", lambda page: call_faults(sources, page))]
     parts += [("README.md", figure_faults), ("THIRD-PARTY.md", third_party_faults)]

@@ -21,9 +21,9 @@ links_that_lead_nowhere() {
 }
 
 unbuilt
-cp -r "$top"/{man,completions,docs,Makefile,README.md,CHANGELOG.md,CONTRIBUTING.md,THIRD-PARTY.md,LICENSE-MIT,LICENSE-APACHE} .
+cp -r "$top"/{man,completions,docs,Makefile,README.md,CHANGELOG.md,CITATION.cff,CONTRIBUTING.md,THIRD-PARTY.md,LICENSE-MIT,LICENSE-APACHE} .
 rm -r examples && cp -r "$top/examples" .
-pages=$(find README.md CHANGELOG.md CONTRIBUTING.md THIRD-PARTY.md LICENSE-MIT LICENSE-APACHE docs examples -type f -printf '644 share/doc/acquire/%p\n')
+pages=$(find README.md CHANGELOG.md CITATION.cff CONTRIBUTING.md THIRD-PARTY.md LICENSE-MIT LICENSE-APACHE docs examples -type f -printf '644 share/doc/acquire/%p\n')
 report "not built" "2 1" "$(install install PREFIX="$room/to"; echo $?) $(grep -c "isn't built yet: .* proves and builds it" "$room/said")"
 ./acquire --unproved j run >/dev/null 2>&1
 report "only an unproved one" 2 "$(install install PREFIX="$room/to"; echo $?)"
@@ -74,14 +74,25 @@ chmod +x desk/desk
 touch desk/{talk.py,desk.1,README.md} desk/cases/ward
 report "with desk" 0 "$(install install PREFIX="$room/to"; echo $?)"
 report "what is put" "$(all "755 bin/desk" "644 lib/acquire/desk/cases/ward" "755 lib/acquire/desk/desk" "644 lib/acquire/desk/talk.py" \
+    "644 share/bash-completion/completions/desk" "644 share/zsh/site-functions/_desk" \
     "644 share/doc/acquire/desk/README.md" "644 share/doc/acquire/desk/cases/ward" "644 share/man/man1/desk.1")" "$(files "$room/to")"
 report "desk starts" "desk $room/to/bin/../lib/acquire/desk $room/to/bin/acquire ask x y" "$("$room/to/bin/desk" ask "x y")"
 report "desk with another program" "other" "$(DESK_ACQUIRE=other "$room/to/bin/desk" | cut -d' ' -f3)"
 ln -s "$room/to/bin/desk" "$room/elsewhere/desk"
 report "desk by a link" "$room/to/bin/acquire" "$("$room/elsewhere/desk" | cut -d' ' -f3)"
-cp "$top/desk/README.md" desk/ && cp "$top"/desk/cases/* desk/cases/
-report "with the pages of desk" 0 "$(install install PREFIX="$room/to"; echo $?)"
-report "a link to a page leads there" "" "$(links_that_lead_nowhere "$room/to/share/doc/acquire")"
+report "bash finds the words of desk" "complete -F _desk desk" "$(bash -c '. "$1/share/bash-completion/completions/desk" && complete -p desk' bash "$room/to")"
+if has zsh "it isn't asked for the completion of desk"; then
+    report "zsh finds the words of desk" "_desk" "$(cd "$room" && zsh -f -c 'fpath=("$1/share/zsh/site-functions" $fpath); autoload -Uz compinit; compinit -u -D; print $_comps[desk]' zsh "$room/to")"
+fi
 report "uninstall with desk" "0 " "$(install uninstall PREFIX="$room/to"; echo $?) $(files "$room/to")"
+rm -r desk && cp -r "$top/desk" .
+report "with desk as it is" 0 "$(install install PREFIX="$room/to"; echo $?)"
+report "the version of desk" "$(./acquire --version | sed -n '1s/^acquire/desk/p')" "$("$room/to/bin/desk" --version)"
+report "where the cases are" "$(realpath "$room/to")/lib/acquire/desk/cases." "$("$room/to/bin/desk" --help | sed -n 's/^A case is a text; four to begin with are in //p')"
+report "copies of the cases" "0 644 ward.case" "$("$room/to/bin/desk" cases "$room/copies" >/dev/null; echo $?) $(files "$room/copies" | grep -o '644 ward.case')"
+report "there is no program without proof" "1 desk: --unproved takes the program of a repository, and here $room/to/bin/acquire is named: leave one of the two out" \
+    "$("$room/to/bin/desk" --unproved check "$room/copies/ward.case" 2>"$room/said"; echo $?) $(cat "$room/said")"
+report "a link to a page leads there" "" "$(links_that_lead_nowhere "$room/to/share/doc/acquire")"
+report "uninstall with desk as it is" "0 " "$(install uninstall PREFIX="$room/to"; echo $?) $(files "$room/to")"
 
 finish

@@ -16,9 +16,9 @@ from dataclasses import dataclass
 from typing import IO
 
 import letters
+import repository
 from model import Fault
 
-HERE = os.path.dirname(os.path.realpath(__file__))
 PATIENCE = 2.0      # seconds that a run has to end after its input has ended
 TICK = 0.25         # seconds after which somebody who waits is told how much time is left
 MOST_READ = 65536   # bytes that are read at once
@@ -120,22 +120,15 @@ class Program:
 
     @classmethod
     def found(cls, named: str | None = None) -> Program:
-        """The program that is named, else that of DESK_ACQUIRE, else the one of this repository, else the one on PATH.
-
-        That of the repository is called once by its script, which proves and builds it where need be.
-        """
+        """The program that is named, else that of DESK_ACQUIRE, else the one of this repository, else the one on PATH."""
         path = named or os.environ.get("DESK_ACQUIRE")
         if path:
             found = shutil.which(path)
             if not found:
                 raise Fault(f"{path}: there is no such program")
             return cls(os.path.abspath(found))
-        script, built = (os.path.join(os.path.dirname(HERE), *parts) for parts in (("acquire",), ("crates", "acquire", "out", "acquire")))
-        if os.path.isfile(script) and os.access(script, os.X_OK):
-            # that there is no session in memory is status 3
-            if subprocess.run([script, ":memory:", "show"], stdin=subprocess.DEVNULL, stdout=subprocess.DEVNULL, check=False).returncode != 3:
-                raise Fault(f"{script} couldn't be built; the lines above say why. Another build is taken by --acquire PROGRAM or DESK_ACQUIRE")
-            return cls(built if os.path.exists(built) else script)
+        if repository.is_there():
+            return cls(repository.program())
         found = shutil.which("acquire")
         if found:
             return cls(found)

@@ -68,7 +68,7 @@ put 644 "$room/help" lib/acquire/help
 put 644 "$home/man/acquire.1" share/man/man1/acquire.1
 put 644 "$home/completions/acquire.bash" share/bash-completion/completions/acquire
 put 644 "$home/completions/_acquire" share/zsh/site-functions/_acquire
-put_pages README.md CHANGELOG.md CONTRIBUTING.md THIRD-PARTY.md LICENSE-MIT LICENSE-APACHE docs examples desk/README.md desk/cases
+put_pages README.md CHANGELOG.md CITATION.cff CONTRIBUTING.md THIRD-PARTY.md LICENSE-MIT LICENSE-APACHE docs examples desk/README.md desk/cases
 if [ -f "$home/desk/desk" ]; then
     cat >"$room/desk" <<'END'
 #!/bin/sh
@@ -82,6 +82,8 @@ END
         [ -f "$it" ] && put 644 "$it" "lib/acquire/${it#"$home/"}"
     done
     [ -f "$home/desk/desk.1" ] && put 644 "$home/desk/desk.1" share/man/man1/desk.1
+    put 644 "$home/completions/desk.bash" share/bash-completion/completions/desk
+    put 644 "$home/completions/_desk" share/zsh/site-functions/_desk
 fi
 if [ -n "$remove" ]; then
     for folder in lib/acquire share/doc/acquire; do

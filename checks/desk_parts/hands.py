@@ -167,6 +167,13 @@ def desk(*call: str, given: str = "", env: Named | None = None) -> subprocess.Co
                           errors="backslashreplace", timeout=PATIENCE, env={**os.environ, **(env or {})}, check=False)
 
 
+def script(path: str, does: str) -> None:
+    """Writes a program of one line."""
+    with open(path, "w", encoding="utf-8") as file:
+        file.write(f"#!/bin/bash\n{does}\n")
+    os.chmod(path, 0o755)
+
+
 def answers(program: str, path: str) -> int:
     """How many answers stand in a journal."""
     lines = [line for line in acquire(program, path, "show") if line.startswith("answers ")]

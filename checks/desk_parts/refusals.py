@@ -103,7 +103,7 @@ def descriptors(program: str) -> list[str]:
     """With standard error closed, what acquire writes there doesn't get into a file that desk has opened in its place."""
     with folder() as path:
         loud = os.path.join(os.path.dirname(path), "loud")
-        script(loud, f'echo a line that is no record >&2; exec {program} "$@"')
+        hands.script(loud, f'echo a line that is no record >&2; exec {program} "$@"')
         it = ran(f"echo y | desk ask {path} --plain 2>&-", loud)
         stand = hands.answers(program, path)
         return [] if it.returncode == 0 and stand > 0 else [f"{it.returncode}, {stand} answers stand, {it.stdout[-200:]!r}"]
@@ -124,14 +124,14 @@ def programs(program: str) -> list[str]:
     with folder() as path:
         other = os.path.join(os.path.dirname(path), "other")
         for what, does in PRINTS.items():
-            script(other, does)
+            hands.script(other, does)
             for command in ("check", "ask --plain"):
                 found += [f"{what}, {command}: {fault}" for fault in wrong(ran(f"echo y | desk {command} {path}", other), "acquire (printed|says|was ended)")]
         hands.answered(path, program, lambda q: True, most=1)
         with open(journal_of(path), "rb") as file:
             kept = file.read()
         for what, does in PRINTS.items():
-            script(other, does)
+            hands.script(other, does)
             for command in ("ask --plain", f"report {path}", f"carry {path}"):
                 call, *more = command.split(" ", 1)
                 line = f"echo y | desk {call} {path} --plain" if call == "ask" else f"desk {call} {path}" + (f" {path}.html" if call == "report" else "")
@@ -144,13 +144,6 @@ def programs(program: str) -> list[str]:
     return found
 
 
-def script(path: str, does: str) -> None:
-    """Writes a program of one line."""
-    with open(path, "w", encoding="utf-8") as file:
-        file.write(f"#!/bin/bash\n{does}\n")
-    os.chmod(path, 0o755)
-
-
 def broken_off(program: str) -> list[str]:
     """A program that says something else in the middle of a session: desk says how many answers are kept, and so many stand."""
     found = []
@@ -159,7 +152,7 @@ def broken_off(program: str) -> list[str]:
         with folder(hands.WARD) as path:
             other = os.path.join(os.path.dirname(path), "other")
             # a run passes on three questions and their answers, and a last answer to nobody; all else is the program's
-            script(other, f'if [ "$2" = run ]; then coproc P {{ {program} "$@"; }}; exec 3<&0\n'
+            hands.script(other, f'if [ "$2" = run ]; then coproc P {{ {program} "$@"; }}; exec 3<&0\n'
                    f'for k in 1 2 3; do read -r q <&"${{P[0]}}"; echo "$q"; read -r a <&3; echo "$a" >&"${{P[1]}}"; done; read -r q <&"${{P[0]}}"\n'
                    f'if [ {lost} = 1 ]; then echo "$q"; read -r a <&3; fi\n{does}\nelse exec {program} "$@"; fi')
             it = ran(f"yes y | desk ask {path} --plain --plan scopes", other)
@@ -177,7 +170,7 @@ def solvers(program: str) -> list[str]:
             for name in ("cadical", "minisat"):
                 bin_folder = os.path.join(os.path.dirname(path), name)
                 os.mkdir(bin_folder)
-                script(os.path.join(bin_folder, name), does)
+                hands.script(os.path.join(bin_folder, name), does)
                 it = ran(f"desk check {path} --seconds 0.3", program, {"PATH": only_solver(bin_folder)})
                 if it.returncode or it.stderr or "The solver found none" not in it.stdout:
                     found.append(f"{name}, {does}: {it.returncode}, {it.stderr!r}, {it.stdout[-200:]!r}")
