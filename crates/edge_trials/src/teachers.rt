@@ -74,7 +74,7 @@ pub(crate) fn lines(alloc: Global, lang: &Language, arguments: &str) -> Option<S
 }
 
 /// The question's number, the call of the sink that fails, whether the teacher writes or is quiet, and a network in JSON: what it says, where
-/// a line could be read, but each reading fails.
+/// a line could be read.
 pub(crate) fn network(alloc: Global, lang: &Language, arguments: &str) -> Option<String> {
     let (front, json) = arguments.split_once(" of ")?;
     let mut words = front.split_whitespace();
@@ -102,7 +102,7 @@ fn network_turn(
 ) -> Option<String> {
     let net = read_network(alloc, lang, json.as_bytes()).ok()?;
     let mut teacher = NetTeacher::new(net, quiet);
-    let mut source = source_of(alloc, 0, "no\\n")?;
+    let mut source = source_of(alloc, call_in("-")?, "no\\n")?;
     let mut sink = sink_of(alloc, write)?;
     turn(alloc, lang, k, &mut teacher, &mut source, &mut sink)
 }

@@ -64,6 +64,8 @@ impl Calls for Trials {
             "assigned" => variables::assigned(alloc, arguments),
             "restricted" => variables::restricted(alloc, over, arguments),
             "cleared" => variables::cleared(alloc, over, arguments),
+            "cut" => variables::cut(alloc, over, arguments),
+            "equals" => variables::compared(alloc, over, arguments),
             "recorded" => variables::recorded(alloc, over, arguments),
             "size" => tables::size(alloc, arguments),
             "tuples" => tables::tuples(alloc, arguments),

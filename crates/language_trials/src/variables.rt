@@ -155,8 +155,25 @@ pub(crate) fn cleared(alloc: Global, over: &str, arguments: &str) -> Option<Stri
     text_of(alloc, &e)
 }
 
+/// The same of its first variables alone.
+pub(crate) fn cut(alloc: Global, over: &str, arguments: &str) -> Option<String> {
+    let n = arguments.parse().ok()?;
+    let e = assignment_in(over)?;
+    if n < 1 || n > e.len() {
+        return None;
+    }
+    text_of(alloc, &e.cut_to(n))
+}
+
 fn said(is_same: bool) -> &'static str {
     if is_same { "the same" } else { "not the same" }
+}
+
+/// Whether another one is the same.
+pub(crate) fn compared(alloc: Global, over: &str, arguments: &str) -> Option<String> {
+    let e = assignment_in(over)?;
+    let other = assignment_in(arguments)?;
+    String::from_str(alloc, said(e.equals(&other))).ok()
 }
 
 /// How many options it has as an event holds it, and whether it is the same then, and when it is cut to its variables again.
