@@ -20,9 +20,9 @@ body otherwise and mean the same, so nothing may notice them.
 It fails where a line isn't as it comes, lacks, or is about no edit, and where an edit doesn't fit
 the sources or compile. --write writes lines that lack or don't come anew. With --every no line is
 believed: each body goes through the tables in turn, and then the checks, until one notices it.
-With --room the programs are kept in a folder, and used again where no source and no body has
-changed, as after a row was added. Where a build of the kit calls its tools in another way than is
-known here, nothing is tried, and the last line says so.
+With --room the programs are kept in a folder, and each is used again where no source and no body
+of its crates has changed, as after a row was added. Where a build of the kit calls its tools in
+another way than is known here, nothing is tried, and the last line says so.
 
 With --plants the bodies are those that `rt plant` writes for all functions of these crates, also
 where it would not ask the prover. Those that no table notices are listed: one that means another
@@ -308,7 +308,8 @@ def main() -> int:
             shutil.rmtree(room)
     for name, why in sorted(faults.items()):
         print(f"wrong_bodies: {name}: {why}")
-    print(f"wrong_bodies: {count} bodies, {time.monotonic() - begun:.0f} s")
+    print(f"wrong_bodies: {count} bodies, {time.monotonic() - begun:.0f} s, "
+          f"{sum(os.times()[:4]):.0f} s of a processor")
     print(f"wrong_bodies: {count - len(faults)} passed, {len(faults)} failed")
     return 1 if faults or not count else 0
 

@@ -202,13 +202,14 @@ class Sources:
         self.places[file].append((len(written) + 1, len(written) + len(lines), edit))
         written += lines
 
-    def stamp(self) -> str:
-        """A text that stays as it is as long as the bodies and the sources of all crates do."""
+    def stamp(self, crates: set[str]) -> str:
+        """A text that stays as it is as long as the bodies and the sources of these crates do."""
         sums = hashlib.sha256()
-        for folder in (self.folder, f"{TOP}/crates/*/src"):
-            for file in sorted(glob.glob(f"{folder}/**/*.rt", recursive=True)):
-                with open(file, "rb") as source:
-                    sums.update(file.encode() + b"\0" + source.read() + b"\0")
+        for crate in sorted(crates):
+            for folder in (f"{self.folder}/{crate}", f"{TOP}/crates/{crate}/src"):
+                for file in sorted(glob.glob(f"{folder}/**/*.rt", recursive=True)):
+                    with open(file, "rb") as source:
+                        sums.update(file.encode() + b"\0" + source.read() + b"\0")
         return sums.hexdigest()
 
     def blamed(self, said: str) -> dict[str, str]:
