@@ -1,6 +1,7 @@
 #!/bin/sh
 # Installs what the checks behind the gate use and the machine lacks, where this runs as root and the system has packages: a C
-# compiler (memory.py), strace (faults.py), a SAT solver (models.py), mypy (python.sh) and jsonschema (schema.py). It says so before, and NO_INSTALL=1 forbids it. It never fails:
+# compiler (memory.py), strace (faults.py), a SAT solver (models.py), mypy (python.sh), jsonschema (schema.py) and
+# clang's runtime (threads.sh). It says so before, and NO_INSTALL=1 forbids it. It never fails:
 # each check says by itself what it passes over.
 #
 # usage: tools/needed.sh
@@ -13,6 +14,7 @@ command -v cadical >/dev/null || command -v kissat >/dev/null || command -v mini
     missing="$missing cadical"
 command -v mypy >/dev/null || missing="$missing mypy"
 python3 -c 'import jsonschema' 2>/dev/null || missing="$missing python3-jsonschema"
+find /usr/lib/llvm-* -name 'libclang_rt.tsan-*.a' 2>/dev/null | grep -q . || missing="$missing libclang-rt-14-dev"
 [ -n "$missing" ] || exit 0
 
 if [ -n "${NO_INSTALL-}" ] || [ "$(id -u)" -ne 0 ] || ! command -v apt-get >/dev/null; then
