@@ -75,7 +75,7 @@ for word; do
     --whole-archive) word=$room/tsan.a ;;
     esac
     # (each tool is called in a folder of its own, to which what it reads is copied)
-    cmp -s "$word" "$room/addresses.o" && marked=yes word=$room/threads.o
+    [ -f "$word" ] && cmp -s -- "$word" "$room/addresses.o" && marked=yes word=$room/threads.o
     last=$word
     words+=("$word")
 done
