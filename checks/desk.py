@@ -2,13 +2,14 @@
 """desk, the companion for planners, beside the built program.
 
 usage: checks/desk.py PROGRAM [PART ..]
-       checks/desk.py PROGRAM planted      some bugs planted in desk, each of which a part has to notice
-       checks/desk.py PROGRAM all-planted  each bug that a part lists
+       checks/desk.py PROGRAM planted [PART ..]      some bugs planted in desk, each of which a part has to notice
+       checks/desk.py PROGRAM all-planted [PART ..]  each bug that a part lists
 
-Each part is a file in checks/desk_parts and says in a line what it looked at. DESK_CASES=1000 lets that many cases change, and
-DESK_KILLS=200 kills as often. What the parts need is installed by apt-get where
-that is possible: python3-rich, tmux, a SAT solver, chromium and poppler-utils; what can't be had is passed over, and a line
-says so. Parts run side by side, each in a process of its own.
+Each part is a file in checks/desk_parts and says in a line what it looked at. DESK_TIMES=8 plays eight times as many drawn sessions
+and times the comparison of plans for smaller cases as well, DESK_CASES=1000 lets that many cases change, and DESK_KILLS=200 kills as
+often. What the parts need is installed by apt-get where that is possible: python3-rich, tmux, a SAT solver, chromium and poppler-utils.
+That is said before, and NO_INSTALL=1 forbids it; what can't be had is passed over, and a line says so. Parts run side by side, each in a
+process of its own, and the last line says how much time of a processor all took.
 """
 
 from __future__ import annotations
@@ -16,6 +17,7 @@ from __future__ import annotations
 import importlib
 import importlib.util
 import os
+import resource
 import shutil
 import subprocess
 import sys
@@ -36,31 +38,36 @@ GATE = (("bounds", 0), ("bounds", 1), ("suspects", 1), ("meanings", 0), ("meanin
         ("faults", 0), ("starts", 0), ("unseen", 0), ("screens", 0), ("pages", 0))
 # a command, and the Debian package that has it
 TOOLS = {"tmux": "tmux", "cadical": "cadical", "minisat": "minisat", "clasp": "clasp", "chromium": "chromium", "pdfinfo": "poppler-utils"}
+SOLVERS = ("cadical", "minisat", "clasp")
 PATIENCE = 1800     # seconds for a part
 
 
-def install() -> list[str]:
-    """Installs what is missing where that can be; lines on what is passed over."""
+def install() -> None:
+    """Installs what is missing where that can be, and says so before; lines on what is passed over."""
     missing = [package for command, package in TOOLS.items() if not shutil.which(command)]
     if importlib.util.find_spec("rich") is None:
         missing.append("python3-rich")
-    if missing and os.geteuid() == 0 and shutil.which("apt-get"):
-        quiet = {"stdin": subprocess.DEVNULL, "stdout": subprocess.DEVNULL, "stderr": subprocess.DEVNULL, "check": False}
-        environment = {**os.environ, "DEBIAN_FRONTEND": "noninteractive"}
-        subprocess.run(["apt-get", "update"], env=environment, **quiet)
-        for package in dict.fromkeys(missing):      # one by one, so that what isn't to be had keeps no other off
-            subprocess.run(["apt-get", "install", "-y", "--no-install-recommends", package], env=environment, **quiet)
+    if missing and (os.environ.get("NO_INSTALL") or os.geteuid() != 0 or not shutil.which("apt-get")):
+        print(f"desk: not installed, and parts that want them pass over what they can't do: {' '.join(missing)}", flush=True)
+    elif missing:
+        print(f"desk: installing by apt-get, which NO_INSTALL=1 would forbid: {' '.join(missing)}", flush=True)
+        called("update")
+        for package in missing:     # one by one, so that what isn't to be had keeps no other off
+            called("install", "-y", "--no-install-recommends", package)
     importlib.invalidate_caches()
-    told = []
-    solvers = [command for command in ("cadical", "minisat", "clasp") if shutil.which(command)]
     for command, what in (("tmux", "no terminal is looked at"), ("chromium", "no browser is looked at"), ("pdfinfo", "no page is counted")):
         if not shutil.which(command):
-            told.append(f"{TOOLS[command]} isn't installed: {what}")
-    if not solvers:
-        told.append("no SAT solver is installed: no plan is drawn")
+            print(f"desk: passed over: {TOOLS[command]} isn't installed, so {what}", flush=True)
+    if not any(map(shutil.which, SOLVERS)):
+        print("desk: passed over: no SAT solver is installed, so no plan is drawn", flush=True)
     if importlib.util.find_spec("rich") is None:
-        told.append(f"python3-rich isn't installed: passed over are {', '.join(NEEDS_RICH)}")
-    return told
+        print(f"desk: passed over: python3-rich isn't installed, so the parts {', '.join(NEEDS_RICH)} aren't run", flush=True)
+
+
+def called(*words: str) -> None:
+    """Calls apt-get, which may fail: what is missing then is passed over."""
+    subprocess.run(["apt-get", *words], env={**os.environ, "DEBIAN_FRONTEND": "noninteractive"}, stdin=subprocess.DEVNULL,
+                   stdout=subprocess.DEVNULL, stderr=subprocess.DEVNULL, check=False)
 
 
 def part(name: str, program: str, call: str = "run", folder: str = DESK, enough: int = 20) -> tuple[str, list[str]]:
@@ -103,33 +110,41 @@ def planted(program: str, bugs: list[tuple[str, int]]) -> list[str]:
         return [fault for fault in pool.map(one, changes) if fault]
 
 
+def bugs_of(wanted: list[str]) -> list[tuple[str, int]]:
+    """Which bugs are planted: those of the gate, or each that a part lists; where parts are named, theirs alone."""
+    every = [(name, place) for name in PARTS for place in range(len(importlib.import_module(name).PLANTED))]
+    bugs = every if "all-planted" in wanted else list(GATE)
+    named = [name for name in wanted if name in PARTS]
+    return [bug for bug in bugs if not named or bug[0] in named]
+
+
 def main() -> int:
     """Status 0 where no part has a fault."""
-    if len(sys.argv) < 2:
+    if len(sys.argv) < 2 or not set(sys.argv[2:]) <= {*PARTS, "planted", "all-planted"}:
         print(__doc__)
+        print(f"The parts are {', '.join(PARTS)}.")
         return 1
     program, wanted = os.path.abspath(sys.argv[1]), sys.argv[2:]
     sys.path[:0] = [DESK, PARTS_FOLDER]
-    for line in install():
-        print(f"desk: {line}")
+    install()
     rich = importlib.util.find_spec("rich") is not None
-    names = [name for name in (wanted or PARTS) if name in PARTS and (rich or name not in NEEDS_RICH)]
+    plants = "planted" in wanted or "all-planted" in wanted
+    names = [] if plants else [name for name in wanted or PARTS if rich or name not in NEEDS_RICH]
     faults: list[str] = []
     with ThreadPoolExecutor(4) as pool:
         for said, found in pool.map(lambda name: part(name, program), names):
             if said:
                 print(said, flush=True)
             faults += found
-    if not wanted or "planted" in wanted or "all-planted" in wanted:
-        bugs = list(GATE)
-        if "all-planted" in wanted:
-            bugs = [(name, place) for name in PARTS for place in range(len(getattr(importlib.import_module(name), "PLANTED", ())))]
-        bugs = [bug for bug in bugs if rich or bug[0] not in NEEDS_RICH]
-        faults += planted(program, bugs)
-        print(f"planted: {len(bugs)} bugs in desk, one at a time, are to be noticed")
+    if plants or not wanted:
+        bugs = [bug for bug in bugs_of(wanted) if rich or bug[0] not in NEEDS_RICH]
+        unnoticed = planted(program, bugs)
+        faults += unnoticed
+        print(f"planted: {len(bugs)} bugs in desk, one at a time, and {len(bugs) - len(unnoticed)} were noticed")
     for fault in faults:
         print(f"FAULT {fault}", file=sys.stderr)
-    print(f"desk: {len(faults)} faults")
+    used = resource.getrusage(resource.RUSAGE_CHILDREN)
+    print(f"desk: {len(faults)} faults, after {used.ru_utime + used.ru_stime:.0f} s of a processor")
     return 1 if faults else 0
 
 

@@ -155,6 +155,6 @@ rm -f "$room"/report.*
 
 build || pass_over "no program is built: $(tail -n 1 "$room/said")"
 sessions "$room/threads" 100 threads roster timetable
-sessions "$room/addresses" 30 addresses roster
+sessions "$room/addresses" 60 addresses roster
 echo "threads: $passed passed, $failed failed"
 [ "$failed" -eq 0 ]

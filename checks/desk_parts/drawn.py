@@ -19,6 +19,7 @@ from talk import Run  # noqa: E402
 from vocabulary import Vocabulary  # noqa: E402
 
 ENOUGH = int(os.environ.get("DESK_ENOUGH", "20"))     # faults, after which a part ends
+TIMES = int(os.environ.get("DESK_TIMES", "1"))      # how many times as many sessions are played as in the gate
 WORDS = {
     1: ["never p", "only p or r", "q or later"],
     2: ["same", "different", "before", "not after", "next to", "not both p", "one of them q", "p not with q", "no q after p", "if p then r"],

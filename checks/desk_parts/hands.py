@@ -28,6 +28,7 @@ if DESK not in sys.path:
     sys.path.insert(0, DESK)
 
 PATIENCE = 120.0        # seconds until something that has to come counts as lost; machines may be busy
+MOST_SHEETS = 2500      # of a sitting over pipes; one that has more waits for what never comes
 QUESTION = re.compile(r"question (\d+)")
 Named = dict[str, str]
 Owner = Callable[[Named], bool]
@@ -248,10 +249,15 @@ class Piped:
         self.ran = subprocess.Popen(words(path, program, *more), stdin=subprocess.PIPE, stdout=subprocess.PIPE, stderr=subprocess.PIPE, text=True,
                                     encoding="utf-8", bufsize=1, env={**os.environ, **(env or {})})
         self.lines: list[str] = []
+        self.sheets = 0
 
     def sheet(self) -> list[str] | None:
         """The lines up to the next prompt, which is the last of them; None where desk has ended instead."""
         assert self.ran.stdout
+        self.sheets += 1
+        if self.sheets > MOST_SHEETS:
+            self.ran.kill()
+            raise RuntimeError(f"no end after {MOST_SHEETS} sheets, the last of them {self.lines[-5:]}")
         lines: list[str] = []
         for line in self.ran.stdout:
             lines.append(line.rstrip("\n"))

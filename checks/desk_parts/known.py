@@ -270,7 +270,7 @@ def fresh_most(session: Session) -> int:
 
 def run(program: str) -> list[str]:
     """Faults of all drawn sessions."""
-    return looked(program, SESSIONS)
+    return looked(program, SESSIONS * drawn.TIMES)
 
 
 def quick(program: str) -> list[str]:

@@ -108,7 +108,7 @@ def sessions(program: str) -> list[str]:
     """Faults of all drawn sessions."""
     faults: list[str] = []
     clashes = named = 0
-    for seed in range(SESSIONS):
+    for seed in range(SESSIONS * drawn.TIMES):
         draw = random.Random(seed)
         text, more = texts(draw)
         try:

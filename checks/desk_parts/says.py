@@ -75,6 +75,8 @@ PLANTED = [
     ("patterns.py", "if not any(beside[thing] & set(pair) for thing in like):", "if True:"),
     # each three are said to be each two
     ("sentences.py", 'COUNTED = {2: "two", 3: "three", 4: "four"}', 'COUNTED = {2: "two", 3: "two", 4: "four"}'),
+    # a pattern has no place at the last member
+    ("along.py", "if all(0 <= member + step < size for", "if all(0 <= member + step < size - 1 for"),
 ]
 
 

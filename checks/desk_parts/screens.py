@@ -43,6 +43,8 @@ PLANTED = [
     # after another size of the window the old pages count
     ("screen.py", "                layout, seen = self._layout(sheet), set()\n", "                layout = self._layout(sheet)\n"),
     ("screen.py", "            page = min(page, max(count - 1, 0))\n", ""),
+    # of keys that do one thing only the last is named
+    ("face.py", "said.setdefault(does, []).append(key)", "said[does] = [key]"),
 ]
 
 
@@ -61,7 +63,7 @@ def run(program: str) -> list[str]:
             for height in (3, 6, 12, 40, None):
                 looked += 1
                 faults += [f"screens: case {turn} at {width}x{height}: {fault}" for fault in lost(it, width, height)]
-    for row in (whole_screens, every_window, changes, notes, lines_of_plan, markup_is_text):
+    for row in (whole_screens, every_window, changes, notes, lines_of_plan, markup_is_text, keys_together):
         faults += [f"screens: {row.__name__}: {fault}" for fault in row()]
     print(f"screens: {looked} pictures of {DRAWN} drawn cases")
     return faults[:20]
@@ -283,6 +285,13 @@ def pages_that_go() -> list[str]:
                 except IndexError as error:
                     found.append(f"{lines} lines at {width}x{height}, {keys!r}: {error!r}")
     return found[:9]
+
+
+def keys_together() -> list[str]:
+    """At the bottom all keys stand, those that do one thing beside each other."""
+    sheet = face.Sheet("Your answers clash", ("line",), keys=(("a", "go back to it"), ("c", "go back to it"), ("q", "stop")))
+    bottom = swept(sheet, "a", 60, 12)[1].frames[0][-1]
+    return [] if re.search(r"a c go back to it +q stop", bottom) else [f"at the bottom is {bottom!r}"]
 
 
 def changes() -> list[str]:

@@ -50,6 +50,14 @@ PLANTED = [
     ("review.py", "values = {thing: shown.values[thing] for thing in cells} if cells else shown.values", "values = shown.values"),
     # the answers behind a sentence are those about anything
     ("views.py", "if asked in scopes and any(", "if any("),
+    # a line that contradicts an answer leads nowhere
+    ("beforehand.py", "return place if face.put(sheet) == \"b\" else None", "return None"),
+    # a rule that nobody saw kept isn't marked
+    ("end.py", "return [f\"- {sentence.whole}\" for", "return [f\"- {sentence.text}\" for"),
+    # one cell is enough to go on from
+    ("point.py", "while len(chosen) < most:", "while len(chosen) < 1:"),
+    # a thing isn't printed
+    ("plain.py", "for thing in sorted(picture.values)]", "for thing in sorted(picture.values)[1:]]"),
 ]
 
 

@@ -28,6 +28,7 @@ printf '{BUILDS}' >&2
 [ ! -e "${{0%/*}}/broken" ] || exit 70
 exit 3
 """
+CHECKS = os.path.join(hands.TOP, "checks")
 COMPLETE = """
 source "$1"
 while IFS= read -r line; do
@@ -183,6 +184,46 @@ def hands_out(program: str) -> list[str]:
     return found
 
 
+# ---------------------------------------------------------------- what these checks need
+
+def installs(_program: str) -> list[str]:
+    """checks/desk.py says what it installs before it does so, NO_INSTALL=1 forbids it, and what it passes over stands in lines of their
+    own. Its tools aren't on the path, and apt-get is one that notes what was said when it was called."""
+    found = []
+    with tempfile.TemporaryDirectory() as folder:
+        said = os.path.join(folder, "said")
+        hands.script(os.path.join(folder, "apt-get"), f'echo "$1" >>"{folder}/called"; [ -e "{folder}/before" ] || /bin/cp "{said}" "{folder}/before"')
+        for no_install in (True, False):
+            named = {"PATH": folder, **({"NO_INSTALL": "1"} if no_install else {})}
+            with open(said, "w", encoding="utf-8") as file:
+                subprocess.run(["/usr/bin/python3", "-c", f"import sys; sys.path.insert(0, {CHECKS!r}); import desk; desk.install()"],
+                               env=named, stdout=file, timeout=hands.PATIENCE, check=True)
+            with open(said, encoding="utf-8") as file:
+                lines = file.read().splitlines()
+            rich = [] if importlib.util.find_spec("rich") else ["python3-rich"]
+            wanted = ["tmux", "cadical", "minisat", "clasp", "chromium", "poppler-utils", *rich]
+            installed = not no_install and os.geteuid() == 0
+            head = "installing by apt-get, which NO_INSTALL=1 would forbid:" if installed else \
+                "not installed, and parts that want them pass over what they can't do:"
+            found += wrong("what is missing", lines[:1], [f"desk: {head} {' '.join(wanted)}"])
+            over = [line.removeprefix("desk: passed over: ").split()[0] for line in lines[1:] if line.startswith("desk: passed over: ")]
+            found += wrong("what is passed over", over, ["tmux", "chromium", "poppler-utils", "no", *rich])
+            found += wrong("what is called", calls(folder), ["update", *["install"] * len(wanted)] if installed else [])
+        if os.geteuid() == 0:
+            with open(os.path.join(folder, "before"), encoding="utf-8") as file:
+                found += wrong("what was said before", "desk: installing" in file.read(), True)
+    return found
+
+
+def calls(folder: str) -> list[str]:
+    """What apt-get was called for."""
+    path = os.path.join(folder, "called")
+    if not os.path.exists(path):
+        return []
+    with open(path, encoding="utf-8") as file:
+        return file.read().split()
+
+
 # ---------------------------------------------------------------- words
 
 def script_of_desk() -> ModuleType:
@@ -248,5 +289,10 @@ def manual(words: dict[str, list[str]]) -> list[str]:
 
 def run(program: str) -> list[str]:
     """All of it."""
-    print("starts: programs of a repository, versions, cases handed out, and words completed")
-    return takes(program) + says(program) + hands_out(program) + completed(program)
+    print("starts: programs of a repository, versions, cases handed out, what is installed, and words completed")
+    return takes(program) + says(program) + hands_out(program) + installs(program) + completed(program)
+
+
+def quick(program: str) -> list[str]:
+    """Without what isn't desk's own."""
+    return takes(program) + says(program) + hands_out(program)

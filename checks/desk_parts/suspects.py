@@ -84,7 +84,7 @@ def run(program: str) -> list[str]:
     """Faults of all drawn sessions."""
     faults: list[str] = []
     sessions = collapses = hits = 0
-    for seed, _, words in drawn.cases(range(5000, 5000 + SESSIONS)):
+    for seed, _, words in drawn.cases(range(5000, 5000 + SESSIONS * drawn.TIMES)):
         every = drawn.networks(words, MOST_NETWORKS)
         if every is None or len(every) < 3:
             continue

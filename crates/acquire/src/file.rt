@@ -39,6 +39,19 @@ impl<'a, R: Files<File = File>> SystemFile<'a, R> {
         Ok(())
     }
 
+    /// Writes all of these bytes. A session begins at the file's beginning, and its file may be new then, so its folder is written too.
+    fn write_whole(&mut self, at: u64, bytes: &[u8]) -> Result<(), Failed> {
+        self.find(true)?;
+        let Some(file) = &self.file else {
+            return Err(Failed);
+        };
+        file.write_all(at, bytes)?;
+        if at == 0 {
+            return self.sync_folder();
+        }
+        Ok(())
+    }
+
     /// Has the file's entry in its folder written, where the system offers that. A folder that may be written in and not read
     /// can't be synced, and on some file systems none can: that is no fault.
     fn sync_folder(&self) -> Result<(), Failed> {
@@ -100,17 +113,8 @@ impl<'a, R: Files<File = File>> NamedFile for SystemFile<'a, R> {
         }
     }
 
-    /// A session begins at the file's beginning, and its file may be new then, so its folder is written too.
     fn write_all(&mut self, at: u64, bytes: &[u8]) -> Result<(), Failed> {
-        self.find(true)?;
-        let Some(file) = &self.file else {
-            return Err(Failed);
-        };
-        file.write_all(at, bytes)?;
-        if at == 0 {
-            return self.sync_folder();
-        }
-        Ok(())
+        self.write_whole(at, bytes)
     }
 
     fn sync(&mut self) -> Result<(), Failed> {
