@@ -510,4 +510,4 @@ def table(rows: list[tuple[str, ...]], width: int) -> Iterator[str]:
     for row in rows[1:]:
         yield f"  {row[0]}"
         for head, cell in zip(rows[0][1:], row[1:], strict=True):
-            yield f"    {head}: {cell}"
+            yield from textwrap.wrap(f"    {head}: {cell}", width, subsequent_indent="      ")
