@@ -15,7 +15,7 @@ import end
 import streams
 import trials
 import views
-from face import Face, Sheet, moving, patience
+from face import Block, Face, Sheet, moving, patience
 from model import Ending, Fault, Question, Values
 from picture import CHANGED, LEFT_OUT, Picture
 from plain import Lines
@@ -204,8 +204,8 @@ class Asking:
         ask = PART if picture.part else WHOLE
         notes = (self.note,) if self.note else ()
         # what was taught is part of the body, so that it is read in a small window as well
-        body = (picture, self.taught) if self.taught else (picture,)
-        return Sheet(head, body, legend(picture), (*notes, ask), (self.session.possible.progress,), KEYS, frozenset("y"))
+        body: list[Block] = [picture, self.taught] if self.taught else [picture]
+        return Sheet(head, tuple(body), legend(picture), (*notes, ask), (self.session.possible.progress,), KEYS, frozenset("y"))
 
 
 def marks(values: Values, before: Question | None) -> dict[int, str]:

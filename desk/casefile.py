@@ -14,6 +14,7 @@ Each fault is told with file and line, and with the nearest right form where one
 
 from __future__ import annotations
 
+import functools
 import itertools
 import math
 import os
@@ -135,7 +136,7 @@ class _Reader:
     def _cut(self) -> None:
         """The lines, without comments and empty ones."""
         for number, raw in enumerate(letters.lines_of(self.text), 1):
-            self._try(lambda number=number, raw=raw: self._line(number, raw))
+            self._try(functools.partial(self._line, number, raw))
 
     def _line(self, number: int, raw: str) -> None:
         """Adds one line to those of the case."""

@@ -97,15 +97,15 @@ class Setting:
                 return place
         return None
 
-    def value_set(self, name: str) -> frozenset[int] | None:
-        """The values of a name: a value, or all with this member of a part."""
+    def value_set(self, name: str) -> frozenset[int]:
+        """The values of a name: a value, or all with this member of a part; none where nothing is called so."""
         if name in self.values:
             return frozenset([self.values.index(name)])
         for place, part in enumerate(self.value_parts):
             if name in part.members:
                 member = part.members.index(name)
                 return frozenset(v for v in range(len(self.values)) if self.at(v)[place] == member)
-        return None
+        return frozenset()
 
 
 def word(setting: Setting, text: str) -> Word:
@@ -165,10 +165,10 @@ def _of_one(setting: Setting, text: str) -> Word | None:
             return None
         return only(setting, m[1].split(" or "), frozenset().union(*sets))
     if (m := re.fullmatch(r"(.+) or (earlier|later)", text)) and m[1] in setting.values:
-        v = setting.values.index(m[1])
+        end = setting.values.index(m[1])
         if m[2] == "earlier":
-            return made(lambda x: x <= v, f"is {m[1]} or earlier")
-        return made(lambda x: x >= v, f"is {m[1]} or later")
+            return made(lambda x: x <= end, f"is {m[1]} or earlier")
+        return made(lambda x: x >= end, f"is {m[1]} or later")
     return None
 
 
@@ -236,7 +236,7 @@ def _of_two_values(setting: Setting, text: str) -> Word | None:
     """Words about two things that name values: not both V, V not with W and so on."""
     def made(holds: Callable[[int, int], bool], sentence: str, shown: str) -> Word:
         return _word(setting, text, 2, holds, sentence, shown)
-    one = {form: setting.value_set(m[1]) if (m := re.fullmatch(form, text)) else None
+    one = {form: setting.value_set(m[1]) if (m := re.fullmatch(form, text)) else frozenset()
            for form in (r"not both (.+)", r"one of them (.+)", r"both (.+) or neither")}
     if v := one[r"not both (.+)"]:
         name = text.removeprefix("not both ")

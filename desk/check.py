@@ -22,9 +22,10 @@ import streams
 import trials
 import vocabulary
 from along import and_list
+from files import journal_of
 from model import MOST_RELATIONS, Case, Fault, Values
 from picture import Picture, sentence
-from session import head_of, journal_of
+from session import head_of
 from talk import Clock, Late, Program
 from trials import WAYS, Figures, Price
 from vocabulary import Vocabulary
@@ -352,7 +353,7 @@ def compared(words: Vocabulary, some: list[Figures], width: int) -> Iterator[str
         "questions or more."
     )
     yield ""
-    rows = [
+    rows: list[tuple[str, ...]] = [
         (
             "way of asking",
             "questions",
@@ -509,4 +510,4 @@ def table(rows: list[tuple[str, ...]], width: int) -> Iterator[str]:
     for row in rows[1:]:
         yield f"  {row[0]}"
         for head, cell in zip(rows[0][1:], row[1:], strict=True):
-            yield f"    {head}: {cell}"
+            yield from textwrap.wrap(f"    {head}: {cell}", width, subsequent_indent="      ")

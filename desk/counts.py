@@ -73,7 +73,7 @@ def _counted(
     if found is None or number is None:
         return None
     values = setting.value_set(of_them[3]) if of_them else None
-    if of_them and values is None:
+    if of_them and not values:
         raise Fault(f"no such value: {of_them[3]}{names.nearest(of_them[3], setting.values)}")
     sets = (
         [values]

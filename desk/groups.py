@@ -138,10 +138,9 @@ def _row(things: Sequence[Thing], parts: Sequence[Part], phrase: str) -> list[tu
     if m is None or part is None:
         return None
     at = {thing.at: thing.place for thing in things}
-    def moved(thing: Thing, step: int) -> int | None:
-        return at.get(thing.at[:part] + (thing.at[part] + step,) + thing.at[part + 1:])
-    rows = [tuple(moved(thing, step) for step in range(int(m[1]))) for thing in things]
-    return [row for row in rows if None not in row]
+    along = range(int(m[1]))
+    rows = [[at.get(thing.at[:part] + (thing.at[part] + step,) + thing.at[part + 1:]) for step in along] for thing in things]
+    return [tuple(place for place in row if place is not None) for row in rows if None not in row]
 
 
 def _to(things: Sequence[Thing], parts: Sequence[Part], phrase: str) -> list[tuple[int, ...]] | None:

@@ -113,8 +113,8 @@ class Review:
                 return key, place
         rule = shown.rule
         if rule is not None and (rule.word.text, rule.things) in self.session.beforehand:
-            lines = (f"{shown.title}. " + BEFOREHAND,)
-            return self.face.put(Sheet("You said this rule beforehand", lines, keys=UNSAYABLE)), None
+            told = f"{shown.title}. " + BEFOREHAND
+            return self.face.put(Sheet("You said this rule beforehand", (told,), keys=UNSAYABLE)), None
         with patience(self.face, "looking for a word that can say it .."):
             search = missing.lacking(self.session, values, not shown.allowed)
         lines = (*missing.told(self.session, search), "", STAYS)

@@ -121,7 +121,8 @@ class Screen:
             return
         lines = layout.head + layout.pages[page]
         said = self._text(message, "bold")[:len(layout.foot)] if message else layout.foot
-        foot = [[] for _ in layout.foot[len(said):]] + said + self._text(self._keys(sheet, page, len(layout.pages)), "reverse")
+        blank: Lines = [[] for _ in layout.foot[len(said):]]
+        foot = blank + said + self._text(self._keys(sheet, page, len(layout.pages)), "reverse")
         spare = height - len(lines) - len(layout.under) - len(foot)
         above: Lines = [[]] if spare > 1 and layout.under else []
         lines = lines + above + layout.under

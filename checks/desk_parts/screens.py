@@ -63,7 +63,7 @@ def run(program: str) -> list[str]:
             for height in (3, 6, 12, 40, None):
                 looked += 1
                 faults += [f"screens: case {turn} at {width}x{height}: {fault}" for fault in lost(it, width, height)]
-    for row in (whole_screens, every_window, changes, notes, lines_of_plan, markup_is_text, keys_together):
+    for row in (whole_screens, every_window, changes, notes, lines_of_plan, markup_is_text, keys_together, figures_fit):
         faults += [f"screens: {row.__name__}: {fault}" for fault in row()]
     print(f"screens: {looked} pictures of {DRAWN} drawn cases")
     return faults[:20]
@@ -292,6 +292,14 @@ def keys_together() -> list[str]:
     sheet = face.Sheet("Your answers clash", ("line",), keys=(("a", "go back to it"), ("c", "go back to it"), ("q", "stop")))
     bottom = swept(sheet, "a", 60, 12)[1].frames[0][-1]
     return [] if re.search(r"a c go back to it +q stop", bottom) else [f"at the bottom is {bottom!r}"]
+
+
+def figures_fit() -> list[str]:
+    """Figures that are too wide for a table are a list, whose lines break between words."""
+    import check
+    lines = list(check.table([("way", "questions"), ("scopes", "more than 12 when the time was over")], 24))
+    wanted = ["  scopes", "    questions: more than", "      12 when the time", "      was over"]
+    return [] if lines == wanted else [f"{lines} and not {wanted}"]
 
 
 def changes() -> list[str]:
