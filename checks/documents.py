@@ -13,6 +13,7 @@ heading. Beside that:
   those that the program stands on;
 - in docs/definitions.md a word stands in the file that its row names;
 - docs/calls.md has each public call with a clause of the crates that the program stands on, and each law, and names no other call;
+- in docs/promises.md a definition is one of the crate whose clause is cited beside it, or of one that this crate uses;
 - README.md has the figures of the tables of docs/performance.md;
 - THIRD-PARTY.md is what tools/third_party.py makes, where the kit that it names is there.
 
@@ -40,6 +41,7 @@ OTHERS = {
     "mine.json": "a file that the reader writes",
     "crate::call.clause": "the form of a path",
 }
+FLOOR = {"acq_loop", "acq_said", "acq_cli"}
 NAME = "[A-Za-z_][A-Za-z0-9_]*"
 ITEM = re.compile(rf"(?:pub(?:\([a-z]+\))? )?(?:(?:const|unsafe) )*(fn|struct|enum|trait|const|type) ({NAME})")
 IMPL = re.compile(rf"impl(?:<.*?>)? (?:.* for )?({NAME})")
@@ -309,6 +311,25 @@ def naming_faults(sources, page):
                     yield number, f"`{token}`: {fault}"
 
 
+def citing_faults(sources, page):
+    """A definition that docs/promises.md names beside a clause is one of the crate whose clause is cited there, or of a crate that it
+    uses; elsewhere there may be another one of that name, which a reader would take for it."""
+    homes = defaultdict(set)
+    for name, crate in sources.crates.items():
+        for word in set().union(*crate.words.values()):
+            homes[word].add(name)
+    for number, text in page.blocks():
+        tokens = tokens_in(text)
+        cited = {token.split("::")[0] for token in tokens if "::" in token} & set(sources.crates)
+        # The program's floor is one in three crates.
+        near = cited.union(FLOOR if cited & FLOOR else set())
+        near = near.union(*(sources.crates[crate].uses for crate in near))
+        for token in dict.fromkeys(tokens):
+            word = token.partition(".")[0]
+            if cited and re.fullmatch("[A-Z][A-Za-z]+", word) and homes.get(word) and not homes[word] & near:
+                yield number, f"`{token}`: it is of {', '.join(sorted(homes[word]))}, and the clauses that are cited there are of {', '.join(sorted(cited))}"
+
+
 def link_faults(pages, page):
     for number, line in page.lines:
         for target in re.findall(r"\]\(([^)\s]+)\)", line):
@@ -505,6 +526,7 @@ def main():
     parts += [("docs/map.md", lambda page: map_faults(sources, page)), ("docs/map.md", lambda page: picture_faults(sources, page))]
     parts += [("docs/definitions.md", lambda page: definition_faults(sources, page))]
     parts += [("docs/calls.md", lambda page: call_faults(sources, page))]
+    parts += [("docs/promises.md", lambda page: citing_faults(sources, page))]
     parts += [("README.md", figure_faults), ("THIRD-PARTY.md", third_party_faults)]
     failed = 0
     for name, faults in parts:

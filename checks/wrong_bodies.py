@@ -294,6 +294,8 @@ def main() -> int:
     said = words.parse_args()
     begun = time.monotonic()
     room = os.path.abspath(said.room) if said.room else tempfile.mkdtemp()
+    os.makedirs(room, exist_ok=True)
+    os.chmod(room, 0o755)
     try:
         if said.plants:
             tell_plants(said, room)
