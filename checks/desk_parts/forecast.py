@@ -240,8 +240,7 @@ ASKS_ON = """#!/bin/sh
 # answers
 k=0
 [ "$2" = play ] && yes=" yes"
-while [ $k -lt 100000 ]; do k=$((k + 1)); echo "q$k a=1 b=1$yes"; [ "$yes" ] || read -r answer; done
-echo converged
+while :; do k=$((k + 1)); echo "q$k a=1 b=1$yes"; [ "$yes" ] || read -r answer; done
 """
 
 
