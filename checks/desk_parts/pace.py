@@ -22,8 +22,8 @@ from talk import Program
 
 LIMIT = 0.050       # seconds, of the middle key; a key that changes all 4,950 groups at once may take three times as long
 SOME = 60           # questions
-FOR_CHECK = 20.0    # seconds of processor for `desk check` of the largest case
-FOR_FIRST = 5.0     # and until its first question
+FOR_CHECK = 40.0    # seconds of processor for `desk check` of the largest case, twice what a quiet machine may take (20):
+FOR_FIRST = 10.0    # where others use the processor too, the same work costs more; and until its first question (5)
 NO_END = 180        # seconds by the clock after which a call counts as one without an end, also on a busy machine
 PLANTED = [
     ("trials.py", "SECONDS = 10.0 ", "SECONDS = 60.0 "),
