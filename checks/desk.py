@@ -95,7 +95,7 @@ def planted(program: str, bugs: list[tuple[str, int]]) -> list[str]:
         with tempfile.TemporaryDirectory() as folder:
             copy = os.path.join(folder, "desk")
             shutil.copytree(DESK, copy, ignore=shutil.ignore_patterns("__pycache__"))
-            path = os.path.join(copy, file)
+            path = os.path.join(copy, "planners_desk", file)
             with open(path, encoding="utf-8") as source:
                 text = source.read()
             if old not in text:

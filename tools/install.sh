@@ -35,12 +35,14 @@ put() {
     fi || exit 1
 }
 
-# Puts the files of the repository that these names and folders have, as they stand there.
-put_pages() {
-    (cd "$home" && find "$@" -type f ! -path '*/__pycache__/*' 2>/dev/null) | LC_ALL=C sort >"$room/pages"
-    while IFS= read -r page; do
-        put 644 "$home/$page" "share/doc/acquire/$page"
-    done <"$room/pages"
+# Puts the files of the repository that these names and folders have into a folder, as they stand here.
+put_files() {
+    into=$1
+    shift
+    (cd "$home" && find "$@" -type f ! -path '*/__pycache__/*' 2>/dev/null) | LC_ALL=C sort >"$room/files"
+    while IFS= read -r it; do
+        put 644 "$home/$it" "$into/$it"
+    done <"$room/files"
 }
 
 program=
@@ -68,7 +70,7 @@ put 644 "$room/help" lib/acquire/help
 put 644 "$home/man/acquire.1" share/man/man1/acquire.1
 put 644 "$home/completions/acquire.bash" share/bash-completion/completions/acquire
 put 644 "$home/completions/_acquire" share/zsh/site-functions/_acquire
-put_pages README.md CHANGELOG.md CITATION.cff CONTRIBUTING.md THIRD-PARTY.md LICENSE-MIT LICENSE-APACHE docs examples desk/README.md desk/cases
+put_files share/doc/acquire README.md CHANGELOG.md CITATION.cff CONTRIBUTING.md THIRD-PARTY.md LICENSE-MIT LICENSE-APACHE docs examples desk/README.md desk/cases
 if [ -f "$home/desk/desk" ]; then
     cat >"$room/desk" <<'END'
 #!/bin/sh
@@ -78,9 +80,7 @@ DESK_ACQUIRE=${DESK_ACQUIRE:-$at/acquire} exec "$at/../lib/acquire/desk/desk" "$
 END
     put 755 "$room/desk" bin/desk
     put 755 "$home/desk/desk" lib/acquire/desk/desk
-    for it in "$home"/desk/*.py "$home"/desk/cases/*; do
-        [ -f "$it" ] && put 644 "$it" "lib/acquire/${it#"$home/"}"
-    done
+    put_files lib/acquire desk/planners_desk desk/cases
     [ -f "$home/desk/desk.1" ] && put 644 "$home/desk/desk.1" share/man/man1/desk.1
     put 644 "$home/completions/desk.bash" share/bash-completion/completions/desk
     put 644 "$home/completions/_desk" share/zsh/site-functions/_desk

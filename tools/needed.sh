@@ -1,6 +1,6 @@
 #!/bin/sh
 # Installs what the checks behind the gate use and the machine lacks, where this runs as root and the system has packages: a C
-# compiler (memory.py), strace (faults.py), a SAT solver (models.py), mypy (python.sh), jsonschema (schema.py) and
+# compiler (memory.py), strace (faults.py), a SAT solver (models.py), mypy (python.sh, rooms.sh), jsonschema (schema.py) and
 # clang's runtime (threads.sh). It says so before, and NO_INSTALL=1 forbids it. It never fails:
 # each check says by itself what it passes over.
 #

@@ -8,21 +8,21 @@ import random
 
 import drawn
 from drawn import Owner, tried
-from model import PLANS
-from possible import Possible
-from session import is_question
-from talk import Program
+from planners_desk.case.model import PLANS
+from planners_desk.hints.possible import Possible
+from planners_desk.sitting.session import is_question
+from planners_desk.program.talk import Program
 
 SESSIONS = 240
 PLANTED = [
-    ("possible.py", "return left, left + len(scope.things) * self._lg + 1", "return left, left - 1 + len(scope.things) * self._lg // 2"),
-    ("possible.py", "            return left, left\n", "            return left, left - 1\n"),
-    ("possible.py", "        for scope, left, needed in reversed(self._undo.pop()):", "        for scope, left, needed in self._undo.pop()[1:]:"),
-    ("possible.py", "                if len(scope.things) == len(values):\n", "                if len(scope.things) <= len(values):\n"),
+    ("hints/possible.py", "return left, left + len(scope.things) * self._lg + 1", "return left, left - 1 + len(scope.things) * self._lg // 2"),
+    ("hints/possible.py", "            return left, left\n", "            return left, left - 1\n"),
+    ("hints/possible.py", "        for scope, left, needed in reversed(self._undo.pop()):", "        for scope, left, needed in self._undo.pop()[1:]:"),
+    ("hints/possible.py", "                if len(scope.things) == len(values):\n", "                if len(scope.things) <= len(values):\n"),
     # a settled rule is shown as one that is at stake
-    ("possible.py", " or (scope.needed and scope.left.bit_count() == 1):\n                continue", ":\n                continue"),
+    ("hints/possible.py", " or (scope.needed and scope.left.bit_count() == 1):\n                continue", ":\n                continue"),
     # words are combined with themselves alone
-    ("closing.py", "for new in [table] + [table & other for other in found]:", "for new in [table]:"),
+    ("program/closing.py", "for new in [table] + [table & other for other in found]:", "for new in [table]:"),
 ]
 
 

@@ -12,16 +12,16 @@ import subprocess
 import tempfile
 from collections.abc import Callable
 
-import casefile
+from planners_desk.case import casefile
 import drawn
-from session import Session
-from talk import Program
+from planners_desk.sitting.session import Session
+from planners_desk.program.talk import Program
 
 KEPT = os.path.join(drawn.TOP, "checks", "desk_captures")
 PLANS = {"ward": "scopes", "school": "quacq", "bicycle": "multi", "garden": "scopes"}
 PLANTED = [
-    ("check.py", 'yield f"Advice: {best.plan},', 'yield f"Advice: {some[1].plan},'),
-    ("trials.py", "noticed += slipped(", "noticed += 1 - slipped("),
+    ("commands/check.py", 'yield f"Advice: {best.plan},', 'yield f"Advice: {some[1].plan},'),
+    ("hints/trials.py", "noticed += slipped(", "noticed += 1 - slipped("),
 ]
 DAYS = ["Mon", "Tue", "Wed", "Thu", "Fri", "Sat", "Sun"]
 

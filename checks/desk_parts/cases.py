@@ -15,10 +15,10 @@ import subprocess
 from dataclasses import dataclass
 
 import hands  # desk's folder is on the path now
-import casefile
-import sentences
-import session
-import talk
+from planners_desk.case import casefile
+from planners_desk.hints import sentences
+from planners_desk.sitting import session
+from planners_desk.program import talk
 from hands import Named, Owner
 
 SEATS = """title: Seats
@@ -56,15 +56,15 @@ FLAMMABLE, OXIDIZERS = ("acetone", "ethanol", "ether"), ("permanganate", "peroxi
 PLANTED = [
     # words about a part of the values aren't looked for
     (
-        "missing.py",
+        "sitting/missing.py",
         "for form in parted + [form for form in plain if form not in parted] + named:",
         "for form in named:",
     ),
     # a word is offered that an accepted example breaks
-    ("missing.py", "and all(word.holds(*some) for some in seen)", "and bool(seen or 1)"),
+    ("sitting/missing.py", "and all(word.holds(*some) for some in seen)", "and bool(seen or 1)"),
     # what an accepted example shows counts as never seen
     (
-        "sentences.py",
+        "hints/sentences.py",
         "accepted = [answer.question.values for answer in answers if answer.yes]",
         "accepted = [answer.question.values for answer in answers if not answer.yes]",
     ),

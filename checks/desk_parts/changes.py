@@ -19,22 +19,22 @@ from collections import Counter
 from collections.abc import Callable, Iterator
 from dataclasses import dataclass, field
 
-import carry
-import casefile
+from planners_desk.commands import carry
+from planners_desk.case import casefile
 import drawn
-from model import PLANS, Answer, Case, Fault, Values
-from session import Session
-from talk import Program
-from vocabulary import Vocabulary
+from planners_desk.case.model import PLANS, Answer, Case, Fault, Values
+from planners_desk.sitting.session import Session
+from planners_desk.program.talk import Program
+from planners_desk.program.vocabulary import Vocabulary
 
 CASES = int(os.environ.get("DESK_CASES", "150"))
 MOST_ANSWERS = 300  # of a person, after which a session is left as it is
 PLANTED = [
     # what an `always` line answered is carried over as the person's own word
-    ("carry.py", "if known is None or known.yes != yes:", "if True:"),
+    ("commands/carry.py", "if known is None or known.yes != yes:", "if True:"),
     # a refused example that names what isn't there any more counts with what is left of it
     (
-        "session.py",
+        "sitting/session.py",
         "if values and (one[\"yes\"] or len(values) == len(one[\"values\"])):",
         "if values:",
     ),

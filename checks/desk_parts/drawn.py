@@ -13,10 +13,10 @@ DESK = os.environ.get("DESK_FOLDER", os.path.join(TOP, "desk"))
 if DESK not in sys.path:
     sys.path.insert(0, DESK)
 
-import casefile  # noqa: E402
-from model import Case, Fault, Values  # noqa: E402
-from talk import Run  # noqa: E402
-from vocabulary import Vocabulary  # noqa: E402
+from planners_desk.case import casefile  # noqa: E402
+from planners_desk.case.model import Case, Fault, Values  # noqa: E402
+from planners_desk.program.talk import Run  # noqa: E402
+from planners_desk.program.vocabulary import Vocabulary  # noqa: E402
 
 ENOUGH = int(os.environ.get("DESK_ENOUGH", "20"))     # faults, after which a part ends
 TIMES = int(os.environ.get("DESK_TIMES", "1"))      # how many times as many sessions are played as in the gate
@@ -108,5 +108,5 @@ def networks(words: Vocabulary, most: int) -> list[dict[tuple[int, ...], int]] |
 
 def tried(program_path: str, words: Vocabulary, plan: str) -> Run:
     """`acquire :memory: try` over a case."""
-    from talk import Program
+    from planners_desk.program.talk import Program
     return Run(Program(program_path), [":memory:", "try", "--plan", plan], given=words.json.encode() + b"\n")

@@ -5,10 +5,10 @@ from __future__ import annotations
 import os
 import tempfile
 
-import casefile
-import names
-from model import Fault
-from vocabulary import Vocabulary
+from planners_desk.case import casefile
+from planners_desk.case import names
+from planners_desk.case.model import Fault
+from planners_desk.program.vocabulary import Vocabulary
 
 WARD = "things: day Mon .. Sun x shift early late night\nvalues: Ann Ben Cas Dee Eve\n"
 ASK = "ask: same day\nwords: different\n"
@@ -18,20 +18,20 @@ FORMS = ("`known: at most 2 of them V`, `at least`, `exactly`, `known: at most 2
          "or a word as in `always`. What can't be looked for goes into a line `note`")
 REST = "ask: all\nwords: same\n"
 PLANTED = [
-    ("synonyms.py", '(rf"(?:not|never|no) {THE_SAME} (.+)", r"different \\1"),', '(rf"(?:not|never|no) {THE_SAME} (.+)", r"same \\1"),'),
-    ("synonyms.py", "    if things.index(first) < things.index(last):\n        return word, first, last\n", "    return word, first, last\n"),
-    ("catalogue.py", "    if meant:\n        return synonyms.hint(meant)\n", ""),
-    ("groups.py", "    if meant_form:\n        return synonyms.hint(meant_form)\n", ""),
-    ("casefile.py", "        self._missing()\n", ""),
-    ("casefile.py", "sorted(self.faults, key=lambda fault: fault[0] or len(self.text))", "self.faults"),
-    ("casefile.py", "for piece in self._pieces(key):\n", "for piece in self._pieces(key)[:1]:\n"),
-    ("names.py", "return None if ranged and _of_a_kind(first, others[0]) else Heading", "return None if ranged else Heading"),
-    ("names.py", "return None if ranged and _of_a_kind(first, others[0]) else Heading", "return Heading"),
-    ("casefile.py", "self.line_number = number\n", "self.line_number = number - 1\n"),
-    ("names.py", 'return f"; the nearest is `{found[0]}`" if found else ""', 'return ""'),
-    ("casefile.py", "allowed.update(range(low, high))", "allowed.update(range(low, high - 1))"),
-    ("casefile.py", 'self._once((member for part in parts for member in part.members), "`{}` stands in two sides of the grid")', "pass"),
-    ("names.py", "if len(numbers) > MOST_FILLED:", "if len(numbers) > 2 * MOST_FILLED:"),
+    ("case/synonyms.py", '(rf"(?:not|never|no) {THE_SAME} (.+)", r"different \\1"),', '(rf"(?:not|never|no) {THE_SAME} (.+)", r"same \\1"),'),
+    ("case/synonyms.py", "    if things.index(first) < things.index(last):\n        return word, first, last\n", "    return word, first, last\n"),
+    ("case/catalogue.py", "    if meant:\n        return synonyms.hint(meant)\n", ""),
+    ("case/groups.py", "    if meant_form:\n        return synonyms.hint(meant_form)\n", ""),
+    ("case/casefile.py", "        self._missing()\n", ""),
+    ("case/casefile.py", "sorted(self.faults, key=lambda fault: fault[0] or len(self.text))", "self.faults"),
+    ("case/casefile.py", "for piece in self._pieces(key):\n", "for piece in self._pieces(key)[:1]:\n"),
+    ("case/names.py", "return None if ranged and _of_a_kind(first, others[0]) else Heading", "return None if ranged else Heading"),
+    ("case/names.py", "return None if ranged and _of_a_kind(first, others[0]) else Heading", "return Heading"),
+    ("case/casefile.py", "self.line_number = number\n", "self.line_number = number - 1\n"),
+    ("case/names.py", 'return f"; the nearest is `{found[0]}`" if found else ""', 'return ""'),
+    ("case/casefile.py", "allowed.update(range(low, high))", "allowed.update(range(low, high - 1))"),
+    ("case/casefile.py", 'self._once((member for part in parts for member in part.members), "`{}` stands in two sides of the grid")', "pass"),
+    ("case/names.py", "if len(numbers) > MOST_FILLED:", "if len(numbers) > 2 * MOST_FILLED:"),
 ]
 
 # a text, and what is said of it behind the file's name

@@ -15,13 +15,13 @@ import time
 import types
 
 import drawn  # desk's folder is on the path now
-import casefile
-import check
-import offers
-import talk
-import trials
-from foreseen import Foreseen
-from vocabulary import Vocabulary
+from planners_desk.case import casefile
+from planners_desk.commands import check
+from planners_desk.hints import offers
+from planners_desk.program import talk
+from planners_desk.hints import trials
+from planners_desk.hints.foreseen import Foreseen
+from planners_desk.program.vocabulary import Vocabulary
 
 TALKS = "things: a b c d e f\nvalues: 1 2 3\nask: all\nwords: different, not next to, same\n"
 WEEK = (
@@ -30,64 +30,64 @@ WEEK = (
     "always: different on same day\n"
 )
 PLANTED = [
-    ("check.py", "(inside & ~weakest).bit_count() > 1:", "(inside & ~weakest).bit_count() > 2:"),
-    ("check.py", "also = inside & ~weakest & ~(1 << place)", "also = inside & ~weakest"),
+    ("commands/check.py", "(inside & ~weakest).bit_count() > 1:", "(inside & ~weakest).bit_count() > 2:"),
+    ("commands/check.py", "also = inside & ~weakest & ~(1 << place)", "also = inside & ~weakest"),
     (
-        "check.py",
+        "commands/check.py",
         "values[thing] = words.coding.value_of[digit]",
         "values[thing] = words.coding.value_of[-1 - digit]",
     ),
     (
-        "check.py",
+        "commands/check.py",
         "    for place in range(inside.bit_length()):\n        weakest = max(",
         "    for place in range(inside.bit_length()):\n        weakest = min(",
     ),
     (
-        "check.py",
+        "commands/check.py",
         "key=lambda price: price.without or 0,",
         "key=lambda price: -(price.without or 0),",
     ),
     (
-        "trials.py",
+        "hints/trials.py",
         "tuple(one for one in case.words if one is not word)",
         "tuple(one for one in case.words if one is word)",
     ),
-    ("trials.py", "        if clock.over:\n            late = True\n            break\n", ""),
+    ("hints/trials.py", "        if clock.over:\n            late = True\n            break\n", ""),
     (
-        "trials.py",
+        "hints/trials.py",
         "SHAPES = (scattered, hubs, blocks)",
         "SHAPES = (scattered, scattered, scattered)",
     ),
-    ("trials.py", "SHAPES = (scattered, hubs, blocks)", "SHAPES = (scattered, hubs, hubs)"),
+    ("hints/trials.py", "SHAPES = (scattered, hubs, blocks)", "SHAPES = (scattered, hubs, hubs)"),
     (
-        "trials.py",
+        "hints/trials.py",
         "        if fits:\n",
         "        if some:\n            fits = fits or [some[0][1]]\n",
     ),
     (
-        "trials.py",
+        "hints/trials.py",
         "return careful if careful.effort <= DEAR * cheapest.effort else cheapest",
         "return careful",
     ),
     (
-        "trials.py",
+        "hints/trials.py",
         "return [values for values in asked if foreseen.violated(values) is None]",
         "return list(asked)",
     ),
     (
-        "talk.py",
+        "program/talk.py",
         "            self._clock.tick()\n            if self._clock.over:\n                raise Late\n"
         "            if came:\n                return\n",
         "            if came:\n                return\n"
         "            self._clock.tick()\n            if self._clock.over:\n                raise Late\n",
     ),
     (
-        "talk.py",
+        "program/talk.py",
         "        if clock is not None:\n            clock.tick()\n",
         "        if clock is not None and not came:\n            clock.tick()\n",
     ),
-    ("offers.py", "if most + 1 in have or not some", "if not some"),
-    ("offers.py", "return min(found, key=", "return max(found, key="),
+    ("hints/offers.py", "if most + 1 in have or not some", "if not some"),
+    ("hints/offers.py", "return min(found, key=", "return max(found, key="),
 ]
 
 

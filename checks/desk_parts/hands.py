@@ -132,9 +132,9 @@ def words(path: str, program: str, *more: str) -> list[str]:
 
 def answered(path: str, program: str, owner: Owner, plan: str = "scopes", most: int | None = None, slip: int | None = None) -> str:
     """Leads a session by a person until it ends, or for so many questions; how it ended. One answer may be turned round."""
-    import casefile
-    import session
-    import talk
+    from planners_desk.case import casefile
+    from planners_desk.sitting import session
+    from planners_desk.program import talk
     case = casefile.read(path)
     with session.Session.opened(case, talk.Program(program), plan) as one, one.sit() as sitting:
         sitting.advance()

@@ -24,12 +24,12 @@ from collections.abc import Callable, Iterator, Sequence
 from contextlib import contextmanager
 
 import hands  # desk's folder is on the path now
-import casefile
-import page
-import session
-import talk
+from planners_desk.case import casefile
+from planners_desk.report import page
+from planners_desk.sitting import session
+from planners_desk.program import talk
 from hands import DESK, journal
-from model import Fault
+from planners_desk.case.model import Fault
 
 KILLS = int(os.environ.get("DESK_KILLS", "24"))
 OLD = """things: a b c d
@@ -72,46 +72,46 @@ finally:
 """
 PLANTED = [
     # a page replaces any file
-    ("files.py", "    if not is_one(head):", "    if False:"),
+    ("case/files.py", "    if not is_one(head):", "    if False:"),
     # a new file takes its place before it is on the disk whole
     (
-        "files.py",
+        "case/files.py",
         "                waiting.append((new, place))\n                _fill(handle, content, place)",
         "                os.replace(new, place)\n                waiting.append((place, place))\n                _fill(handle, content, place)",
     ),
     # the umask isn't kept
     (
-        "files.py",
+        "case/files.py",
         "os.O_WRONLY | os.O_CREAT | os.O_EXCL, 0o666)",
         "os.O_WRONLY | os.O_CREAT | os.O_EXCL, 0o600)",
     ),
     # a page that others may not read may be read once it is written again
-    ("files.py", "                os.fchmod(handle, mode)", "                pass"),
+    ("case/files.py", "                os.fchmod(handle, mode)", "                pass"),
     # what a broken write has begun stays behind
     (
-        "files.py",
+        "case/files.py",
         "            with contextlib.suppress(OSError):\n                os.unlink(new)",
         "            pass",
     ),
     # the new session is put in its place piece by piece, with nothing that says so
     (
-        "handover.py",
+        "sitting/handover.py",
         "        os.rename(folder, _folder(journal, \"carried\"))",
         "        os.mkdir(_folder(journal, \"carried\"))\n"
         "        for name in os.listdir(folder):\n            os.replace(os.path.join(folder, name), os.path.join(_folder(journal, \"carried\"), name))\n"
         "        os.rmdir(folder)",
     ),
     # nobody finishes what was broken off
-    ("session.py", "            handover.finished(journal)\n", ""),
+    ("sitting/session.py", "            handover.finished(journal)\n", ""),
     # the old session isn't kept
-    ("carry.py", "        if to_itself:\n            put_aside(journal, aside)\n", ""),
+    ("commands/carry.py", "        if to_itself:\n            put_aside(journal, aside)\n", ""),
     # what was made in vain stays behind
-    ("carry.py", "            handover.given_up(journal)\n", "            pass\n"),
+    ("commands/carry.py", "            handover.given_up(journal)\n", "            pass\n"),
     # answers that say nothing any more aren't counted
-    ("carry.py", "    if len(there) < len(before):", "    if False:"),
+    ("commands/carry.py", "    if len(there) < len(before):", "    if False:"),
     # the second fault is told, not the first
     (
-        "session.py",
+        "sitting/session.py",
         "            with contextlib.suppress(OSError):\n                return files.only_file(",
         "            if True:\n                return files.only_file(",
     ),

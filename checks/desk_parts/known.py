@@ -11,33 +11,33 @@ import random
 import tempfile
 from collections.abc import Callable
 
-import carry
-import casefile
+from planners_desk.commands import carry
+from planners_desk.case import casefile
 import drawn
 from drawn import Owner
-from model import PLANS, Fault, Rule, Values
-from session import Named, Session
-from talk import Program
-from vocabulary import Vocabulary
+from planners_desk.case.model import PLANS, Fault, Rule, Values
+from planners_desk.sitting.session import Named, Session
+from planners_desk.program.talk import Program
+from planners_desk.program.vocabulary import Vocabulary
 
 SESSIONS = 40
 PLANTED = [
-    ("foreseen.py", "return Said(False, ALWAYS, rule.text)", "return Said(True, ALWAYS, rule.text)"),
-    ("foreseen.py", "for one in self._accepted if asked <= one.items", "for one in self._accepted if one.items <= asked"),
-    ("foreseen.py", "for one in self._refused if one.items <= asked", "for one in self._refused if asked <= one.items"),
-    ("session.py", "session.foreseen.forget(chosen.question.values, not chosen.yes)", "pass"),
+    ("hints/foreseen.py", "return Said(False, ALWAYS, rule.text)", "return Said(True, ALWAYS, rule.text)"),
+    ("hints/foreseen.py", "for one in self._accepted if asked <= one.items", "for one in self._accepted if one.items <= asked"),
+    ("hints/foreseen.py", "for one in self._refused if one.items <= asked", "for one in self._refused if asked <= one.items"),
+    ("sitting/session.py", "session.foreseen.forget(chosen.question.values, not chosen.yes)", "pass"),
     # of two old answers that disagree one decides
-    ("foreseen.py", "if said is None or (yes and no):", "if said is None:"),
+    ("hints/foreseen.py", "if said is None or (yes and no):", "if said is None:"),
     # what the person says in such a quarrel counts as given for them
-    ("session.py", "said = None if by_person else self.foreseen.answer(question.values)", "said = self.foreseen.answer(question.values)"),
+    ("sitting/session.py", "said = None if by_person else self.foreseen.answer(question.values)", "said = self.foreseen.answer(question.values)"),
     # an old answer that was contradicted counts on
-    ("session.py", "        dropped = self.foreseen.forget(values, yes)\n", "        dropped = False\n"),
+    ("sitting/session.py", "        dropped = self.foreseen.forget(values, yes)\n", "        dropped = False\n"),
     # what a line answered in a session before is carried over
-    ("carry.py", "        if one.yes or foreseen.violated(dict(one.values)) is None\n", ""),
+    ("commands/carry.py", "        if one.yes or foreseen.violated(dict(one.values)) is None\n", ""),
     # the text beside a session may be another case's
-    ("carry.py", "if head is None or head[1] != words.json.encode():", "if False:"),
+    ("commands/carry.py", "if head is None or head[1] != words.json.encode():", "if False:"),
     # what an old answer gave stays where that one counts no more
-    ("session.py", "place = self.session.groundless() if dropped else None", "place = None"),
+    ("sitting/session.py", "place = self.session.groundless() if dropped else None", "place = None"),
 ]
 Truth = Callable[[Values], bool]
 

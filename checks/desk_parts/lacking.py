@@ -8,14 +8,14 @@ import random
 from types import SimpleNamespace
 
 import drawn  # desk's folder is on the path now
-import casefile
-import missing
-from catalogue import Setting
+from planners_desk.case import casefile
+from planners_desk.sitting import missing
+from planners_desk.case.catalogue import Setting
 from drawn import Owner, tried
-from model import PLANS, Fault, Values
-from possible import Possible
-from session import is_question
-from vocabulary import Vocabulary
+from planners_desk.case.model import PLANS, Fault, Values
+from planners_desk.hints.possible import Possible
+from planners_desk.sitting.session import is_question
+from planners_desk.program.vocabulary import Vocabulary
 
 SESSIONS = 120
 FURTHER = ("different", "before", "same", "next to", "all three different", "not after")
@@ -28,22 +28,22 @@ words: {words}
 """
 PLANTED = [
     # an accepted example doesn't keep a word off
-    ("missing.py", " and all(word.holds(*some) for some in seen)", ""),
+    ("sitting/missing.py", " and all(word.holds(*some) for some in seen)", ""),
     # a word has to explain one of the refused examples, and not all of them
     (
-        "missing.py",
+        "sitting/missing.py",
         "if all(seen.explains(word, values) for values in seen.refused)",
         "if any(seen.explains(word, values) for values in seen.refused)",
     ),
     # a search that is cut says that no word explains it
     (
-        "missing.py",
+        "sitting/missing.py",
         "        return Search(tuple(found), things, False)",
         "        return Search(tuple(found), things, True)",
     ),
     # of things that aren't asked about together nothing is said
     (
-        "missing.py",
+        "sitting/missing.py",
         "and not yes and not _together(session.case, values)",
         "and not yes and False",
     ),

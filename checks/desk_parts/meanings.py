@@ -10,29 +10,29 @@ import os
 import tempfile
 from collections.abc import Callable
 
-from model import Fault
-from talk import Program
-from vocabulary import Vocabulary
+from planners_desk.case.model import Fault
+from planners_desk.program.talk import Program
+from planners_desk.program.vocabulary import Vocabulary
 
-import casefile
-import catalogue
+from planners_desk.case import casefile
+from planners_desk.case import catalogue
 import hands
-import solver
-from session import Session
-import sentences
+from planners_desk.hints import solver
+from planners_desk.sitting.session import Session
+from planners_desk.hints import sentences
 
 LIST = ["p", "q", "r", "s", "t"]
 GRID = [(day, hour) for day in ("Mon", "Tue", "Wed") for hour in ("1", "2")]
 DAY = {"Mon": 0, "Tue": 1, "Wed": 2}
 PLANTED = [
-    ("catalogue.py", "(lambda *x: any(one not in v for one in x)) if most", "(lambda *x: any(one in v for one in x)) if most"),
-    ("catalogue.py", "NUMBERS[m[2]] + 1", "NUMBERS[m[2]] + 2"),
-    ("catalogue.py", "holds, said = (lambda *x: len({seen(one) for one in x}) > 1), m[3]", "holds, said = (lambda *x: len({seen(one) for one in x}) == len(x)), m[3]"),
-    ("catalogue.py", '"before": (lambda x, y: x < y,', '"before": (lambda x, y: x <= y,'),
-    ("catalogue.py", "return y == x + 1 and (not last or y % last != 0)", "return y == x + 1"),
-    ("coding.py", "first = len(value_of) + 1", "first = len(value_of)"),
-    ("vocabulary.py", "return lambda some: holds(*(value_of[some[place] - 1] for place in places))", "return lambda some: holds(*(value_of[some[-1 - place] - 1] for place in places))"),
-    ("coding.py", "loose.append(thing)", "pass"),
+    ("case/catalogue.py", "(lambda *x: any(one not in v for one in x)) if most", "(lambda *x: any(one in v for one in x)) if most"),
+    ("case/catalogue.py", "NUMBERS[m[2]] + 1", "NUMBERS[m[2]] + 2"),
+    ("case/catalogue.py", "holds, said = (lambda *x: len({seen(one) for one in x}) > 1), m[3]", "holds, said = (lambda *x: len({seen(one) for one in x}) == len(x)), m[3]"),
+    ("case/catalogue.py", '"before": (lambda x, y: x < y,', '"before": (lambda x, y: x <= y,'),
+    ("case/catalogue.py", "return y == x + 1 and (not last or y % last != 0)", "return y == x + 1"),
+    ("program/coding.py", "first = len(value_of) + 1", "first = len(value_of)"),
+    ("program/vocabulary.py", "return lambda some: holds(*(value_of[some[place] - 1] for place in places))", "return lambda some: holds(*(value_of[some[-1 - place] - 1] for place in places))"),
+    ("program/coding.py", "loose.append(thing)", "pass"),
 ]
 
 

@@ -13,12 +13,12 @@ import subprocess
 import tempfile
 import time
 
-import casefile
-import drawing
+from planners_desk.case import casefile
+from planners_desk.faces import drawing
 import drawn
-from model import Values
-from session import Session
-from talk import Program
+from planners_desk.case.model import Values
+from planners_desk.sitting.session import Session
+from planners_desk.program.talk import Program
 
 LIMIT = 0.050       # seconds, of the middle key; a key that changes all 4,950 groups at once may take three times as long
 SOME = 60           # questions
@@ -26,10 +26,10 @@ FOR_CHECK = 40.0    # seconds of processor for `desk check` of the largest case,
 FOR_FIRST = 10.0    # where others use the processor too, the same work costs more; and until its first question (5)
 NO_END = 180        # seconds by the clock after which a call counts as one without an end, also on a busy machine
 PLANTED = [
-    ("trials.py", "SECONDS = 10.0 ", "SECONDS = 60.0 "),
-    ("trials.py", "SECONDS_AT_FIRST = 3.0 ", "SECONDS_AT_FIRST = 40.0 "),
-    ("check.py", "reply = program.call([made, *call], given, clock)", "reply = program.call([made, *call], given, Clock(60))"),
-    ("trials.py", "if words.lifted or any(one.late for one in some):", "if words.lifted:"),
+    ("hints/trials.py", "SECONDS = 10.0 ", "SECONDS = 60.0 "),
+    ("hints/trials.py", "SECONDS_AT_FIRST = 3.0 ", "SECONDS_AT_FIRST = 40.0 "),
+    ("commands/check.py", "reply = program.call([made, *call], given, clock)", "reply = program.call([made, *call], given, Clock(60))"),
+    ("hints/trials.py", "if words.lifted or any(one.late for one in some):", "if words.lifted:"),
 ]
 EXAMS = f"title: Exams\nthings: {' '.join(f'exam{k}' for k in range(100))}\nvalues: 1 .. 15\nask: all\nwords: different, at least 2 apart, before\n"
 

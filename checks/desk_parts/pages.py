@@ -15,13 +15,13 @@ import sys
 from html.parser import HTMLParser
 
 import hands        # desk's folder is on the path now
-import casefile
-import review
-import sentences
-import session
-import solver
-import style
-import talk
+from planners_desk.case import casefile
+from planners_desk.faces import review
+from planners_desk.hints import sentences
+from planners_desk.sitting import session
+from planners_desk.hints import solver
+from planners_desk.report import style
+from planners_desk.program import talk
 
 VOID = {"meta", "br"}
 TAGS = {"html", "head", "meta", "title", "style", "body", "main", "section", "h1", "h2", "p", "ul", "li", "span", "div", "figure", "figcaption",
@@ -50,15 +50,15 @@ words: a=x not with b=y
 
 PLANTED = [
     # names aren't escaped
-    ("markup.py", "else html.escape(piece) for piece", "else piece for piece"),
+    ("report/markup.py", "else html.escape(piece) for piece", "else piece for piece"),
     # the days of a plan are shifted by one
-    ("page.py", "name, scope=\"col\") for name in grid.heads)", "name, scope=\"col\") for name in grid.heads[1:] + grid.heads[:1])"),
+    ("report/page.py", "name, scope=\"col\") for name in grid.heads)", "name, scope=\"col\") for name in grid.heads[1:] + grid.heads[:1])"),
     # what was given again counts as said beforehand
-    ("page.py", "by[ALWAYS] + by[CARRIED]} said beforehand", "by[ALWAYS] + by[CARRIED] + by[AGAIN]} said beforehand"),
+    ("report/page.py", "by[ALWAYS] + by[CARRIED]} said beforehand", "by[ALWAYS] + by[CARRIED] + by[AGAIN]} said beforehand"),
     # the person's own answers are counted wrong
-    ("page.py", "{by['']} of them given one by one", "{by[''] + by[AGAIN]} of them given one by one"),
+    ("report/page.py", "{by['']} of them given one by one", "{by[''] + by[AGAIN]} of them given one by one"),
     # a text that is hard to read
-    ("style.py", "\"dim\": (\"#566072\"", "\"dim\": (\"#8a93a3\""),
+    ("report/style.py", "\"dim\": (\"#566072\"", "\"dim\": (\"#8a93a3\""),
 ]
 
 

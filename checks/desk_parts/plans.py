@@ -16,14 +16,14 @@ import time
 from collections.abc import Callable
 
 import hands        # desk's folder is on the path now
-import casefile
-import model
-import page
-import review
-import sentences
-import session
-import solver
-import talk
+from planners_desk.case import casefile
+from planners_desk.case import model
+from planners_desk.report import page
+from planners_desk.faces import review
+from planners_desk.hints import sentences
+from planners_desk.sitting import session
+from planners_desk.hints import solver
+from planners_desk.program import talk
 
 SESSIONS = 8
 SMALL = """title: Small
@@ -49,20 +49,20 @@ KNOWN = {
 
 PLANTED = [
     # what is known isn't kept
-    ("solver.py", "    wanted = None if clauses is None else with_known(clauses, vocabulary)", "    wanted = clauses"),
-    ("solver.py", "at_least(literals, len(literals) - count.most, last)", "at_least(literals, len(literals) - count.most - 1, last)"),
-    ("solver.py", "at_least([-literal for literal in literals], count.least, last)", "at_least(literals, count.least, last)"),
-    ("solver.py", "    wanted = with_known(dataclasses.replace(clauses, clauses=clauses.clauses[:clauses.own]), vocabulary)",
+    ("hints/solver.py", "    wanted = None if clauses is None else with_known(clauses, vocabulary)", "    wanted = clauses"),
+    ("hints/solver.py", "at_least(literals, len(literals) - count.most, last)", "at_least(literals, len(literals) - count.most - 1, last)"),
+    ("hints/solver.py", "at_least([-literal for literal in literals], count.least, last)", "at_least(literals, count.least, last)"),
+    ("hints/solver.py", "    wanted = with_known(dataclasses.replace(clauses, clauses=clauses.clauses[:clauses.own]), vocabulary)",
      "    wanted = dataclasses.replace(clauses, clauses=clauses.clauses[:clauses.own])"),
-    ("solver.py", "clock.within(SECONDS)", "Clock(SECONDS)"),
-    ("page.py", "*beside(session.case), ", ""),
-    ("counts.py", "0 if found[1] == \"at most\" else number,", "0 if found[1] != \"at least\" else number,"),
-    ("counts.py", "thing.place for thing in things if thing.at[k] == member)", "thing.place for thing in things if thing.at[k] >= member)"),
+    ("hints/solver.py", "clock.within(SECONDS)", "Clock(SECONDS)"),
+    ("report/page.py", "*beside(session.case), ", ""),
+    ("case/counts.py", "0 if found[1] == \"at most\" else number,", "0 if found[1] != \"at least\" else number,"),
+    ("case/counts.py", "thing.place for thing in things if thing.at[k] == member)", "thing.place for thing in things if thing.at[k] >= member)"),
     # what a solver prints is shown unchecked
-    ("solver.py", "    if reply.status != 0 or not reply.lines or not reply.lines[0].startswith(\"solution\"):\n        return None\n"
+    ("hints/solver.py", "    if reply.status != 0 or not reply.lines or not reply.lines[0].startswith(\"solution\"):\n        return None\n"
      "    return vocabulary.values_of(reply.lines[0].split()[1:])", "    return clauses.values(true)"),
     # a plan that breaks one rule may break another
-    ("solver.py", "    for other in others:\n        extra +=", "    for other in others[1:]:\n        extra +="),
+    ("hints/solver.py", "    for other in others:\n        extra +=", "    for other in others[1:]:\n        extra +="),
 ]
 
 

@@ -17,7 +17,7 @@ import tempfile
 from collections.abc import Iterator
 
 import hands        # desk's folder is on the path now
-from files import journal_of, kept_of
+from planners_desk.case.files import journal_of, kept_of
 
 DESK = ["/usr/bin/python3", os.path.join(hands.DESK, "desk")]
 MOST_SECONDS = 3.0      # of processor time for a refusal, on a machine that does much else
@@ -26,23 +26,23 @@ MOST_ROOM = 3_000_000   # thousand bytes of addresses, for whatever is tried
 NOBODY = 65534 if os.geteuid() == 0 else None       # who may not do what root may
 BEARS = "title: Bären\nthings: Bär Müller\nvalues: 1 2 3\nask: all\nwords: different, before\nplan: scopes\n"
 PLANTED = [
-    ("casefile.py", "        if cells > most:\n", "        if False:\n"),
-    ("casefile.py", "            self._few(own, MOST_THINGS, \"things\")\n", ""),
-    ("names.py", "if len(numbers) > MOST_FILLED:", "if False:"),
-    ("files.py", "    if kind != stat.S_IFREG:\n", "    if False:\n"),
-    ("talk.py", "        raise something_else(\"bytes that are no text\") from None", "        return printed.decode(errors=\"replace\")"),
-    ("talk.py", "        if len(printed) > MOST_PRINTED:\n", "        if False:\n"),
-    ("session.py", "if f\"answers {len(self.answers)}\" not in lines:", "if False:"),
-    ("vocabulary.py", "if name not in self._place or not number.isdecimal() or not 1 <= int(number) <= self.coding.size:", "if False:"),
-    ("trials.py", "raise something_else(f\"{len(asked)} questions without an end\")", "pass"),
-    ("streams.py", "            name.encode(encoding)\n", "            name.encode()\n"),
-    ("streams.py", "        if sys.stdout is not None and fails(sys.stdout):\n", "        if False:\n"),
-    ("ask.py", "    return \"all answers are kept\" if stand >= given else", "    return \"all answers are kept\" if True else"),
-    ("ask.py", "    if importlib.util.find_spec(\"rich\") is None:\n", "    if False:\n"),
-    ("check.py", "    if importlib.util.find_spec(\"rich\") is None:\n", "    if False:\n"),
-    ("desk", "    sys.path.insert(0, HERE)", "    pass"),
-    ("solver.py", "if re.fullmatch(\"[1-9][0-9]{0,8}\", word)}", "}"),
-    ("solver.py", "except (Late, Endless, OSError):", "except Late:"),
+    ("case/casefile.py", "        if cells > most:\n", "        if False:\n"),
+    ("case/casefile.py", "            self._few(own, MOST_THINGS, \"things\")\n", ""),
+    ("case/names.py", "if len(numbers) > MOST_FILLED:", "if False:"),
+    ("case/files.py", "    if kind != stat.S_IFREG:\n", "    if False:\n"),
+    ("program/talk.py", "        raise something_else(\"bytes that are no text\") from None", "        return printed.decode(errors=\"replace\")"),
+    ("program/talk.py", "        if len(printed) > MOST_PRINTED:\n", "        if False:\n"),
+    ("sitting/session.py", "if f\"answers {len(self.answers)}\" not in lines:", "if False:"),
+    ("program/vocabulary.py", "if name not in self._place or not number.isdecimal() or not 1 <= int(number) <= self.coding.size:", "if False:"),
+    ("hints/trials.py", "raise something_else(f\"{len(asked)} questions without an end\")", "pass"),
+    ("commands/streams.py", "            name.encode(encoding)\n", "            name.encode()\n"),
+    ("commands/streams.py", "        if sys.stdout is not None and fails(sys.stdout):\n", "        if False:\n"),
+    ("commands/ask.py", "    return \"all answers are kept\" if stand >= given else", "    return \"all answers are kept\" if True else"),
+    ("commands/ask.py", "    if importlib.util.find_spec(\"rich\") is None:\n", "    if False:\n"),
+    ("commands/check.py", "    if importlib.util.find_spec(\"rich\") is None:\n", "    if False:\n"),
+    ("../desk", "sys.path.insert(0, os.path.dirname(os.path.realpath(__file__)))", "pass"),
+    ("hints/solver.py", "if re.fullmatch(\"[1-9][0-9]{0,8}\", word)}", "}"),
+    ("hints/solver.py", "except (Late, Endless, OSError):", "except Late:"),
 ]
 
 

@@ -14,11 +14,11 @@ import sys
 import tempfile
 from collections.abc import Callable
 
-import casefile
+from planners_desk.case import casefile
 import drawn
-from model import Answer, Fault, Values
-from session import Session, journal_of
-from talk import Program
+from planners_desk.case.model import Answer, Fault, Values
+from planners_desk.sitting.session import Session, journal_of
+from planners_desk.program.talk import Program
 
 CASE = """title: runs
 things: day Mon Tue Wed x shift early late
@@ -27,19 +27,19 @@ ask: same day, late to next day early, next day
 words: different, before
 """
 PLANTED = [
-    ("session.py", "fcntl.flock(file, fcntl.LOCK_EX | fcntl.LOCK_NB)", "pass"),
-    ("session.py", '            self._run.say("back")\n            if not self._next():', '            self._run.say("back")\n            self._run.say("back")\n            if not self._next():'),
-    ("session.py", '("its values are others", before.values, now.values)', '("its values are others", 0, 0)'),
+    ("sitting/session.py", "fcntl.flock(file, fcntl.LOCK_EX | fcntl.LOCK_NB)", "pass"),
+    ("sitting/session.py", '            self._run.say("back")\n            if not self._next():', '            self._run.say("back")\n            self._run.say("back")\n            if not self._next():'),
+    ("sitting/session.py", '("its values are others", before.values, now.values)', '("its values are others", 0, 0)'),
     # a line that contradicts an answer is taken into the session's text, so that it can't be taken out again
-    ("session.py", "if began != self.case.text and not self.against():", "if began != self.case.text:"),
+    ("sitting/session.py", "if began != self.case.text and not self.against():", "if began != self.case.text:"),
     # an empty journal stays behind
-    ("session.py", "    if os.fstat(lock).st_size == 0 and _is_there(lock, journal):", "    if False:"),
+    ("sitting/session.py", "    if os.fstat(lock).st_size == 0 and _is_there(lock, journal):", "    if False:"),
     # what was moved away is worked on
-    ("session.py", "            if _is_there(file, journal):\n                return file\n", "            return file\n"),
+    ("sitting/session.py", "            if _is_there(file, journal):\n                return file\n", "            return file\n"),
     # a line that is gone doesn't change a session
-    ("session.py", "if any((rule.word.text, rule.things) not in said for rule in before.always):", "if False:"),
+    ("sitting/session.py", "if any((rule.word.text, rule.things) not in said for rule in before.always):", "if False:"),
     # one byte more is cut off than is damaged
-    ("session.py", "place, file = int(damaged[1]), shlex.quote(journal)", "place, file = int(damaged[1]) - 1, shlex.quote(journal)"),
+    ("sitting/session.py", "place, file = int(damaged[1]), shlex.quote(journal)", "place, file = int(damaged[1]) - 1, shlex.quote(journal)"),
 ]
 
 
@@ -148,7 +148,8 @@ def killed(program: Program, folder: str) -> list[str]:
 def locked(program: Program, folder: str) -> list[str]:
     """A second desk is kept off, also from another process, as long as the first or its program lives."""
     path, faults = fresh(folder), []
-    look = f"import sys; sys.path.insert(0, {drawn.DESK!r}); import casefile, session, talk\n" \
+    look = f"import sys; sys.path.insert(0, {drawn.DESK!r}); from planners_desk.case import casefile\n" \
+           "from planners_desk.program import talk\nfrom planners_desk.sitting import session\n" \
            f"session.Session.opened(casefile.read({path!r}), talk.Program({program.path!r}), 'scopes')"
     def second() -> str:
         return subprocess.run([sys.executable, "-c", look], capture_output=True, text=True, check=False).stderr

@@ -12,13 +12,13 @@ import random
 import re
 
 import hands        # desk's folder is on the path now
-import casefile
-import model
-import patterns
-import sentences
-import session
-import talk
-import vocabulary
+from planners_desk.case import casefile
+from planners_desk.case import model
+from planners_desk.hints import patterns
+from planners_desk.hints import sentences
+from planners_desk.sitting import session
+from planners_desk.program import talk
+from planners_desk.program import vocabulary
 
 DRAWN = 540
 FEW = 60            # where a bug is planted
@@ -56,27 +56,27 @@ CASES = (hands.WARD, hands.SCHOOL, hands.BICYCLE, hands.TEAM, HALL, TRIOS, NIGHT
 
 PLANTED = [
     # an exception isn't named
-    ("sentences.py", "out = [part.members[member] for member in one.might\n", "out = [part.members[member] for member in one.might[1:]\n"),
+    ("hints/sentences.py", "out = [part.members[member] for member in one.might\n", "out = [part.members[member] for member in one.might[1:]\n"),
     # a yes that has nothing to do with it is said to be behind an odd one
-    ("patterns.py", "        if answer.yes and breaks:", "        if answer.yes:"),
+    ("hints/patterns.py", "        if answer.yes and breaks:", "        if answer.yes:"),
     # patterns are said together that hold at other places
-    ("sentences.py", "best.every, holds]", "best.every]"),
+    ("hints/sentences.py", "best.every, holds]", "best.every]"),
     # a block says more than what holds
-    ("blocks.py", "holds[one] & some == some", "True"),
+    ("hints/blocks.py", "holds[one] & some == some", "True"),
     # a block excepts what nobody asks about
-    ("blocks.py", " if not _unasked(*side, holds, may)", ""),
+    ("hints/blocks.py", " if not _unasked(*side, holds, may)", ""),
     # an exception isn't named
-    ("blocks.py", "out = {_pair(one, other, even) for one, other in every if not holds[one] >> other & 1}", "out = set()"),
+    ("hints/blocks.py", "out = {_pair(one, other, even) for one, other in every if not holds[one] >> other & 1}", "out = set()"),
     # what a sentence excepts isn't odd
-    ("patterns.py", "        for things in said.out if", "        for things in () if"),
+    ("hints/patterns.py", "        for things in said.out if", "        for things in () if"),
     # what stands alone isn't odd
-    ("patterns.py", "if 4 * len(alone) > sum(", "if 4 * len(alone) <= sum("),
+    ("hints/patterns.py", "if 4 * len(alone) > sum(", "if 4 * len(alone) <= sum("),
     # what is like others that aren't finished yet is odd
-    ("patterns.py", "if not any(beside[thing] & set(pair) for thing in like):", "if True:"),
+    ("hints/patterns.py", "if not any(beside[thing] & set(pair) for thing in like):", "if True:"),
     # each three are said to be each two
-    ("sentences.py", 'COUNTED = {2: "two", 3: "three", 4: "four"}', 'COUNTED = {2: "two", 3: "two", 4: "four"}'),
+    ("hints/sentences.py", 'COUNTED = {2: "two", 3: "three", 4: "four"}', 'COUNTED = {2: "two", 3: "two", 4: "four"}'),
     # a pattern has no place at the last member
-    ("along.py", "if all(0 <= member + step < size for", "if all(0 <= member + step < size - 1 for"),
+    ("hints/along.py", "if all(0 <= member + step < size for", "if all(0 <= member + step < size - 1 for"),
 ]
 
 

@@ -11,13 +11,13 @@ import random
 import re
 
 import hands        # desk's folder is on the path now
-import casefile
-import drawing
-import face
-import model
-import picture
-import plain
-import screen
+from planners_desk.case import casefile
+from planners_desk.faces import drawing
+from planners_desk.faces import face
+from planners_desk.case import model
+from planners_desk.case import picture
+from planners_desk.faces import plain
+from planners_desk.faces import screen
 from rich.cells import cell_len
 from rich.console import Console
 
@@ -27,24 +27,24 @@ NAMES = ("Ann", "Bär", "Çelik", "Łukasz Nowak", "李小龍", "Ōno", "a-very-
 
 PLANTED = [
     # a cell is dropped where a list stands in
-    ("drawing.py", "in_columns(entries[at:at + a_page], columns, wide) for at", "in_columns(entries[at:at + a_page - 1], columns, wide) for at"),
+    ("faces/drawing.py", "in_columns(entries[at:at + a_page], columns, wide) for at", "in_columns(entries[at:at + a_page - 1], columns, wide) for at"),
     # a table that is too wide isn't turned or listed, but cut off
-    ("drawing.py", "first + sum(widths) + 3 * len(widths) + 4", "first + sum(widths)"),
+    ("faces/drawing.py", "first + sum(widths) + 3 * len(widths) + 4", "first + sum(widths)"),
     # what has stayed is marked, and what has changed isn't
-    ("ask.py", "if before.values.get(thing) != value}", "if before.values.get(thing) == value}"),
+    ("commands/ask.py", "if before.values.get(thing) != value}", "if before.values.get(thing) == value}"),
     # a window that is too small for a page takes answers
-    ("screen.py", "            if room < (LEAST_BODY if count > 1 else 1):\n                return []\n", ""),
-    ("screen.py", "            elif count:\n                taken", "            else:\n                taken"),
+    ("faces/screen.py", "            if room < (LEAST_BODY if count > 1 else 1):\n                return []\n", ""),
+    ("faces/screen.py", "            elif count:\n                taken", "            else:\n                taken"),
     # what stands around a page never gives way, or the last line, which says what is asked, does
-    ("screen.py", "for gone in range(max(1, len(under)))]", "for gone in range(1)]"),
-    ("screen.py", "for gone in range(max(1, len(under)))]", "for gone in range(1 + len(under))]"),
+    ("faces/screen.py", "for gone in range(max(1, len(under)))]", "for gone in range(1)]"),
+    ("faces/screen.py", "for gone in range(max(1, len(under)))]", "for gone in range(1 + len(under))]"),
     # a message takes room of its own, so that what was looked at isn't what is counted
-    ("screen.py", "said = self._text(message, \"bold\")[:len(layout.foot)] if message else layout.foot", "said = self._text(message, \"bold\") + layout.foot if message else layout.foot"),
+    ("faces/screen.py", "said = self._text(message, \"bold\")[:len(layout.foot)] if message else layout.foot", "said = self._text(message, \"bold\") + layout.foot if message else layout.foot"),
     # after another size of the window the old pages count
-    ("screen.py", "                layout, seen = self._layout(sheet), set()\n", "                layout = self._layout(sheet)\n"),
-    ("screen.py", "            page = min(page, max(count - 1, 0))\n", ""),
+    ("faces/screen.py", "                layout, seen = self._layout(sheet), set()\n", "                layout = self._layout(sheet)\n"),
+    ("faces/screen.py", "            page = min(page, max(count - 1, 0))\n", ""),
     # of keys that do one thing only the last is named
-    ("face.py", "said.setdefault(does, []).append(key)", "said[does] = [key]"),
+    ("faces/face.py", "said.setdefault(does, []).append(key)", "said[does] = [key]"),
 ]
 
 
@@ -296,7 +296,7 @@ def keys_together() -> list[str]:
 
 def figures_fit() -> list[str]:
     """Figures that are too wide for a table are a list, whose lines break between words."""
-    import check
+    from planners_desk.commands import check
     lines = list(check.table([("way", "questions"), ("scopes", "more than 12 when the time was over")], 24))
     wanted = ["  scopes", "    questions: more than", "      12 when the time", "      was over"]
     return [] if lines == wanted else [f"{lines} and not {wanted}"]
@@ -304,7 +304,7 @@ def figures_fit() -> list[str]:
 
 def changes() -> list[str]:
     """The marks are what differs from the last question, and nothing else."""
-    import ask
+    from planners_desk.commands import ask
     found = []
     for last, now, wanted in (
             (None, {0: 1}, {}),
@@ -321,7 +321,7 @@ def changes() -> list[str]:
 
 def notes() -> list[str]:
     """A part of a plan has the note that only what is filled in counts; a whole one hasn't, and changes are explained."""
-    import ask
+    from planners_desk.commands import ask
     case = casefile.parse(hands.WARD, "ward.case")
     class Still:
         """A session that is asked how far it is."""

@@ -12,12 +12,12 @@ import subprocess
 from collections.abc import Iterable
 
 import hands        # desk's folder is on the path now
-import casefile
-import sentences
-import session
-import solver
-import talk
-import views
+from planners_desk.case import casefile
+from planners_desk.hints import sentences
+from planners_desk.sitting import session
+from planners_desk.hints import solver
+from planners_desk.program import talk
+from planners_desk.faces import views
 from hands import Owner, Piped, is_question, plain_values, room
 
 ALWAYS = hands.WARD + "always: different on same day\n"
@@ -30,34 +30,34 @@ words: different
 
 PLANTED = [
     # a line that contradicts an answer isn't told
-    ("ask.py", "        if self.session.against():\n            place", "        if False:\n            place"),
+    ("commands/ask.py", "        if self.session.against():\n            place", "        if False:\n            place"),
     # an answer is turned round
-    ("ask.py", "self.sitting.answer(key == \"y\")", "self.sitting.answer(key == \"n\")"),
+    ("commands/ask.py", "self.sitting.answer(key == \"y\")", "self.sitting.answer(key == \"n\")"),
     # another answer is gone back to than the one that was chosen
-    ("goback.py", "super().__init__([place for place in places if may(session, place)], keys,",
+    ("faces/goback.py", "super().__init__([place for place in places if may(session, place)], keys,",
      "super().__init__([place - 1 for place in places if may(session, place) and place], keys,"),
     # behind a broken plan only a single answer that explains it is shown
-    ("review.py", "    if places or shown.rule is None:\n        return places", "    return places"),
+    ("faces/review.py", "    if places or shown.rule is None:\n        return places", "    return places"),
     # a second step back forgets what the first one took
-    ("session.py", "*(self._aside.every if self._aside else ())", ""),
+    ("sitting/session.py", "*(self._aside.every if self._aside else ())", ""),
     # what decides the question that waits is dropped for good
-    ("session.py", "return self.mine + self.reasons", "return self.mine"),
+    ("sitting/session.py", "return self.mine + self.reasons", "return self.mine"),
     # letters stay at the first answers
-    ("goback.py", "self._first += len(self._letters)", "self._first += 0"),
+    ("faces/goback.py", "self._first += len(self._letters)", "self._first += 0"),
     # rules that nobody saw kept don't come first
-    ("review.py", "            if plans and said.unseen:", "            if False:"),
+    ("faces/review.py", "            if plans and said.unseen:", "            if False:"),
     # cells that are pointed at are judged with all others
-    ("review.py", "values = {thing: shown.values[thing] for thing in cells} if cells else shown.values", "values = shown.values"),
+    ("faces/review.py", "values = {thing: shown.values[thing] for thing in cells} if cells else shown.values", "values = shown.values"),
     # the answers behind a sentence are those about anything
-    ("views.py", "if asked in scopes and any(", "if any("),
+    ("faces/views.py", "if asked in scopes and any(", "if any("),
     # a line that contradicts an answer leads nowhere
-    ("beforehand.py", "return place if face.put(sheet) == \"b\" else None", "return None"),
+    ("faces/beforehand.py", "return place if face.put(sheet) == \"b\" else None", "return None"),
     # a rule that nobody saw kept isn't marked
-    ("end.py", "return [f\"- {sentence.whole}\" for", "return [f\"- {sentence.text}\" for"),
+    ("faces/end.py", "return [f\"- {sentence.whole}\" for", "return [f\"- {sentence.text}\" for"),
     # one cell is enough to go on from
-    ("point.py", "while len(chosen) < most:", "while len(chosen) < 1:"),
+    ("faces/point.py", "while len(chosen) < most:", "while len(chosen) < 1:"),
     # a thing isn't printed
-    ("plain.py", "for thing in sorted(picture.values)]", "for thing in sorted(picture.values)[1:]]"),
+    ("faces/plain.py", "for thing in sorted(picture.values)]", "for thing in sorted(picture.values)[1:]]"),
 ]
 
 

@@ -4,7 +4,6 @@ takes, with a line before a proof begins. By real processes, in a repository of 
 from __future__ import annotations
 
 import contextlib
-import importlib.machinery
 import importlib.util
 import os
 import re
@@ -12,9 +11,9 @@ import shutil
 import subprocess
 import tempfile
 from collections.abc import Iterator
-from types import ModuleType
 
-import hands
+import hands        # desk's folder is on the path now
+from planners_desk import __main__
 
 CASE = "things: a b\nvalues: 1 2\nask: all\nwords: different\nplan: scopes\n"
 BEFORE_A_PROOF = ("desk: the program is proved and built first, which takes up to 29 minutes on four processors and 54 on one; "
@@ -38,18 +37,18 @@ while IFS= read -r line; do
 done
 """
 PLANTED = [
-    ("repository.py", "    if not unproved:\n        _tell_of_a_proof()\n", ""),
-    ("repository.py", "    if not unproved:\n        _tell_of_a_proof()\n", "    _tell_of_a_proof()\n"),
-    ("repository.py", "if current.returncode == 0 or", "if"),
-    ("repository.py", ' or shutil.which("rt") is None', ""),
-    ("repository.py", '"acquire-unproved" if unproved else "acquire"', '"acquire"'),
-    ("repository.py", "if called.returncode != NO_SESSION:", "if called.returncode < 0:"),
-    ("repository.py", "    if named:\n", "    if False:\n"),
-    ("repository.py", "    if not is_there():\n", "    if False:\n"),
-    ("desk", "    if options.unproved:\n", "    if False:\n"),
-    ("desk", 'for name in ("version", "VERSION"):', 'for name in ("VERSION",):'),
-    ("handout.py", "if os.path.lexists(path)]:", "if os.path.lexists(path) and False]:"),
-    ("handout.py", 'if name.endswith(".case")}', "}"),
+    ("program/repository.py", "    if not unproved:\n        _tell_of_a_proof()\n", ""),
+    ("program/repository.py", "    if not unproved:\n        _tell_of_a_proof()\n", "    _tell_of_a_proof()\n"),
+    ("program/repository.py", "if current.returncode == 0 or", "if"),
+    ("program/repository.py", ' or shutil.which("rt") is None', ""),
+    ("program/repository.py", '"acquire-unproved" if unproved else "acquire"', '"acquire"'),
+    ("program/repository.py", "if called.returncode != NO_SESSION:", "if called.returncode < 0:"),
+    ("program/repository.py", "    if named:\n", "    if False:\n"),
+    ("program/repository.py", "    if not is_there():\n", "    if False:\n"),
+    ("__main__.py", "    if options.unproved:\n", "    if False:\n"),
+    ("__main__.py", 'for name in ("version", "VERSION"):', 'for name in ("VERSION",):'),
+    ("commands/handout.py", "if os.path.lexists(path)]:", "if os.path.lexists(path) and False]:"),
+    ("commands/handout.py", 'if name.endswith(".case")}', "}"),
 ]
 
 
@@ -226,19 +225,9 @@ def calls(folder: str) -> list[str]:
 
 # ---------------------------------------------------------------- words
 
-def script_of_desk() -> ModuleType:
-    """The file that is called."""
-    loader = importlib.machinery.SourceFileLoader("desk_itself", os.path.join(hands.DESK, "desk"))
-    spec = importlib.util.spec_from_loader("desk_itself", loader)
-    assert spec
-    module = importlib.util.module_from_spec(spec)
-    loader.exec_module(module)
-    return module
-
-
 def commands() -> dict[str, list[str]]:
     """The commands that desk takes, with the options of each."""
-    choices = next(action.choices for action in script_of_desk().parser()._actions if action.dest == "command")
+    choices = next(action.choices for action in __main__.parser()._actions if action.dest == "command")
     return {name: [option for action in it._actions for option in action.option_strings if option not in ("-h", "--help")]
             for name, it in choices.items()}
 

@@ -7,16 +7,16 @@ import random
 
 import drawn
 from drawn import Owner, tried
-from model import PLANS, Values
-from possible import Possible
-from session import is_question
+from planners_desk.case.model import PLANS, Values
+from planners_desk.hints.possible import Possible
+from planners_desk.sitting.session import is_question
 
 SESSIONS = 250
 MOST_NETWORKS = 3000
 LISTS = 6           # of any answers, for each case
 PLANTED = [
-    ("possible.py", "clash if len(clash) == 1 else []", "clash"),
-    ("possible.py", "again[scope.things] |= once[scope.things] & gone", "again[scope.things] |= 0 & gone"),
+    ("hints/possible.py", "clash if len(clash) == 1 else []", "clash"),
+    ("hints/possible.py", "again[scope.things] |= once[scope.things] & gone", "again[scope.things] |= 0 & gone"),
 ]
 Net = dict[tuple[int, ...], int]
 

@@ -10,13 +10,13 @@ import tempfile
 import time
 
 import drawn  # desk's folder is on the path now
-import casefile
+from planners_desk.case import casefile
 import hands
-import views
+from planners_desk.faces import views
 from drawn import Owner
-from model import PLANS, Fault
-from session import Session, Sitting
-from talk import Program
+from planners_desk.case.model import PLANS, Fault
+from planners_desk.sitting.session import Session, Sitting
+from planners_desk.program.talk import Program
 
 SESSIONS = 30
 MOST = 40  # questions of a session
@@ -36,23 +36,23 @@ words: different, same table, next to
 
 PLANTED = [
     # a rule that was known before is said again
-    ("possible.py", "and not _says(left, needed)", ""),
+    ("hints/possible.py", "and not _says(left, needed)", ""),
     # what was said beforehand is said as if it were taught
-    ("session.py", " if (rule.word.text, rule.things) not in self.beforehand)", ")"),
+    ("sitting/session.py", " if (rule.word.text, rule.things) not in self.beforehand)", ")"),
     # answers that are given for the person teach as well
     (
-        "session.py",
+        "sitting/session.py",
         "for place, answer in enumerate(self.answers[since:])",
         "for place, answer in enumerate(self.answers[since:since + 1])",
     ),
     # a rule stands there that was taken back
     (
-        "ask.py",
+        "commands/ask.py",
         'self.before, self.taught, self.told = None, "", set()\n        self.note = f"Your',
         'self.before, self.told = None, set()\n        self.note = f"Your',
     ),
     # a rule that two groups have is said twice
-    ("views.py", "if rule.text not in told)", ")"),
+    ("faces/views.py", "if rule.text not in told)", ")"),
 ]
 Known = set[tuple[tuple[int, ...], int]]
 

@@ -33,14 +33,14 @@ RED = re.compile(rb"\x1b\[[0-9;]*\b(3[0-7]|4[0-7]|9[0-7]|10[0-7]|38|48)\b[0-9;]*
 
 PLANTED = [
     # each value has the name of the next one
-    ("picture.py", "return self.called(thing, self.case.label(self.values[thing]))",
+    ("case/picture.py", "return self.called(thing, self.case.label(self.values[thing]))",
      "return self.called(thing, self.case.values[(self.values[thing] + 1) % len(self.case.values)])"),
     # the guard is off
-    ("keys.py", "now - shown >= GUARD", "now - shown >= 0"),
+    ("faces/keys.py", "now - shown >= GUARD", "now - shown >= 0"),
     # the terminal isn't put back
-    ("screen.py", "                self.keyboard.__exit__()\n", ""),
+    ("faces/screen.py", "                self.keyboard.__exit__()\n", ""),
     # yes is taken before all pages were seen
-    ("screen.py", "if key in sheet.whole and not all_seen:", "if False:"),
+    ("faces/screen.py", "if key in sheet.whole and not all_seen:", "if False:"),
 ]
 
 
@@ -132,8 +132,8 @@ def expected(program: str, path: str) -> tuple[int, hands.Named]:
     """The question that waits, in the case's names."""
     if "\nthing " not in open(path, encoding="utf-8").read():
         return hands.due(program, path)
-    import casefile
-    import vocabulary
+    from planners_desk.case import casefile
+    from planners_desk.program import vocabulary
     words = vocabulary.build(casefile.read(path))
     with tempfile.TemporaryDirectory() as folder:
         copy = shutil.copy(hands.journal(path), os.path.join(folder, "journal"))
@@ -196,7 +196,7 @@ def read_table(lines: list[str], wanted: hands.Named) -> hands.Named:
 
 def guard(program: str) -> list[str]:
     """A key within 150 ms of a new question is dropped, and so is one that is held; a later one is taken."""
-    import keys
+    from planners_desk.faces import keys
     import time as clock
     script: list[tuple[float, str]] = []
     class Scripted(keys.Keyboard):

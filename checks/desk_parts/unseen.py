@@ -10,13 +10,13 @@ import stat
 import unicodedata
 
 import hands        # desk's folder is on the path now
-import casefile
-import letters
-from files import journal_of, kept_of
+from planners_desk.case import casefile
+from planners_desk.case import letters
+from planners_desk.case.files import journal_of, kept_of
 from hands import Tmux
-from model import Fault
-from session import Session
-from talk import Program
+from planners_desk.case.model import Fault
+from planners_desk.sitting.session import Session
+from planners_desk.program.talk import Program
 
 # each kind of line, with a place for a letter between two of its own
 LINES = ("title: a{}b", "things: a{}b c", "thing a{}b: 1 2", "values: a{}b 2", "only a{}b: 1", "ask: al{}l", "words: sa{}me", "always: same on a{}ll",
@@ -25,16 +25,16 @@ REST = "things: x y\nvalues: 1 2\nask: all\nwords: same\n"
 TERMINAL = ("\x1b]0;PWNED\x07", "\u202e")
 JOINED = ("क्‍ष", "می‌خواهم", "👨‍👩‍👧", "❤️‍🔥", "👩🏽‍🚀", "शक्‌ति")
 PLANTED = [
-    ("letters.py", 'not letter.isprintable() and unicodedata.category(letter) != "Zs"', 'unicodedata.category(letter) == "Cc"'),
-    ("letters.py", 're.split("\\r\\n|\\n|\\r", text)', "text.splitlines()"),
-    ("letters.py", 'unicodedata.normalize("NFC", text)', "text"),
-    ("letters.py", 'unicodedata.category(one)[0] in "LMNS" for one in around', 'one for one in around'),
-    ("letters.py", "return name.translate(dict.fromkeys(map(ord, JOINERS)))", "return name"),
-    ("casefile.py", "if wrong := letters.unseen(raw):", 'if wrong := letters.unseen(raw.split("#")[0]):'),
-    ("model.py", 'letters.shown("; ".join(text.split("\\n")))', '"; ".join(text.split("\\n"))'),
-    ("talk.py", "return letters.shown(self.text", "return (self.text"),
-    ("session.py", "thing_of.get(letters.composed(name))", "thing_of.get(name)"),
-    ("streams.py", "if wrong := letters.unseen(word):", "if wrong := None:"),
+    ("case/letters.py", 'not letter.isprintable() and unicodedata.category(letter) != "Zs"', 'unicodedata.category(letter) == "Cc"'),
+    ("case/letters.py", 're.split("\\r\\n|\\n|\\r", text)', "text.splitlines()"),
+    ("case/letters.py", 'unicodedata.normalize("NFC", text)', "text"),
+    ("case/letters.py", 'unicodedata.category(one)[0] in "LMNS" for one in around', 'one for one in around'),
+    ("case/letters.py", "return name.translate(dict.fromkeys(map(ord, JOINERS)))", "return name"),
+    ("case/casefile.py", "if wrong := letters.unseen(raw):", 'if wrong := letters.unseen(raw.split("#")[0]):'),
+    ("case/model.py", 'letters.shown("; ".join(text.split("\\n")))', '"; ".join(text.split("\\n"))'),
+    ("program/talk.py", "return letters.shown(self.text", "return (self.text"),
+    ("sitting/session.py", "thing_of.get(letters.composed(name))", "thing_of.get(name)"),
+    ("commands/streams.py", "if wrong := letters.unseen(word):", "if wrong := None:"),
 ]
 
 

@@ -1,0 +1,32 @@
+#!/usr/bin/env bash
+# The package of desk: its types, and its tests that need no program; that its rooms import downward is one of them.
+#
+# usage: checks/rooms.sh
+set -u
+[ $# -le 1 ] || { sed -n '2,/^set/s/^#.\{0,1\}//p' "$0"; exit 2; }
+export PYTHONDONTWRITEBYTECODE=1
+cd "$(dirname "$0")/../desk" || exit 2
+passed=0
+failed=0
+
+report() {
+    if [ "$1" -eq 0 ]; then
+        passed=$((passed + 1))
+    else
+        failed=$((failed + 1))
+        echo "rooms: $2"
+    fi
+}
+
+if command -v mypy >/dev/null; then
+    said=$(mypy --no-incremental --cache-dir=/dev/null 2>&1)
+    report $? "mypy finds a type that doesn't fit: (cd desk && mypy)
+$said"
+else
+    echo "rooms: passed over: mypy isn't there, so no types are tried"
+fi
+said=$(python3 -W error -m unittest discover -q 2>&1)
+report $? "$said"
+
+echo "rooms: $passed passed, $failed failed"
+[ "$failed" -eq 0 ]

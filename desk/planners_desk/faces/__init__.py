@@ -1,0 +1,1 @@
+"""How a person is asked: sheets, what stands on them, and the terminal that shows them."""

@@ -1,0 +1,149 @@
+"""How a session ends: a clash of answers, or rules."""
+
+from __future__ import annotations
+
+from ..case.model import Ending
+from ..case.picture import Picture
+from ..hints import solver
+from ..hints.along import and_list
+from ..hints.sentences import Sentence, grouped
+from ..sitting import missing
+from ..sitting.session import Session, said_by
+from . import views
+from .face import Block, Face, Sheet, patience
+from .goback import Choice, sure
+from .review import MISSING, Review, open_lines
+
+ALL_SAID = "Nothing is left that your words can say and your answers don't decide. "
+LOOK = "What your words can't say wasn't asked: so look at some plans now."
+NO_SOLVER = "What your words can't say wasn't asked. For plans to look at, install a SAT solver: cadical, minisat or clasp."
+LIFTED = ("It may also be that no answer was wrong: {words} {speak} of fewer things than are asked about together, and in plan {plan} "
+          "a right no to a part of a plan can then end so. In plan scopes it can't: `desk ask --plan scopes` in a new session.")
+MOST_CLASHES = 3            # that are drawn
+LAST = (("b", "back to the last answer"), ("s", "all answers"), ("q", "stop"))
+
+
+def shown(session: Session, ending: Ending, face: Face) -> int | None:
+    """Shows an ending; the place of an answer to go back to, or None where the sitting is over."""
+    if ending.word == "collapsed":
+        return Collapse(session, face).run()
+    if ending.word == "converged":
+        return converged(session, ending, face)
+    if ending.word == "undecided":
+        face.put(Sheet("Some rules couldn't be settled", tuple(undecided_lines(session, ending))))
+    return None
+
+
+# ---------------------------------------------------------------- answers that clash
+
+class Collapse:
+    """No rules agree with all answers: which of them clash, and going back to one."""
+
+    def __init__(self, session: Session, face: Face) -> None:
+        self.session, self.face = session, face
+        self.suspects = session.possible.suspects()
+        self.choice = Choice(session, self.suspects, LAST)
+        with patience(face, "looking for a word that would explain the answers .."):
+            self.lacking = missing.told(session, missing.lacking(session))
+
+    def run(self) -> int | None:
+        """The place of the answer to go back to, or None."""
+        while True:
+            key, place = self.choice.put(self.face, self.sheet)
+            if key == "q":
+                return None
+            if key == "s":
+                place = views.answers(self.session, self.face)
+            elif key == "b":
+                place = self._last()
+            if place is not None:
+                return place
+
+    def sheet(self) -> Sheet:
+        """The clash and the suspects."""
+        answers = self.session.answers
+        blocks: list[Block] = [f"No rules that your words can say agree with all {len(answers)} answers. One was a slip, or a word is missing."]
+        for place in smallest(self.session, self.session.possible.clash())[:MOST_CLASHES]:
+            question = answers[place].question
+            blocks += ["", f"You said no to question {question.number}, and what you accepted leaves no rule that refuses it:",
+                       Picture(self.session.case, question.values)]
+        if self.suspects:
+            blocks += ["", "If one answer alone was the slip, it is one of these; turned round, all others agree:"]
+            blocks += [f"{self.choice.letter(place)}  {views.answer_text(self.session, answers[place], views.MOST_VALUES)}"
+                       for place in self.suspects]
+        else:
+            blocks += ["", "No single answer explains it: more than one was a slip, or a word is missing. Go back with b, one by one."]
+        lifted = [f"`{word}`" for word in self.session.vocabulary.lifted]
+        if lifted and self.session.plan != "scopes":
+            blocks += ["", LIFTED.format(words=and_list(lifted), speak="speaks" if len(lifted) == 1 else "speak", plan=self.session.plan)]
+        lacking = "If no answer was a slip, a word is missing. " + self.lacking[0]
+        blocks += ["", lacking, *self.lacking[1:]]
+        return Sheet("Your answers clash", tuple(blocks), keys=self.choice.keys)
+
+    def _last(self) -> int | None:
+        """The person's last answer, where they want to go back to it."""
+        places = [place for place, answer in enumerate(self.session.answers) if answer.said is None]
+        return places[-1] if places and sure(self.session, self.face, places[-1]) else None
+
+
+def smallest(session: Session, places: list[int]) -> list[int]:
+    """Of some refused answers those that hold no other of them."""
+    items = {place: set(session.answers[place].question.values.items()) for place in places}
+    return [place for place in places if not any(items[other] < items[place] for other in places)]
+
+
+# ---------------------------------------------------------------- rules
+
+def converged(session: Session, ending: Ending, face: Face) -> int | None:
+    """The rules, and plans to judge."""
+    found = grouped(session.vocabulary, ending.learned, session.reduced(), session.answers)
+    head = f"Done after {ending.answers} answer{'s' if ending.answers != 1 else ''}"
+    can = solver.name() is not None
+    odd = views.odd_ones(session, ending.learned)
+    keys = (("g", "go on to plans"),) * can + (("q", "stop"),)
+    choice = Choice(session, [place for one in odd for place in one.behind], keys)
+    def sheet() -> Sheet:
+        """The rules, and the odd ones with their letters as they are now."""
+        lines = (*rule_lines(found), *views.odd_lines(session, odd, choice.letter))
+        return Sheet(head, (*lines, "", ALL_SAID + (LOOK if can else NO_SOLVER)), keys=choice.keys)
+    key, place = choice.put(face, sheet)
+    if key == "q" or place is not None:
+        return place
+    review = Review(session, found, face)
+    place = review.run()
+    if place is None and review.unsayable:
+        lines = tuple(f"- {title}" for title in dict.fromkeys(review.unsayable))
+        face.put(Sheet("What your words can't say", lines + ("", MISSING)))
+    return place
+
+
+def rule_lines(found: list[Sentence]) -> list[str]:
+    """The rules in sentences."""
+    return [f"- {sentence.whole}" for sentence in found] or ["No rule is needed: everything is allowed."]
+
+
+def undecided_lines(session: Session, ending: Ending) -> list[str]:
+    """What was learned, and what isn't settled."""
+    lines = rule_lines(grouped(session.vocabulary, ending.learned))
+    lines += ["", "Not settled, since the search took too long; all else that is possible follows from the rules above:"]
+    return lines + [f"- {text}" for text in open_lines(ending.open, session)] + ["", "`desk ask --budget 10000000` looks for longer."]
+
+
+def print_last(session: Session, ending: Ending | None, rules: bool = True) -> None:
+    """What stays in the terminal after the sitting; the rules only where they don't stand there
+    already."""
+    case = session.case
+    if ending is None or ending.word == "suspended":
+        count = len(session.answers)
+        print(f"Stopped after {count} answer{'s' if count != 1 else ''}. All are kept; `desk ask {case.path}` goes on from here.")
+    elif ending.word == "converged" and rules:
+        print(f"{case.title}: the rules after {ending.answers} answers")
+        print("\n".join(rule_lines(grouped(session.vocabulary, ending.learned, session.reduced(), session.answers))))
+        print(f"`desk report {case.path} FILE.html` writes them on a page.")
+    elif ending.word == "collapsed":
+        print(f"The answers clash. `desk ask {case.path}` shows which, and goes back to one.")
+    elif ending.word == "undecided" and rules:
+        print("\n".join(undecided_lines(session, ending)))
+    elif ending.word in ("refused", "failed"):
+        print(said_by(session.journal, ending.status, ending.text))
+        print(f"{len(session.answers)} answers stand; each one after which another question came is among them.")
