@@ -20,6 +20,7 @@ USAGE = f"""desk finds the rules of a plan: you look at examples and say whether
     desk report CASE FILE.html   one page with the rules, sample plans and all answers
     desk carry CASE              the case has changed: a new session, in which the old answers count as far as they decide
     desk carry OLD NEW           the same, from one case to another
+    desk web [CASE | FOLDER]     all of this on a page in the browser, for this user of this machine alone
     desk words                   the words of which rules are made
     desk cases FOLDER            copies of the cases to begin with, to try and to change
 
@@ -43,6 +44,7 @@ def parser() -> argparse.ArgumentParser:
     ask = commands.add_parser("ask", parents=[common], help="put the questions")
     report = commands.add_parser("report", parents=[common], help="one page with all that is known")
     carry = commands.add_parser("carry", parents=[common], help="take old answers over into a changed case")
+    web = commands.add_parser("web", parents=[common], help="a page in the browser")
     commands.add_parser("words", help="the words of which rules are made")
     cases = commands.add_parser("cases", help="copies of the cases to begin with")
     for command in (check, ask):
@@ -52,6 +54,9 @@ def parser() -> argparse.ArgumentParser:
         command.add_argument("case", metavar="CASE")
     ask.add_argument("--plan", choices=PLANS, help="how questions are chosen, where the session begins; else what desk check advises")
     ask.add_argument("--plain", action="store_true", help="plain lines, one below the other, as for a screen reader")
+    web.add_argument("place", metavar="CASE | FOLDER", nargs="?", default=".", help="a case, or a folder of cases; else this folder")
+    web.add_argument("--no-browser", action="store_true", help="only say where the page is")
+    web.add_argument("--port", type=port, default=0, metavar="N", help="else one that is free")
     report.add_argument("file", metavar="FILE.html")
     carry.add_argument("old", metavar="OLD")
     carry.add_argument("new", metavar="NEW", nargs="?")
@@ -71,6 +76,14 @@ def seconds(text: str) -> float:
     """A time as somebody types it."""
     given = float(text)
     if not 0 < given <= 86400:
+        raise ValueError
+    return given
+
+
+def port(text: str) -> int:
+    """A port of this machine."""
+    given = int(text)
+    if not 0 <= given < 2**16:
         raise ValueError
     return given
 
@@ -111,6 +124,9 @@ def run(options: argparse.Namespace) -> int:
     if options.command == "report":
         from .report import page
         return page.main(options.case, options)
+    if options.command == "web":
+        from .web import serve
+        return serve.main(options)
     from .commands import carry
     return carry.main(options.old, options.new, options)
 

@@ -160,8 +160,18 @@ class Possible:
                     before.setdefault(scope.things, (scope, left, needed))
         for things, (scope, left, needed) in before.items():
             if _says(scope.left, scope.needed) and not _says(left, needed):
-                tables = self.vocabulary.closings[len(things)].tables
-                yield things, tables[scope.left.bit_length() - 1] & self.vocabulary.inside(things)
+                yield things, self._rule(scope)
+
+    def said(self) -> Iterator[tuple[tuple[int, ...], int]]:
+        """The scopes on which a rule is settled, each with what the rule accepts there."""
+        for scope in self._scopes:
+            if _says(scope.left, scope.needed):
+                yield scope.things, self._rule(scope)
+
+    def _rule(self, scope: _Scope) -> int:
+        """What the last candidate of a scope accepts there."""
+        tables = self.vocabulary.closings[len(scope.things)].tables
+        return tables[scope.left.bit_length() - 1] & self.vocabulary.inside(scope.things)
 
     def open(self, things: tuple[int, ...]) -> bool:
         """Whether it isn't settled yet which candidate holds on a scope, or whether one does."""

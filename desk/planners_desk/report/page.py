@@ -8,7 +8,7 @@ import os
 import re
 import shlex
 from collections import Counter
-from collections.abc import Iterator, Sequence
+from collections.abc import Callable, Iterator, Sequence
 
 from ..case import casefile, files
 from ..case.files import journal_of, kept_of
@@ -101,16 +101,25 @@ def certified(session: Session, ending: Ending, name: str) -> Certificate | None
 
 def page(session: Session, ending: Ending, certificate: Certificate | None) -> str:
     """The whole page."""
+    return whole(session.case.title, content(session, ending, certificate))
+
+
+def content(session: Session, ending: Ending, certificate: Certificate | None, clock: Callable[[float], Clock] = Clock) -> Html:
+    """What the page shows. Plans are looked for as long as a clock says, which is made for so many seconds."""
     done = ending.word == "converged"
     learned = ending.learned if done else () if ending.word == "collapsed" else tuple(session.learned())
     found = grouped(session.vocabulary, learned, session.reduced() if done else None, session.answers)
     ruled = () if ending.word == "collapsed" else (section("The rules" if done else "Rules so far", *rules(found)),
-                                                   *beside(session.case), *(plans(session, found) if done else ()), *pattern_view(session))
-    body = joined(element("h1", session.case.title), element("p", state_text(session, ending), class_="dim"), *ruled, answers(session),
+                                                   *beside(session.case), *(plans(session, found, clock) if done else ()), *pattern_view(session))
+    return joined(element("h1", session.case.title), element("p", state_text(session, ending), class_="dim"), *ruled, answers(session),
                   proof(certificate, ending.word))
+
+
+def whole(title: str, body: Html) -> str:
+    """A page of its own, in its own style."""
     head = joined(element("meta", http_equiv="Content-Security-Policy", content=POLICY),
                   element("meta", name="viewport", content="width=device-width, initial-scale=1"),
-                  element("title", session.case.title), element("style", Html(STYLE)))
+                  element("title", title), element("style", Html(STYLE)))
     return START + head + "</head>" + element("body", element("main", body)) + "</html>\n"
 
 
@@ -162,22 +171,23 @@ def beside(case: Case) -> Iterator[Html]:
 
 # ---------------------------------------------------------------- plans
 
-def plans(session: Session, found: Sequence[Sentence]) -> Iterator[Html]:
+def plans(session: Session, found: Sequence[Sentence], clock: Callable[[float], Clock]) -> Iterator[Html]:
     """Plans that the rules allow, and for each sentence one that breaks it alone."""
     if solver.name() is None:
         yield section("Plans", element("p", "None are drawn, since no SAT solver is installed: cadical, minisat or clasp."))
         return
     some = solver.far(session.program, session.vocabulary, session.journal, MOST_PLANS,
-                      Clock(SECONDS_FOR_PLANS))
+                      clock(SECONDS_FOR_PLANS))
     shown = [drawn(session, plan.values, f"Plan {number}{review.apart_text(plan)}") for number, plan in enumerate(some, 1)]
     hint = element("p", "If one of these is wrong, an answer was a slip, or the words of the case can't say why.", class_="dim")
     yield section("Plans that the rules allow", hint,
                   element("div", *shown, class_="side") if shown else element("p", "No plan was found that satisfies all rules."))
     clauses = solver.clauses_of(session.program, session.vocabulary, session.journal)
-    clock = Clock(SECONDS_FOR_BROKEN)
+    left = clock(SECONDS_FOR_BROKEN)
+    left.doing("looking for plans that break one rule alone")
     broken, without = [], []
     for said in found:
-        one = review.broken_alone(session, said, found, clauses, clock)
+        one = review.broken_alone(session, said, found, clauses, left)
         if one is None:
             without.append(rule(said))
         else:

@@ -1,0 +1,70 @@
+"""`desk web`: starts the server on the loopback, and leads a browser to it."""
+
+from __future__ import annotations
+
+import argparse
+import contextlib
+import importlib.util
+import logging
+import os
+import shutil
+import signal
+import subprocess
+import sys
+from collections.abc import Iterator
+from types import FrameType
+
+from ..case.model import Fault
+from ..program.talk import Program
+
+LOOPBACK = "127.0.0.1"
+THREADS = 8                     # that serve requests
+LIBRARIES = ("flask", "waitress")
+ANOTHER = "DESK_WEB_PYTHON"     # set where this Python was taken since another one lacks the libraries
+
+
+def main(options: argparse.Namespace) -> int:
+    """Serves until it is ended."""
+    libraries()
+    # what follows needs them
+    from .server import serve
+    program = Program.found(options.acquire)
+    with ended_by_signals():
+        serve(options.place, options.port, not options.no_browser, program, options.budget)
+    return 0
+
+
+def libraries() -> None:
+    """Sees to it that the libraries are there: goes on with another Python that has them, or says what to install."""
+    missing = [name for name in LIBRARIES if importlib.util.find_spec(name) is None]
+    if not missing:
+        return
+    for python in dict.fromkeys(filter(None, ("/usr/bin/python3", shutil.which("python3")))):
+        if os.environ.get(ANOTHER) or os.path.realpath(python) == os.path.realpath(sys.executable):
+            continue
+        if subprocess.run([python, "-c", f"import {', '.join(LIBRARIES)}"], capture_output=True, check=False).returncode == 0:
+            os.environ[ANOTHER] = python
+            sys.stdout.flush()
+            os.execv(python, [python, os.path.dirname(os.path.dirname(os.path.realpath(__file__))), *sys.argv[1:]])
+    raise Fault("the libraries that serve pages aren't installed: `apt-get install python3-flask python3-waitress`")
+
+
+@contextlib.contextmanager
+def ended_by_signals() -> Iterator[None]:
+    """A signal that ends the server lets it put all sessions down."""
+    def ended(number: int, _: FrameType | None) -> None:
+        raise SystemExit(128 + number)
+    before = {number: signal.signal(number, ended) for number in (signal.SIGTERM, signal.SIGHUP)}
+    try:
+        yield
+    finally:
+        for number, handler in before.items():
+            signal.signal(number, handler)
+
+
+def quiet() -> None:
+    """Nothing of the libraries' own notes comes to the terminal."""
+    for name in ("waitress", "waitress.queue", "werkzeug", "flask.app", "planners_desk.web.app"):
+        logger = logging.getLogger(name)
+        logger.handlers = [logging.NullHandler()]
+        logger.propagate = False
