@@ -70,7 +70,7 @@ def step(name: str) -> Answer:
         raise BadRequest("This form says nothing that desk knows. Nothing was changed.")
     made = Step(do, number(form["place"]) if "place" in form else -1, tuple(number(text) for text in form.getlist("thing")))
     taken = owner.take(number(form.get("sheet", "")), made)
-    return redirect(url_for("sitting.show", name=name, **({} if taken else {"late": "1"})), 303)
+    return redirect(url_for("sitting.show", name=name, late=None if taken else "1"), 303)
 
 
 def owner_of(name: str) -> Owner:

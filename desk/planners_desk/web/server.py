@@ -3,11 +3,12 @@
 from __future__ import annotations
 
 import contextlib
+import logging
 import os
 import subprocess
 import sys
 
-from waitress.server import create_server
+from waitress.server import create_server  # type: ignore[import]
 
 from ..case.model import Fault
 from ..program.talk import Program
@@ -15,10 +16,13 @@ from . import opening
 from .app import application
 from .entrance import Entrance
 from .folder import Folder
-from .security import Secrets
-from .serve import LOOPBACK, THREADS, quiet
+from .security import Below, Secrets
 from .sheets import Sheet
 from .sittings import Owner, Sittings
+
+LOOPBACK = "127.0.0.1"
+THREADS = 8             # that serve requests
+LIBRARIES = ("waitress", "waitress.queue", "werkzeug", "flask.app", "planners_desk.web.app")
 
 
 def serve(place: str, port: int, browser: bool, program: Program, budget: int | None) -> None:
@@ -34,7 +38,7 @@ def serve(place: str, port: int, browser: bool, program: Program, budget: int | 
     entrance = Entrance(known)
     app = application(known, folder, sittings, entrance)
     try:
-        server = create_server(app, host=LOOPBACK, port=port, threads=THREADS, ident=None, clear_untrusted_proxy_headers=True)
+        server = create_server(Below(app, known.path), host=LOOPBACK, port=port, threads=THREADS, ident=None, clear_untrusted_proxy_headers=True)
     except OSError as error:
         raise Fault(f"port {port} of {LOOPBACK}: {error.strerror}; take another one, or leave --port out") from None
     known.host = f"{LOOPBACK}:{server.effective_port}"
@@ -61,3 +65,11 @@ def opened(file: str) -> None:
     code = "import sys, webbrowser; webbrowser.open(sys.argv[1])"
     subprocess.Popen([sys.executable, "-c", code, f"file://{file}"], stdin=subprocess.DEVNULL, stdout=subprocess.DEVNULL,
                      stderr=subprocess.DEVNULL, start_new_session=True)
+
+
+def quiet() -> None:
+    """Nothing of the libraries' own notes comes to the terminal."""
+    for name in LIBRARIES:
+        logger = logging.getLogger(name)
+        logger.handlers = [logging.NullHandler()]
+        logger.propagate = False
