@@ -9,11 +9,14 @@ from __future__ import annotations
 import io
 import random
 import re
+import types
 
 import hands        # desk's folder is on the path now
 from planners_desk.case import casefile
 from planners_desk.faces import drawing
 from planners_desk.faces import face
+from planners_desk.faces import questions
+from planners_desk.sitting import asking
 from planners_desk.case import model
 from planners_desk.case import picture
 from planners_desk.faces import plain
@@ -31,7 +34,7 @@ PLANTED = [
     # a table that is too wide isn't turned or listed, but cut off
     ("faces/drawing.py", "first + sum(widths) + 3 * len(widths) + 4", "first + sum(widths)"),
     # what has stayed is marked, and what has changed isn't
-    ("commands/ask.py", "if before.values.get(thing) != value}", "if before.values.get(thing) == value}"),
+    ("sitting/asking.py", "if before.values.get(thing) != value", "if before.values.get(thing) == value"),
     # a window that is too small for a page takes answers
     ("faces/screen.py", "            if room < (LEAST_BODY if count > 1 else 1):\n                return []\n", ""),
     ("faces/screen.py", "            elif count:\n                taken", "            else:\n                taken"),
@@ -304,7 +307,6 @@ def figures_fit() -> list[str]:
 
 def changes() -> list[str]:
     """The marks are what differs from the last question, and nothing else."""
-    from planners_desk.commands import ask
     found = []
     for last, now, wanted in (
             (None, {0: 1}, {}),
@@ -313,7 +315,7 @@ def changes() -> list[str]:
             ({0: 1}, {0: 1, 3: 2}, {3: picture.CHANGED}),
             ({0: 1, 1: 1}, {2: 1, 3: 1}, {}),
             ({0: 1, 1: 1}, {0: 1, 1: 1}, {})):
-        got = ask.marks(now, None if last is None else model.Question(1, last))
+        got = asking.marks(now, None if last is None else model.Question(1, last))
         if got != wanted:
             found.append(f"from {last} to {now}: {got}")
     return found
@@ -321,7 +323,6 @@ def changes() -> list[str]:
 
 def notes() -> list[str]:
     """A part of a plan has the note that only what is filled in counts; a whole one hasn't, and changes are explained."""
-    from planners_desk.commands import ask
     case = casefile.parse(hands.WARD, "ward.case")
     class Still:
         """A session that is asked how far it is."""
@@ -330,10 +331,13 @@ def notes() -> list[str]:
         """What a sheet is made of."""
         possible = Still()
     Quiet.case = case       # type: ignore[attr-defined]
-    it = ask.Asking(Quiet(), None, None)    # type: ignore[arg-type]
-    it.before = model.Question(1, {0: 0, 1: 0})
-    part = it.sheet(model.Question(2, {0: 0, 1: 1}))
-    whole = it.sheet(model.Question(3, {thing.place: 0 for thing in case.things}))
+    def sheet(asked: model.Question) -> face.Sheet:
+        """A question after the first one."""
+        it = asking.Asking(Quiet(), types.SimpleNamespace(question=asked))    # type: ignore[arg-type]
+        it.before = model.Question(1, {0: 0, 1: 0})
+        return questions.sheet(it)
+    part = sheet(model.Question(2, {0: 0, 1: 1}))
+    whole = sheet(model.Question(3, {thing.place: 0 for thing in case.things}))
     found = []
     if part.under[-1] != "Judge what is filled in, don't think of the rest." or "*" not in part.legend:
         found.append(f"a part: {part}")

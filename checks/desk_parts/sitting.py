@@ -17,7 +17,7 @@ from planners_desk.hints import sentences
 from planners_desk.sitting import session
 from planners_desk.hints import solver
 from planners_desk.program import talk
-from planners_desk.faces import views
+from planners_desk.sitting import answers
 from hands import Owner, Piped, is_question, plain_values, room
 
 ALWAYS = hands.WARD + "always: different on same day\n"
@@ -30,12 +30,12 @@ words: different
 
 PLANTED = [
     # a line that contradicts an answer isn't told
-    ("commands/ask.py", "        if self.session.against():\n            place", "        if False:\n            place"),
+    ("faces/questions.py", "        if self.session.against():\n            place", "        if False:\n            place"),
     # an answer is turned round
-    ("commands/ask.py", "self.sitting.answer(key == \"y\")", "self.sitting.answer(key == \"n\")"),
+    ("faces/questions.py", "asking.answer(key == \"y\")", "asking.answer(key == \"n\")"),
     # another answer is gone back to than the one that was chosen
-    ("faces/goback.py", "super().__init__([place for place in places if may(session, place)], keys,",
-     "super().__init__([place - 1 for place in places if may(session, place) and place], keys,"),
+    ("faces/goback.py", "super().__init__([place for place in places if may_go_back(session, place)], keys,",
+     "super().__init__([place - 1 for place in places if may_go_back(session, place) and place], keys,"),
     # behind a broken plan only a single answer that explains it is shown
     ("faces/review.py", "    if places or shown.rule is None:\n        return places", "    return places"),
     # a second step back forgets what the first one took
@@ -49,7 +49,7 @@ PLANTED = [
     # cells that are pointed at are judged with all others
     ("faces/review.py", "values = {thing: shown.values[thing] for thing in cells} if cells else shown.values", "values = shown.values"),
     # the answers behind a sentence are those about anything
-    ("faces/views.py", "if asked in scopes and any(", "if any("),
+    ("sitting/answers.py", "if asked in scopes and any(", "if any("),
     # a line that contradicts an answer leads nowhere
     ("faces/beforehand.py", "return place if face.put(sheet) == \"b\" else None", "return None"),
     # a rule that nobody saw kept isn't marked
@@ -509,8 +509,8 @@ def behind_sentences(program: str) -> list[str]:
             for said in sentences.grouped(one.vocabulary, one.learned()):
                 wanted = [place for place, answer in enumerate(one.answers) if set(answer.question.values) in scopes
                           and any(set(rule.things) <= set(answer.question.values) for rule in said.rules)]
-                if not wanted or views.behind(one, said.rules) != wanted:
-                    found.append(f"{said.text}: {views.behind(one, said.rules)} and not {wanted}")
+                if not wanted or answers.behind(one, said.rules) != wanted:
+                    found.append(f"{said.text}: {answers.behind(one, said.rules)} and not {wanted}")
     return found
 
 

@@ -12,7 +12,7 @@ import time
 import drawn  # desk's folder is on the path now
 from planners_desk.case import casefile
 import hands
-from planners_desk.faces import views
+from planners_desk.sitting import answers
 from drawn import Owner
 from planners_desk.case.model import PLANS, Fault
 from planners_desk.sitting.session import Session, Sitting
@@ -47,12 +47,12 @@ PLANTED = [
     ),
     # a rule stands there that was taken back
     (
-        "commands/ask.py",
-        'self.before, self.taught, self.told = None, "", set()\n        self.note = f"Your',
-        'self.before, self.told = None, set()\n        self.note = f"Your',
+        "sitting/asking.py",
+        "self.before, self.taught, self._told = None, NOTHING, set()",
+        "self.before, self._told = None, set()",
     ),
     # a rule that two groups have is said twice
-    ("faces/views.py", "if rule.text not in told)", ")"),
+    ("sitting/answers.py", "if rule.text not in told)", ")"),
 ]
 Known = set[tuple[tuple[int, ...], int]]
 
@@ -243,7 +243,7 @@ def pace(program: str) -> list[str]:
                     sitting.answer(all(values[thing] != values.get(thing + 7) for thing in values))
                     sitting.advance()
                     began = time.process_time()
-                    views.taught_text(one, since, set())
+                    answers.taught(one, since, set())
                     taken.append(time.process_time() - began)
         taken.sort()
         told.append(

@@ -8,6 +8,7 @@ from ..hints import solver
 from ..hints.along import and_list
 from ..hints.sentences import Sentence, grouped
 from ..sitting import missing
+from ..sitting.answers import MOST_VALUES, answer_text, last_own, odd_ones
 from ..sitting.session import Session, said_by
 from . import views
 from .face import Block, Face, Sheet, patience
@@ -69,7 +70,7 @@ class Collapse:
                        Picture(self.session.case, question.values)]
         if self.suspects:
             blocks += ["", "If one answer alone was the slip, it is one of these; turned round, all others agree:"]
-            blocks += [f"{self.choice.letter(place)}  {views.answer_text(self.session, answers[place], views.MOST_VALUES)}"
+            blocks += [f"{self.choice.letter(place)}  {answer_text(self.session, answers[place], MOST_VALUES)}"
                        for place in self.suspects]
         else:
             blocks += ["", "No single answer explains it: more than one was a slip, or a word is missing. Go back with b, one by one."]
@@ -82,8 +83,8 @@ class Collapse:
 
     def _last(self) -> int | None:
         """The person's last answer, where they want to go back to it."""
-        places = [place for place, answer in enumerate(self.session.answers) if answer.said is None]
-        return places[-1] if places and sure(self.session, self.face, places[-1]) else None
+        place = last_own(self.session)
+        return place if place is not None and sure(self.session, self.face, place) else None
 
 
 def smallest(session: Session, places: list[int]) -> list[int]:
@@ -99,7 +100,7 @@ def converged(session: Session, ending: Ending, face: Face) -> int | None:
     found = grouped(session.vocabulary, ending.learned, session.reduced(), session.answers)
     head = f"Done after {ending.answers} answer{'s' if ending.answers != 1 else ''}"
     can = solver.name() is not None
-    odd = views.odd_ones(session, ending.learned)
+    odd = odd_ones(session, ending.learned)
     keys = (("g", "go on to plans"),) * can + (("q", "stop"),)
     choice = Choice(session, [place for one in odd for place in one.behind], keys)
     def sheet() -> Sheet:

@@ -7,6 +7,7 @@ from collections.abc import Callable, Hashable, Iterable
 from typing import Generic, TypeVar
 
 from ..case.picture import Picture
+from ..sitting.answers import may_go_back, yes_no
 from ..sitting.session import Session
 from .face import Face, Sheet
 
@@ -15,12 +16,6 @@ MORE = ("m", "letters for others")
 
 Keys = tuple[tuple[str, str], ...]
 Item = TypeVar("Item", bound=Hashable)
-
-
-def may(session: Session, place: int) -> bool:
-    """Whether an answer isn't one that the case itself gives."""
-    said = session.answers[place].said
-    return said is None or said.by != "always"
 
 
 class Letters(Generic[Item]):
@@ -65,7 +60,7 @@ class Choice(Letters[int]):
     def __init__(self, session: Session, places: Iterable[int], keys: Keys) -> None:
         """Takes the answers' places, those that can't be gone back to among them, and the other
         keys."""
-        super().__init__([place for place in places if may(session, place)], keys,
+        super().__init__([place for place in places if may_go_back(session, place)], keys,
                          lambda _: "go back to it")
         self.session = session
 
@@ -87,7 +82,7 @@ def sure(session: Session, face: Face, place: int) -> bool:
     """Shows an answer, and asks whether to go back to it."""
     answer = session.answers[place]
     later = len(session.answers) - place - 1
-    text = f"You said {'yes' if answer.yes else 'no'}. To go back takes this answer back"
+    text = f"You said {yes_no(answer.yes)}. To go back takes this answer back"
     if later:
         text += f" and the {later} after it; these count again where they decide a question, so that it isn't put twice"
     sheet = Sheet(f"Go back to question {answer.question.number}?", (Picture(session.case, answer.question.values),), under=(text + ".",),

@@ -21,10 +21,11 @@ from ..hints.along import Things, and_list
 from ..hints.sentences import Sentence
 from ..program.talk import Clock
 from ..sitting import missing
+from ..sitting.answers import MOST_VALUES, answer_text, may_go_back
 from ..sitting.session import Session
-from . import point, views
+from . import point
 from .face import Face, Sheet, moving, patience
-from .goback import Choice, may
+from .goback import Choice
 
 MOST_PLANS = 3
 SECONDS_FOR_PLANS = 10.0    # that are looked for, all together
@@ -136,7 +137,7 @@ class Review:
         """Answers to choose from, those that have letters now."""
         for letter, place in choice.item_of.items():
             answer = self.session.answers[place]
-            yield f"{letter}  {views.answer_text(self.session, answer, views.MOST_VALUES)}"
+            yield f"{letter}  {answer_text(self.session, answer, MOST_VALUES)}"
         if len(choice.item_of) < len(choice.items):
             yield f"and {len(choice.items) - len(choice.item_of)} others"
 
@@ -205,11 +206,11 @@ def behind(session: Session, shown: Shown, values: Values) -> list[int]:
     """The answers behind a plan that is judged otherwise than the rules judge it, by these of its
     values."""
     places = [place for place in suspects_with(session, values, not shown.allowed)
-              if may(session, place)]
+              if may_go_back(session, place)]
     if places or shown.rule is None:
         return places
     scopes = [scope for scope in session.vocabulary.scopes if set(shown.rule.things) <= set(scope)]
-    return [place for place, answer in enumerate(session.answers) if not answer.yes and may(session, place)
+    return [place for place, answer in enumerate(session.answers) if not answer.yes and may_go_back(session, place)
             and shown.rule.violated(answer.question.values) and tuple(sorted(answer.question.values)) in scopes]
 
 

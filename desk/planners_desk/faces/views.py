@@ -2,75 +2,30 @@
 
 from __future__ import annotations
 
-import itertools
-from collections import Counter
 from collections.abc import Callable, Sequence
 from functools import partial
 
-from ..case.model import Answer, Constraint, Question, Rule
-from ..case.picture import Picture, sentence
-from ..hints import patterns, sentences
+from ..hints import sentences
 from ..hints.patterns import Odd
 from ..hints.sentences import Sentence
+from ..sitting.answers import MOST_VALUES, answer_text, behind, may_go_back, odd_ones
+from ..sitting.asking import Asking
 from ..sitting.session import Session
 from .face import ON, Face, Sheet
-from .goback import MORE, Choice, Letters, may, sure
+from .goback import MORE, Choice, Letters, sure
 
-MOST_RULES = 8              # of the rules that a yes rules out
-MOST_VALUES = 6             # of an answer in a line, where it is shown whole elsewhere
 ODD = ("Other than most of their pattern. That may be right; if it isn't, an answer was a slip, or your words "
        "can't say it:")
-MOST_TAUGHT = 3             # of the rules that an answer has taught
 MOST_ANSWERS = 15           # on one sheet; each of them has a letter
-BY = {"always": "said beforehand", "carried": "from the earlier session", "again": "said before you went back"}
 
 
-def yes_no(yes: bool) -> str:
-    """How an answer is called."""
-    return "yes" if yes else "no"
-
-
-def given_text(given: Sequence[Answer]) -> str:
-    """How many answers were given for the person since the last question, and why."""
-    counts = Counter((answer.said.by, answer.yes) for answer in given if answer.said)
-    said = [f"{count} {yes_no(yes)} ({BY[by]})" for (by, yes), count in counts.items()]
-    if not said:
-        return ""
-    one = f": {given[0].said.why}" if len(given) == 1 and given[0].said else ""
-    return f"Answered for you: {', '.join(said)}{one}."
-
-
-def taught_text(session: Session, since: int, told: set[str]) -> str:
-    """What the answers from a place on have taught, a few rules at most; it is where a word that is
-    missing shows first. What was told isn't told again, and this is added to it: two groups may
-    have one rule about a thing in both."""
-    new = dict.fromkeys(rule.text for rule in session.taught(since) if rule.text not in told)
-    texts = list(itertools.islice(new, MOST_TAUGHT + 1))
-    told.update(new)
-    if not texts:
-        return ""
-    more = "; and more (r shows them)" if len(texts) > MOST_TAUGHT else ""
-    return (f"Your answers have just taught: {'; '.join(texts[:MOST_TAUGHT])}{more}. "
-            "Is that so? If not, go back, or a word is missing.")
-
-
-def answer_text(session: Session, answer: Answer, most: int | None = None) -> str:
-    """An answer as one line, with so many values at most."""
-    why = f" ({BY[answer.said.by]}: {answer.said.why})" if answer.said else ""
-    values = answer.question.values
-    some = dict(sorted(values.items())[:most])
-    shown = sentence(Picture(session.case, some)) + (f" and {len(values) - len(some)} more" if len(some) < len(values) else "")
-    return f"{answer.question.number}. {yes_no(answer.yes)}: {shown}{why}"
-
-
-def why(session: Session, question: Question) -> Sheet:
+def why(asking: Asking) -> Sheet:
     """The rules that are at stake, a few at most."""
-    rules = session.possible.at_stake(question.values, MOST_RULES + 1)
+    stake = asking.at_stake()
     lines = ["A yes says that none of these rules is needed; a no says that one of them is, or a rule that says more:", ""]
-    lines += [f"- {rule.text}" for rule in rules[:MOST_RULES]]
-    if len(rules) > MOST_RULES:
-        lines.append("- and others")
-    return Sheet(f"Why question {question.number} is asked", tuple(lines))
+    lines += [f"- {text}" for text in stake.texts] + ["- and others"] * stake.more
+    assert asking.question is not None
+    return Sheet(f"Why question {asking.question.number} is asked", tuple(lines))
 
 
 def rules(session: Session, face: Face) -> int | None:
@@ -80,7 +35,7 @@ def rules(session: Session, face: Face) -> int | None:
     found = sentences.grouped(session.vocabulary, learned, answers=session.answers)
     odd = odd_ones(session, learned)
     # a letter leads to an answer by its place, or to the answers behind a sentence
-    items = [("answer", place) for one in odd for place in one.behind if may(session, place)]
+    items = [("answer", place) for one in odd for place in one.behind if may_go_back(session, place)]
     items += [("sentence", place) for place in range(len(found))]
     does = {"answer": "go back to it", "sentence": "what is behind it"}
     letters = Letters(items, (("o", "on"),), lambda item: does[item[0]])
@@ -114,24 +69,6 @@ def _behind(session: Session, face: Face, said: Sentence) -> int | None:
                  for place in places] or ["No answer of yours is about these things alone."]
         return Sheet("The answers behind it", (said.whole, "", *lines), keys=choice.keys)
     return choice.put(face, sheet)[1]
-
-
-def behind(session: Session, some: Sequence[Rule]) -> list[int]:
-    """The answers about just those groups that hold the things of some rules, by their places."""
-    things = {tuple(sorted(rule.things)) for rule in some}
-    scopes = set(session.vocabulary.scopes)
-    found = []
-    for place, answer in enumerate(session.answers):
-        asked = tuple(sorted(answer.question.values))
-        if asked in scopes and any(part in things for size in range(1, len(asked) + 1)
-                                   for part in itertools.combinations(asked, size)):
-            found.append(place)
-    return found
-
-
-def odd_ones(session: Session, learned: Sequence[Constraint]) -> list[Odd]:
-    """The odd ones out among the groups on which all is settled."""
-    return patterns.odd(session.vocabulary, learned, session.answers, session.possible.open)
 
 
 def odd_lines(session: Session, odd: Sequence[Odd], letter: Callable[[int], str]) -> list[str]:

@@ -14,11 +14,12 @@ from ..case import casefile, files
 from ..case.files import journal_of, kept_of
 from ..case.model import Case, Ending, Fault, Values
 from ..case.picture import CLASH, Cells, Grid, Picture, grid_of, sentence
-from ..faces import beforehand, review, views
+from ..faces import beforehand, review
 from ..hints import patterns, solver
 from ..hints.foreseen import AGAIN, ALWAYS, CARRIED
 from ..hints.sentences import Sentence, grouped
 from ..program.talk import Clock, Program
+from ..sitting.answers import BY, yes_no
 from ..sitting.session import Session
 from .markup import Html, element, joined
 from .style import STYLE
@@ -275,8 +276,8 @@ def answers(session: Session) -> Html:
     """All answers, folded away."""
     rows = []
     for answer in session.answers:
-        word = views.yes_no(answer.yes)
-        by = f"{views.BY[answer.said.by]}: {answer.said.why}" if answer.said else "asked"
+        word = yes_no(answer.yes)
+        by = f"{BY[answer.said.by]}: {answer.said.why}" if answer.said else "asked"
         shown = sentence(Picture(session.case, answer.question.values))
         rows.append(element("tr", element("th", str(answer.question.number), scope="row"), element("td", word, class_=word),
                             element("td", shown), element("td", by)))

@@ -1,0 +1,110 @@
+"""Answers and what they have taught, in words that name no key and no button."""
+
+from __future__ import annotations
+
+import itertools
+from collections import Counter
+from collections.abc import Sequence
+from dataclasses import dataclass
+
+from ..case.model import Answer, Constraint, Question, Rule
+from ..case.picture import Picture, sentence
+from ..hints import patterns
+from ..hints.patterns import Odd
+from .session import Session
+
+MOST_RULES = 8  # of the rules that a yes rules out
+MOST_TAUGHT = 3  # of the rules that an answer has taught
+MOST_VALUES = 6  # of an answer in a line, where it is shown whole elsewhere
+BY = {
+    "always": "said beforehand",
+    "carried": "from the earlier session",
+    "again": "said before you went back",
+}
+
+
+def yes_no(yes: bool) -> str:
+    """How an answer is called."""
+    return "yes" if yes else "no"
+
+
+def given_text(given: Sequence[Answer]) -> str:
+    """How many answers were given for the person since the last question, and why."""
+    counts = Counter((answer.said.by, answer.yes) for answer in given if answer.said)
+    said = [f"{count} {yes_no(yes)} ({BY[by]})" for (by, yes), count in counts.items()]
+    if not said:
+        return ""
+    one = f": {given[0].said.why}" if len(given) == 1 and given[0].said else ""
+    return f"Answered for you: {', '.join(said)}{one}."
+
+
+def answer_text(session: Session, answer: Answer, most: int | None = None) -> str:
+    """An answer as one line, with so many values at most."""
+    why = f" ({BY[answer.said.by]}: {answer.said.why})" if answer.said else ""
+    values = answer.question.values
+    some = dict(sorted(values.items())[:most])
+    left = len(values) - len(some)
+    shown = sentence(Picture(session.case, some)) + (f" and {left} more" if left else "")
+    return f"{answer.question.number}. {yes_no(answer.yes)}: {shown}{why}"
+
+
+def may_go_back(session: Session, place: int) -> bool:
+    """Whether an answer isn't one that the case itself gives."""
+    said = session.answers[place].said
+    return said is None or said.by != "always"
+
+
+def last_own(session: Session) -> int | None:
+    """The place of the person's last answer; None where they have given none."""
+    places = (place for place, answer in enumerate(session.answers) if answer.said is None)
+    return max(places, default=None)
+
+
+@dataclass(frozen=True)
+class Few:
+    """A few rules, as sentences, and whether there are more."""
+
+    texts: tuple[str, ...]
+    more: bool
+
+
+def few(texts: Sequence[str], most: int) -> Few:
+    """So many of them at most."""
+    return Few(tuple(texts[:most]), len(texts) > most)
+
+
+def taught(session: Session, since: int, told: set[str]) -> Few:
+    """What the answers from a place on have taught; it is where a word that is missing shows
+    first. What was told isn't told again, and this is added to it: two groups may have one rule
+    about a thing in both."""
+    new = dict.fromkeys(rule.text for rule in session.taught(since) if rule.text not in told)
+    texts = list(itertools.islice(new, MOST_TAUGHT + 1))
+    told.update(new)
+    return few(texts, MOST_TAUGHT)
+
+
+def at_stake(session: Session, question: Question) -> Few:
+    """The rules of which a yes says that none is needed."""
+    rules = session.possible.at_stake(question.values, MOST_RULES + 1)
+    return few([rule.text for rule in rules], MOST_RULES)
+
+
+def behind(session: Session, some: Sequence[Rule]) -> list[int]:
+    """The answers about just those groups that hold the things of some rules, by their places."""
+    things = {tuple(sorted(rule.things)) for rule in some}
+    scopes = set(session.vocabulary.scopes)
+    found = []
+    for place, answer in enumerate(session.answers):
+        asked = tuple(sorted(answer.question.values))
+        if asked in scopes and any(
+            part in things
+            for size in range(1, len(asked) + 1)
+            for part in itertools.combinations(asked, size)
+        ):
+            found.append(place)
+    return found
+
+
+def odd_ones(session: Session, learned: Sequence[Constraint]) -> list[Odd]:
+    """The odd ones out among the groups on which all is settled."""
+    return patterns.odd(session.vocabulary, learned, session.answers, session.possible.open)
