@@ -21,8 +21,10 @@ It fails where a line isn't as it comes, lacks, or is about no edit, and where a
 the sources or compile. --write writes lines that lack or don't come anew. With --every no line is
 believed: each body goes through the tables in turn, and then the checks, until one notices it.
 With --room the programs are kept in a folder, and each is used again where no source and no body
-of its crates has changed, as after a row was added. Where a build of the kit calls its tools in
-another way than is known here, nothing is tried, and the last line says so.
+of its crates has changed, as after a row was added; what passed is kept there too, and tried again
+only where something has changed on which it depends (wrong_bodies_parts/kept.py). Side by side is
+done what tools/lanes.sh says, or --jobs. Where a build of the kit calls its tools in another way
+than is known here, nothing is tried, and the last line says so.
 
 With --plants the bodies are those that `rt plant` writes for all functions of these crates, also
 where it would not ask the prover. Those that no table notices are listed: one that means another
@@ -34,6 +36,7 @@ from __future__ import annotations
 import argparse
 import os
 import shutil
+import subprocess
 import sys
 import tempfile
 import time
@@ -44,7 +47,9 @@ sys.dont_write_bytecode = True
 sys.path.insert(0, f"{HERE}/wrong_bodies_parts")
 
 # pylint: disable=wrong-import-position
-from edits import BadEdit, Edit, Sources, find_edits, number, read_bodies, switch_of, together
+from edits import (TOP, BadEdit, Edit, Sources, find_edits, number, read_bodies, switch_of,
+                   together)
+from kept import Kept, sum_of_edit, sum_of_runs, sum_of_texts
 from plants import find_plants
 from programs import OtherKit, Program, Table, ask, build, check, run
 
@@ -109,23 +114,25 @@ class Bench:
         self.room, self.pool = room, ThreadPoolExecutor(jobs)
         self.programs: dict[str, Program] = {}
         self.tables = {name: Table(name) for name in TABLES}
+        self.right: dict[str, tuple[str, str]] = {}  # what comes of a table with the right bodies
         self.seconds: dict[str, int] = {}   # that a run of a table may take of a processor
+        self.used = {"compile": 0.0, "tables": 0.0}     # seconds of a processor
 
     def compile(self, names: list[str], edits: list[Edit], faults: dict[str, str]) -> list[Edit]:
-        """Builds these programs. Edits that the compiler refuses are faults, and none of what is
-        given back."""
+        """Builds these programs, and runs their tables with the right bodies. Edits that the
+        compiler refuses are faults, and none of what is given back."""
         # the last ones take longest
         names = names[::-1]
         asked = self.pool.map(lambda name: ask(name, f"{self.room}/{name}"), names)
         left = dict(zip(names, asked))
         while left:
             sources = Sources(f"{self.room}/sources", edits)
-            said = self.pool.map(lambda program: build(program, sources), left.values())
+            said = self.pool.map(lambda program: self.make(program, sources), left.values())
             refused: dict[str, str] = {}
             for name, text in list(zip(left, said)):
                 blamed = sources.blamed(text)
                 if not text:
-                    self.programs[name] = left.pop(name)
+                    del left[name]
                 elif not blamed and ": error" in text:
                     raise SystemExit(f"wrong_bodies: {name} doesn't compile: {text[:600]}")
                 elif not blamed:
@@ -134,12 +141,24 @@ class Bench:
             for name, why in refused.items():
                 faults[name] = f"a bad edit: it doesn't compile: {why}"
             edits = [edit for edit in edits if edit.name not in refused]
+        self.used["compile"] = sum(os.times()[:4]) - self.used["tables"]
         return edits
+
+    def make(self, program: Program, sources: Sources) -> str:
+        """Builds a program and runs its table with the right bodies. Gives what the compiler says
+        where nothing comes of it."""
+        said = build(program, sources)
+        if not said:
+            self.programs[program.crate] = program
+            if program.crate != PROGRAM:
+                self.right[program.crate] = self.first_row(program.crate, [])
+        return said
 
     def first_row(self, name: str, edits: list[Edit]) -> tuple[str, str]:
         """The first row of a table that doesn't hold with these bodies, and what came instead."""
         program, seconds = self.programs[name], self.seconds.get(name, 600)
         row, came, used = run(program, self.tables[name], switch_of(edits), seconds)
+        self.used["tables"] += used
         if not edits:
             self.seconds[name] = 5 + int(4 * used)
         return row, came
@@ -156,25 +175,29 @@ class Bench:
     def right_faults(self, checks: bool) -> dict[str, str]:
         """What doesn't hold with the right bodies, by the tables, and by the checks too, which
         the gate itself runs elsewhere."""
-        tables = [name for name in self.programs if name != PROGRAM]
-        rows = self.pool.map(lambda name: self.first_row(name, []), tables)
         found = {name: f"with the right bodies `{row}` doesn't hold: {came[:300]}"
-                 for name, (row, came) in zip(tables, rows) if row}
+                 for name, (row, came) in self.right.items() if row}
         names = CHECKS if checks and PROGRAM in self.programs else {}
         failed = self.pool.map(lambda name: self.fails(name, []), names)
         found.update({name: "it fails with the right bodies"
                       for name, one in zip(names, failed) if one})
         return found
 
+    def lookers(self, edits: list[Edit]) -> list[str]:
+        """The tables and checks that may notice one of these bodies, in turn."""
+        checks = [name for name in CHECKS if name not in SLOW and self.links(PROGRAM, edits)]
+        return [name for name in TABLES if self.links(name, edits)] + checks
+
+    def sees(self, name: str, edits: list[Edit]) -> Line | None:
+        """What a table or a check notices of these bodies."""
+        if name in self.tables:
+            row = self.first_row(name, edits)[0]
+            return (name, row) if row else None
+        return (name, CHECKS[name]) if self.fails(name, edits) else None
+
     def notices(self, edits: list[Edit]) -> Line | None:
-        """What notices these bodies first: the tables in turn, then the checks."""
-        for name in TABLES:
-            if self.links(name, edits) and (row := self.first_row(name, edits)[0]):
-                return name, row
-        for name, words in CHECKS.items():
-            if name not in SLOW and self.links(PROGRAM, edits) and self.fails(name, edits):
-                return name, words
-        return None
+        """What notices these bodies first."""
+        return next(filter(None, (self.sees(name, edits) for name in self.lookers(edits))), None)
 
     def differs(self, edit: Edit, line: Line) -> str:
         """How what comes differs from the line of a body that something notices, or nothing."""
@@ -197,16 +220,20 @@ def judge_by_lines(bench: Bench, edits: list[Edit], lines: dict[str, Line]) -> d
     """What is wrong with the lines of these edits, by name."""
     wrong = {edit.name: "it has no line" for edit in edits
              if not edit.same and edit.name not in lines}
-    shown = [edit for edit in edits if edit.name not in wrong and not is_unshown(edit, lines)]
+    # what takes longest is begun first
+    groups = together([edit for edit in edits if is_unshown(edit, lines)])
+    looks = [(group, name) for group in groups for name in bench.lookers(group)]
+    seen = bench.pool.map(lambda look: bench.sees(look[1], look[0]), looks)
+    order = [*TABLES, *CHECKS]
+    shown = sorted((edit for edit in edits if edit.name in lines and not is_unshown(edit, lines)),
+                   key=lambda edit: -order.index(lines[edit.name][0]))
     said = bench.pool.map(lambda edit: bench.differs(edit, lines[edit.name]), shown)
-    wrong.update({edit.name: why for edit, why in zip(shown, said) if why})
-    groups = [group for same in (True, False) for group in together(
-        [edit for edit in edits if is_unshown(edit, lines) and edit.same == same])]
-    noted = bench.pool.map(bench.notices, groups)
-    alone = [edit for group, line in zip(groups, noted) if line for edit in group]
+    noted = [group for (group, _), line in zip(looks, seen) if line]
+    alone = [edit for group in groups if group in noted for edit in group]
     for edit, line in zip(alone, bench.pool.map(lambda edit: bench.notices([edit]), alone)):
         if line:
             wrong[edit.name] = f"nothing should notice it, and {' '.join(line).strip()} does"
+    wrong.update({edit.name: why for edit, why in zip(shown, said) if why})
     return wrong
 
 
@@ -239,36 +266,56 @@ def programs_for(edits: list[Edit], lines: dict[str, Line], anew: bool) -> list[
     return [name for name in TABLES if name in by] + [PROGRAM] * any(it in CHECKS for it in by)
 
 
-def judge(said: argparse.Namespace, room: str) -> tuple[int, dict[str, str]]:
-    """Looks at all that is chosen: how many edits there are, and what is wrong, by name."""
+def sums_of(edits: list[Edit], lines: dict[str, Line]) -> dict[str, str]:
+    """What the answer of each edit depends on, as a checksum, by name. Those that nothing may
+    notice are put on together, so they depend on each other too, and on all tables and checks."""
+    tables = {name: sum_of_runs(name, True) for name in TABLES}
+    checks = sum_of_runs(PROGRAM, False)
+    unshown = [edit for edit in edits if is_unshown(edit, lines)]
+    all_of = sum_of_texts([checks, *tables.values(), *(
+        sum_of_edit(edit, lines.get(edit.name, ("", ""))) for edit in unshown)])
+    return {edit.name: all_of if is_unshown(edit, lines) else sum_of_texts(
+        [tables.get(lines[edit.name][0], checks), sum_of_edit(edit, lines[edit.name])])
+        for edit in edits if edit.same or edit.name in lines}
+
+
+def judge(said: argparse.Namespace, bench: Bench) -> tuple[int, int, dict[str, str]]:
+    """Looks at all that is chosen: how many edits there are, how many of them passed before, and
+    what is wrong, by name."""
     faults: dict[str, str] = {}
     edits, lines = gather(said.names, faults), read_lines()
-    count = len(edits) + len(faults)
     number(edits)
-    lacks = any(not edit.same and edit.name not in lines for edit in edits)
-    bench = Bench(room, said.jobs)
-    names = programs_for(edits, lines, said.every or said.write and lacks)
-    edits = bench.compile(names, edits, faults)
-    right = bench.right_faults(said.every or said.write)
+    known = {edit.name: edit for edit in find_edits()}
+    kept, sums = Kept(f"{bench.room}/kept"), sums_of(edits, lines)
+    anew = said.every or said.write
+    due = [edit for edit in edits if anew or not kept.has(edit.name, sums.get(edit.name, ""))]
+    count, before = len(edits) + len(faults), len(edits) - len(due)
+    if due:
+        lacks = any(not edit.same and edit.name not in lines for edit in due)
+        names = programs_for(due, lines, said.every or said.write and lacks)
+        built = bench.compile(names, edits, faults)
+        due = [edit for edit in due if edit in built]
+    right = bench.right_faults(anew)
     if right:
-        return count, {**faults, **right}
-    wrong = {} if said.every else judge_by_lines(bench, edits, lines)
-    if said.every or said.write:
-        wrong = judge_anew(bench, [it for it in edits if said.every or it.name in wrong], lines)
-    known = {edit.name for edit in find_edits() if not edit.same}
+        return count, before, {**faults, **right}
+    wrong = {} if said.every else judge_by_lines(bench, due, lines)
+    if anew:
+        wrong = judge_anew(bench, [it for it in due if said.every or it.name in wrong], lines)
     if said.write:
-        write_lines({name: line for name, line in lines.items() if name in known})
-    elif not said.names:
-        wrong.update({name: "it has a line, and is no edit" for name in set(lines) - known})
-    return count, {**faults, **wrong}
+        write_lines({name: line for name, line in lines.items()
+                     if name in known and not known[name].same})
+    else:
+        kept.write({it.name: sums[it.name] for it in due if it.name not in wrong}, set(known))
+    if not said.names:
+        wrong.update({name: "it has a line, and is no edit" for name in set(lines) - set(known)})
+    return count, before, {**faults, **wrong}
 
 
-def tell_plants(said: argparse.Namespace, room: str) -> None:
+def tell_plants(said: argparse.Namespace, bench: Bench) -> None:
     """Lists the plants of some crates that no table notices, and counts all."""
     edits = [edit for crate in said.names for edit in find_plants(crate)]
     number(edits)
     refused: dict[str, str] = {}
-    bench = Bench(room, said.jobs)
     edits = bench.compile([*TABLES], edits, refused)
     if faults := bench.right_faults(False):
         raise SystemExit("\n".join(f"wrong_bodies: {it}: {why}" for it, why in faults.items()))
@@ -281,26 +328,38 @@ def tell_plants(said: argparse.Namespace, room: str) -> None:
           f"{len(refused)} that don't compile")
 
 
-def main() -> int:
-    """Status 0 where each body is noticed as its line says."""
+def lanes() -> int:
+    """How many programs are compiled or run side by side where no number is given."""
+    said = subprocess.run([f"{TOP}/tools/lanes.sh"], capture_output=True, text=True, check=True)
+    return int(said.stdout)
+
+
+def read_words() -> argparse.Namespace:
+    """The words of the command line."""
     words = argparse.ArgumentParser(
         description=__doc__, formatter_class=argparse.RawDescriptionHelpFormatter)
     words.add_argument("--write", action="store_true")
     words.add_argument("--every", action="store_true")
     words.add_argument("--plants", action="store_true")
     words.add_argument("--room")
-    words.add_argument("--jobs", type=int, default=os.cpu_count() or 1)
+    words.add_argument("--jobs", type=int, default=lanes())
     words.add_argument("names", nargs="*")
-    said = words.parse_args()
+    return words.parse_args()
+
+
+def main() -> int:
+    """Status 0 where each body is noticed as its line says."""
+    said = read_words()
     begun = time.monotonic()
     room = os.path.abspath(said.room) if said.room else tempfile.mkdtemp()
     os.makedirs(room, exist_ok=True)
     os.chmod(room, 0o755)
+    bench = Bench(room, said.jobs)
     try:
         if said.plants:
-            tell_plants(said, room)
+            tell_plants(said, bench)
             return 0
-        count, faults = judge(said, room)
+        count, before, faults = judge(said, bench)
     except OtherKit as fault:
         print(f"wrong_bodies: passed over: {fault}")
         print(f"wrong_bodies: 0 passed, 0 failed, {len(find_edits())} passed over")
@@ -310,8 +369,11 @@ def main() -> int:
             shutil.rmtree(room)
     for name, why in sorted(faults.items()):
         print(f"wrong_bodies: {name}: {why}")
-    print(f"wrong_bodies: {count} bodies, {time.monotonic() - begun:.0f} s, "
-          f"{sum(os.times()[:4]):.0f} s of a processor")
+    spent = sum(os.times()[:4])
+    checks = spent - sum(bench.used.values())
+    print(f"wrong_bodies: {count} bodies, {before} of them passed before with all as it is now; "
+          f"{time.monotonic() - begun:.0f} s, {spent:.0f} s of a processor: compiling "
+          f"{bench.used['compile']:.0f}, tables {bench.used['tables']:.0f}, checks {checks:.0f}")
     print(f"wrong_bodies: {count - len(faults)} passed, {len(faults)} failed")
     return 1 if faults or not count else 0
 

@@ -14,6 +14,7 @@ import re
 import subprocess
 
 from edits import TOP, Body, Edit, braces_in, lines_of
+from kept import crates_below
 from programs import OtherKit
 
 COPY = "_as_it_is"
@@ -31,19 +32,12 @@ def writer():
     return module
 
 
-def crates_below(crate: str) -> list[str]:
-    """The crates that a crate takes from, by crates.txt."""
-    lines = (line.split("#")[0].partition(":") for line in lines_of(f"{TOP}/crates.txt"))
-    below = {name.strip(): uses.split() for name, colon, uses in lines if colon}
-    return [name for name in below[crate] if name in below]
-
-
 def find_plants(crate: str) -> list[Edit]:
     """All of a crate's, each as an edit whose name has the function's line and what its body is."""
     kit = writer()
     source = kit.Source(f"{TOP}/crates/{crate}")
     source.read("src/lib.rt")
-    for name in crates_below(crate):
+    for name in crates_below()[crate]:
         source.add_library(name, f"{TOP}/crates/{name}")
     found = []
     for function in source.functions:
