@@ -24,6 +24,8 @@ import sys
 import tempfile
 import time
 
+import small_stacks  # (for what it sets)
+
 MAGIC = b"QUACQJ1\n"
 VARIABLES = 128
 VALUES = 8

@@ -29,10 +29,9 @@ from typing import NamedTuple
 
 TOP = os.path.join(os.path.dirname(os.path.abspath(__file__)), "..")
 sys.path.insert(0, os.path.join(TOP, "python"))
+import small_stacks  # (for what it sets)
 from acquire import Program, Vocabulary
 
-# As the scripts that start the program have it: of larger stacks the C library keeps fewer than a question's threads need.
-resource.setrlimit(resource.RLIMIT_STACK, (1 << 20, resource.getrlimit(resource.RLIMIT_STACK)[1]))
 PLANS = ["scopes", "quacq", "multi"]
 MOST_STEPS = 20_000
 
