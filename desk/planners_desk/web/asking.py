@@ -10,9 +10,8 @@ from collections.abc import Iterable
 
 from ..case.model import Constraint, Ending, Question, Values
 from ..case.picture import CHANGED, CLASH, LEFT_OUT
-from ..faces import views
-from ..faces.goback import may
 from ..hints import sentences
+from ..sitting.answers import given_text, may_go_back, yes_no
 from ..sitting.session import Session, Sitting
 from . import reporting, sheets
 from .judging import Judging
@@ -105,11 +104,11 @@ class Asking:
     def _advance(self) -> None:
         """On to the next question for the person."""
         self.sitting.advance()
-        self._note = " ".join(filter(None, [self._note, views.given_text(self.sitting.given)]))
+        self._note = " ".join(filter(None, [self._note, given_text(self.sitting.given)]))
 
     def _is_mine(self, place: int) -> bool:
         """Whether an answer can be gone back to."""
-        return 0 <= place < len(self.session.answers) and may(self.session, place)
+        return 0 <= place < len(self.session.answers) and may_go_back(self.session, place)
 
     def _back(self) -> None:
         """Takes the person's last answer back."""
@@ -118,14 +117,14 @@ class Asking:
             self._note = NONE
             return
         self._forget()
-        self._note = f"Your {views.yes_no(last.yes)} to question {last.question.number} is taken back; here it comes again."
+        self._note = f"Your {yes_no(last.yes)} to question {last.question.number} is taken back; here it comes again."
 
     def _back_to(self, place: int) -> None:
         """Takes back the answer at a place; what was said after it is used again where it decides."""
         answer = self.session.answers[place]
         self.sitting.back_to(place)
         self._forget()
-        self._note = BACK.format(said=views.yes_no(answer.yes), number=answer.question.number)
+        self._note = BACK.format(said=yes_no(answer.yes), number=answer.question.number)
 
     def _forget(self) -> None:
         """After a step back nothing is compared with what was before it."""

@@ -6,12 +6,12 @@ from collections.abc import Iterator, Sequence
 
 from ..case.model import Ending, Fault, Values
 from ..case.picture import CHOSEN, KEPT
-from ..faces import end, point, review, views
-from ..faces.goback import may
+from ..faces import end, point, review
 from ..hints import patterns, solver
 from ..hints.along import Things, and_list
 from ..hints.sentences import Sentence, grouped
 from ..sitting import missing
+from ..sitting.answers import behind, may_go_back, odd_ones
 from ..sitting.session import Session, said_by
 from . import reporting, sheets
 from .lines import given, latest, stopped
@@ -46,7 +46,7 @@ class Judging:
 
     def _chosen(self, step: Step) -> bool:
         """Whether a step goes back to an answer that can be gone back to."""
-        return step.do == "back to" and 0 <= step.place < len(self.session.answers) and may(self.session, step.place)
+        return step.do == "back to" and 0 <= step.place < len(self.session.answers) and may_go_back(self.session, step.place)
 
     # ---- answers that clash
 
@@ -93,7 +93,7 @@ class Judging:
         self.owner.busy("putting the rules into sentences")
         session = self.session
         found = grouped(session.vocabulary, ending.learned, session.reduced(), session.answers)
-        odd = views.odd_ones(session, ending.learned)
+        odd = odd_ones(session, ending.learned)
         while True:
             step = self.owner.put(self._rules(ending, found, odd))
             if self._chosen(step):
@@ -116,7 +116,7 @@ class Judging:
 
     def _rule(self, said: Sentence) -> Rule:
         """A sentence, and the answers behind it."""
-        places = views.behind(self.session, said.rules)
+        places = behind(self.session, said.rules)
         return Rule(said.text, False, said.whole.removeprefix(said.text).strip(), tuple(given(self.session, place) for place in places[:MOST_ANSWERS]))
 
     def _undecided(self, ending: Ending) -> Sheet:

@@ -4,8 +4,7 @@ from __future__ import annotations
 
 from collections.abc import Iterator
 
-from ..faces import views
-from ..faces.goback import may
+from ..sitting.answers import BY, may_go_back
 from ..sitting.session import Session
 from .sheets import Given, Stopped
 from .tables import sentence_of
@@ -19,8 +18,8 @@ def given(session: Session, place: int, most: int | None = MOST_VALUES) -> Given
     values = answer.question.values
     some = dict(sorted(values.items())[:most])
     more = f" and {len(values) - len(some)} more" if len(some) < len(values) else ""
-    why = f"{views.BY[answer.said.by]}: {answer.said.why}" if answer.said else ""
-    return Given(answer.question.number, answer.yes, sentence_of(session.case, some) + more, why, place if may(session, place) else None)
+    why = f"{BY[answer.said.by]}: {answer.said.why}" if answer.said else ""
+    return Given(answer.question.number, answer.yes, sentence_of(session.case, some) + more, why, place if may_go_back(session, place) else None)
 
 
 def latest(session: Session, most: int) -> Iterator[Given]:
