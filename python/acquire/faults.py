@@ -6,19 +6,23 @@ import signal
 
 
 class AcquireError(Exception):
-    """Anything that the client or its program refuses or can't do."""
+    """Whatever this package raises by itself, but for `ValueError`s about an argument."""
 
 
 class ProgramMissing(AcquireError):
-    """The program can't be found or started."""
+    """The program, or a SAT solver, can't be found or started."""
 
 
 class NotFinished(AcquireError):
-    """What is asked for is known once the session has ended, or while a question is open, and it isn't so."""
+    """A call came when the session doesn't take it: no question is open any more, or no answer stands that could be taken back."""
 
 
 class Refusal(AcquireError):
-    """The program refuses what it was given. `reason` is the program's own text behind what is refused; `docs/formats.md` has all of them."""
+    """The program refuses what it was given.
+
+    what: what is refused, as `vocabulary`, `journal`, `model`, `certificate`.
+    reason: why, in the program's own words; `docs/formats.md` lists them.
+    """
 
     def __init__(self, what: str, reason: str) -> None:
         super().__init__(f"refused {what} {reason}".rstrip())
@@ -27,15 +31,16 @@ class Refusal(AcquireError):
 
 
 class VocabularyRefused(Refusal):
-    """The vocabulary isn't one; `reason` names its first fault, as `unknown variable 0`."""
+    """The vocabulary isn't one; `reason` is its first fault, as `not json`, or `unknown variable 0` for the one in scope 0."""
 
 
 class JournalRefused(Refusal):
-    """The file is no journal, or not one for this; `reason` is as `no session`, `damaged 17`, or tells that it has another vocabulary or plan."""
+    """The file is no journal, or not one for this session; `reason` is as `no session`, `damaged 17` or `has another vocabulary`."""
 
 
 class SystemFault(AcquireError):
-    """The input, the output or the disk failed, or memory was wanting (status 8 to 11). What was acknowledged is kept in the journal."""
+    """Reading, writing or the journal's disk failed, or there wasn't enough memory (`status` 8 to 11). A journal keeps all answers to
+    which a line came."""
 
     TEXTS = {8: "the input can't be read", 9: "the output can't be written", 10: "the journal can't be opened, read or written",
              11: "there isn't enough memory"}
@@ -46,9 +51,12 @@ class SystemFault(AcquireError):
 
 
 class ProgramEnded(AcquireError):
-    """The program ended where it shouldn't have: a signal (`signal` is its name), or an end that isn't in its formats.
+    """The program ended where it shouldn't have.
 
-    With a journal nothing that was acknowledged is lost: a new `Session` over it goes on.
+    status: its exit status, below 0 where a signal ended it.
+    signal: the name of that signal, as `SIGKILL`, or None.
+
+    A journal keeps all answers to which a line came: a new `Session` over it goes on.
     """
 
     def __init__(self, status: int, said: str) -> None:

@@ -1,4 +1,4 @@
-"""The program `acquire` as a process: one call, or a run that asks line by line over pipes."""
+"""The program `acquire` as a process: a call with all its input, or a run that asks line by line over pipes."""
 
 from __future__ import annotations
 
@@ -19,7 +19,7 @@ _PATIENCE = 2.0  # seconds that a run has to end after its input has ended
 
 @dataclass(frozen=True)
 class Reply:
-    """What a call printed, and its exit status; negative where a signal ended it."""
+    """What a call printed (`text`), and its exit `status`, which is below 0 where a signal ended it."""
 
     status: int
     text: str
@@ -31,10 +31,13 @@ class Reply:
 
 
 class Program:
-    """The program at a path."""
+    """The program at a path (`path`), which is called once (`call`) or asked line by line (`run`)."""
 
     def __init__(self, path: str | os.PathLike[str], stack: int | None = _STACK_KB) -> None:
-        """stack: the soft limit of its stacks in KB, which a shell sets that then becomes the program; None leaves the caller's own."""
+        """Names the program; nothing is started yet.
+
+        stack: the soft limit of its threads' stacks in KB, which a shell sets that then becomes the program. None leaves the caller's.
+        """
         self.path = os.path.abspath(path)
         self._start = [self.path]
         if stack is not None:
@@ -42,7 +45,8 @@ class Program:
 
     @classmethod
     def found(cls, named: str | os.PathLike[str] | None = None) -> Program:
-        """The program that is named, else that of the environment's ACQUIRE, else the one of this repository where it is built, else that on PATH."""
+        """Looks for the program: the one that is named, else the one that the environment's ACQUIRE names, else the proved one of the
+        repository in which this file lies, else `acquire` on PATH. Raises `ProgramMissing` where there is none."""
         wanted = named or os.environ.get("ACQUIRE")
         if wanted:
             found = shutil.which(wanted)
@@ -56,7 +60,7 @@ class Program:
         return cls(found)
 
     def call(self, words: Sequence[str], given: bytes = b"") -> Reply:
-        """One call with all its input."""
+        """Calls it with these words and all its input, and waits for its end."""
         try:
             ran = subprocess.run([*self._start, *words], input=given, stdout=subprocess.PIPE, check=False)
         except OSError as error:
@@ -64,7 +68,7 @@ class Program:
         return Reply(ran.returncode, ran.stdout.decode(errors="replace"))
 
     def run(self, words: Sequence[str], keep_open: Sequence[int] = ()) -> Run:
-        """A command that asks. The program inherits the descriptors `keep_open`, a lock's for instance."""
+        """Starts a command that asks, as `try` or `run`. The program inherits the descriptors `keep_open`, a lock's for instance."""
         try:
             return Run(subprocess.Popen([*self._start, *words], stdin=subprocess.PIPE, stdout=subprocess.PIPE, process_group=0, pass_fds=keep_open))
         except OSError as error:

@@ -27,19 +27,21 @@ Oracle = Callable[[dict[str, int]], bool]
 
 @dataclass(frozen=True)
 class Question:
-    """A partial assignment that is asked about: whether it breaks a rule by itself."""
+    """A partial assignment that is asked about: do its values break no rule by themselves?
+
+    number: one more than the answers that stand.
+    shown: the value of each variable that has one, by name, in the order of the vocabulary.
+    is_complete: whether all variables have a value.
+    """
 
     number: int
-    """One more than the answers that stand."""
     shown: dict[str, int] = field(hash=False)
-    """The variables that have a value, in the order of the vocabulary."""
     is_complete: bool
-    """Whether all variables have one."""
 
 
 @dataclass(frozen=True)
 class Answer:
-    """A question and what was said to it."""
+    """A question and whether the answer was yes."""
 
     question: Question
     yes: bool
@@ -47,7 +49,11 @@ class Answer:
 
 @dataclass(frozen=True)
 class Converged:
-    """Nothing is left to ask: each network of the vocabulary that agrees with the answers has the solutions of `learned`."""
+    """Nothing is left to ask: each network of the vocabulary that agrees with the answers has the solutions of `learned`.
+
+    answers: how many answers stand.
+    learned: the constraints, in the order in which they were learned.
+    """
 
     answers: int
     learned: tuple[Constraint, ...]
@@ -55,14 +61,22 @@ class Converged:
 
 @dataclass(frozen=True)
 class Collapsed:
-    """No network of the vocabulary agrees with the answers: one was a slip, or the relations lack what the answers follow."""
+    """No network of the vocabulary agrees with the answers. One of them was a slip, or they follow a rule that no relation says.
+
+    answers: how many answers stand.
+    """
 
     answers: int
 
 
 @dataclass(frozen=True)
 class Undecided:
-    """The budget was too small to find a question or to tell that none is left; each of `open` may or may not follow."""
+    """Under this budget no question was found, and it isn't known whether there is one. A larger budget goes on from here.
+
+    answers: how many answers stand.
+    learned: the constraints, in the order in which they were learned.
+    open: the constraints for which the search was cut off; whether they follow from the learned ones isn't known.
+    """
 
     answers: int
     learned: tuple[Constraint, ...]
@@ -71,34 +85,46 @@ class Undecided:
 
 @dataclass(frozen=True)
 class Suspended:
-    """The run was stopped while a question was due. Over a journal the next `Session` goes on there."""
+    """The run was stopped while a question was open. Over a journal the next `Session` goes on there.
+
+    answers: how many answers stand.
+    """
 
     answers: int
 
 
 @dataclass(frozen=True)
 class Full:
-    """A question is due and the journal has its 1,000,000 records, which only take-backs can fill."""
+    """A question is due, but the journal has 1,000,000 records and takes no more. Only with many take-backs does one get there."""
 
 
 Ending = Converged | Collapsed | Undecided | Suspended | Full
 
 
 class Session:
-    """A session of the program, in memory or over a journal.
+    """A session with the program, in memory or over a journal.
 
-    It is used as a context manager, or closed by `close`. With a journal each acknowledged answer is on the disk before the next
-    question comes, and a session over a journal that is there goes on where its answers lead. Not for several threads at a time.
+    Either a question is open (`question`) or the session has ended (`ending`). `answer`, `back` and `stop` say what a person says;
+    `run` has a function answer until the end. Use it as a context manager, or call `close`: the program waits until then.
+
+    Over a journal each answer is on the disk before the next question comes, and a session that is begun over a journal with
+    answers goes on behind them. It isn't for several threads at a time.
     """
 
     def __init__(self, vocabulary: Vocabulary | Mapping[str, Any] | str | bytes | None = None, *, plan: str | None = None,
                  journal: str | os.PathLike[str] | None = None, budget: int | None = None,
                  program: Program | str | os.PathLike[str] | None = None) -> None:
-        """Begins or goes on; the first question is there behind it.
+        """Starts the program, and waits for the first question.
 
-        vocabulary: may be left out where the journal has a session; else it has to be the journal's, to the byte of its JSON's meaning.
-        plan: `quacq` (where none is given), `multi` or `scopes`; a journal keeps its own.
-        budget: how many steps the search for a question may take for one candidate, 1 to 1,000,000,000; the program's default is 100,000.
+        vocabulary: the object that `docs/formats.md` describes, its JSON text, or a `Vocabulary`. Where the journal has a session it
+            may be left out, and otherwise has to describe the same.
+        plan: how questions are chosen: `quacq`, which is the default, `multi` or `scopes`. A journal keeps the plan it was made with.
+        journal: the file that keeps the answers; it is made where there is none. Without one nothing is kept.
+        budget: how many steps the search for a question may take on each candidate, 1 to 1,000,000,000; else it is 100,000.
+        program: a `Program` or its path; else `Program.found` says where it is looked for.
+
+        Raises `ValueError` where plan or budget is none, `VocabularyRefused`, `JournalRefused` (also where the journal has another
+        vocabulary or plan), `ProgramMissing` and `SystemFault`.
         """
         if plan is not None and plan not in PLANS:
             raise ValueError(f"{plan!r} is no plan: {', '.join(PLANS)}")
@@ -137,7 +163,10 @@ class Session:
 
     @property
     def learned(self) -> tuple[Constraint, ...]:
-        """What the answers have taught so far, in the order of learning."""
+        """The constraints that the answers have taught so far, in the order of learning.
+
+        While a question is open the program is called once more to tell them.
+        """
         if isinstance(self._ending, Converged | Undecided):
             return self._ending.learned
         with self._over_journal() as journal:
@@ -148,16 +177,20 @@ class Session:
     # ---- what is said
 
     def answer(self, yes: bool) -> Question | None:
-        """Answers the open question, and gives the next one; None where the session has ended."""
+        """Answers the open question, and gives the next one, or None where the session has ended by that.
+
+        Raises `NotFinished` where no question is open, and `SystemFault` or `ProgramEnded` where the answer may be lost.
+        """
         question = self._due()
         self._say("yes" if yes else "no")
         self._answers.append(Answer(question, bool(yes)))
         return self._next()
 
     def back(self) -> Question | None:
-        """Takes the last answer back that stands, and gives the question that is due then.
+        """Takes back the last answer that stands, and gives the question that is due then.
 
-        A session that has ended takes none back: over a journal the program's own `back` does, and a new `Session` goes on.
+        Raises `NotFinished` where no answer stands, or where the session has ended. Over a journal the command `back` of the program
+        takes answers back after the end too, and a new `Session` goes on from there.
         """
         self._due()
         if not self._answers:
@@ -167,7 +200,7 @@ class Session:
         return self._next()
 
     def stop(self) -> Ending:
-        """Ends the run here, as `Suspended`."""
+        """Ends the run at the open question, as `Suspended`."""
         self._due()
         self._say("stop")
         self._next()
@@ -175,9 +208,10 @@ class Session:
         return self._ending
 
     def run(self, oracle: Oracle) -> Ending:
-        """Has a function answer until the session ends. It is given the values that are shown, and says whether they break no rule.
+        """Has a function answer until the session ends, and gives how it ended.
 
-        What the function raises comes out as it is. The question is open still, so the session can be gone on with, or closed.
+        oracle: is given the values that are shown, by name, and says whether they break no rule by themselves. What it raises comes
+            out as it is, and the question is still open then, so that the session can go on.
         """
         while self._question is not None:
             self.answer(oracle(dict(self._question.shown)))
@@ -187,20 +221,23 @@ class Session:
     # ---- what it hands on
 
     def reduced(self) -> tuple[Constraint, ...]:
-        """The learned constraints without those that follow from the others."""
+        """The learned constraints without those that follow from the others. Raises `Refusal` where telling takes more than the budget."""
         with self._over_journal() as journal:
             lines = self._called("reduce", journal, *self._budget).lines
         return tuple(map(self.vocabulary.constraint, lines[1:]))
 
     def clauses(self) -> str:
-        """The learned network in DIMACS, whose models are its solutions, one for each; `docs/formats.md` says how."""
+        """The learned network as clauses in DIMACS, with a model for each solution; lines `c NAME=VALUE NUMBER` name the Booleans."""
         with self._over_journal() as journal:
             return self._called("cnf", journal).text
 
     def model(self, solver: str | Sequence[str] | None = None) -> dict[str, int] | None:
-        """A solution of the learned network, found by a SAT solver and confirmed by the program; None where the solver says that there is none.
+        """A solution of the learned network, by the names of its variables. None where the solver says that there is none.
 
-        solver: the solver's words, to which a file of clauses is added; else the first of cadical, kissat, clasp, minisat that is there.
+        A SAT solver finds it, and the program confirms it: a wrong one is raised as a `Refusal`.
+
+        solver: the solver's name, or its words, behind which the name of a file of clauses is put; else the first of cadical, kissat,
+            clasp and minisat that is installed. Raises `ProgramMissing` where there is none.
         """
         with self._over_journal() as journal:
             said = solvers.model_text(self._called("cnf", journal).text, solver)
@@ -209,14 +246,14 @@ class Session:
             return _assignment(self._called("model", journal, given=said).text.split()[1:])
 
     def certificate(self) -> bytes:
-        """A certificate of a session that has converged, which `check` confirms without any search."""
+        """A certificate that the session has converged, which `check` confirms without any search. Raises `Refusal` where it hasn't."""
         with self._over_journal() as journal:
             return self._called("certify", journal, *self._budget).text.encode()
 
     # ---- its end
 
     def close(self) -> None:
-        """Ends the program, if it still waits. Nothing that was acknowledged is lost."""
+        """Ends the program, if it still waits for an answer. A journal keeps all answers that were given."""
         if self._run is not None:
             self._run.close()
             self._run, self._question = None, None
@@ -342,7 +379,7 @@ class Session:
 
 
 def check(certificate: bytes, program: Program | str | os.PathLike[str] | None = None) -> int:
-    """Has the program confirm a certificate, without any search; how many answers it has. A flaw is raised as a `Refusal`."""
+    """Has the program confirm a certificate without any search, and gives the number of its answers. Raises `Refusal` for a flaw."""
     reply = (program if isinstance(program, Program) else Program.found(program)).call([":memory:", "check"], certificate)
     if found := re.match(r"confirmed (\d+)\n", reply.text):
         return int(found[1])

@@ -57,7 +57,14 @@ def _test_of(relation: Mapping[str, Any]) -> Test:
 
 @dataclass(frozen=True)
 class Constraint:
-    """A learned constraint: all of these relations of the vocabulary hold of these variables, in this order."""
+    """A learned constraint: each of the named relations holds of the named variables, in this order.
+
+    relations: the names of one or more relations of the vocabulary.
+    variables: as many names as the relations have places.
+    tests: for each relation a function of a tuple of values, which `predicate` calls.
+
+    Constraints with the same `text` are equal.
+    """
 
     relations: tuple[str, ...]
     variables: tuple[str, ...]
@@ -65,15 +72,15 @@ class Constraint:
 
     @property
     def text(self) -> str:
-        """The constraint as the program prints it, as `ne&before art maths`."""
+        """The constraint as the program prints it, as `differ&before art maths`."""
         return " ".join(["&".join(self.relations), *self.variables])
 
     def predicate(self, *values: int) -> bool:
-        """Whether the variables may have these values, in their order. A plain function of numbers, as solvers take one."""
+        """Whether the variables may have these values, given in their order; a function of numbers, as solvers take one."""
         return all(test(values) for test in self.tests)
 
     def holds(self, assignment: Mapping[str, int]) -> bool | None:
-        """Whether an assignment meets it; None where it leaves a variable of the constraint open."""
+        """Whether an assignment meets the constraint; None where one of its variables has no value there."""
         if any(name not in assignment for name in self.variables):
             return None
         return self.predicate(*(assignment[name] for name in self.variables))
@@ -89,13 +96,13 @@ class Constraint:
 
 
 class Vocabulary:
-    """The variables, values, relations and scopes of a problem, by the object that `docs/formats.md` describes.
+    """The variables, values, relations and scopes of a problem.
 
-    Only the program judges whether it is one; what is read of it here is what an accepted one has.
+    Nothing is tested here: the program judges whether it is a vocabulary, when a session begins.
     """
 
     def __init__(self, given: Mapping[str, Any] | str | bytes) -> None:
-        """Takes the object itself, or its JSON text."""
+        """Takes the object that `docs/formats.md` describes, or its JSON text."""
         if isinstance(given, Mapping):
             self.bytes = json.dumps(given, separators=(",", ":")).encode()
         else:
@@ -103,13 +110,13 @@ class Vocabulary:
 
     @cached_property
     def data(self) -> dict[str, Any]:
-        """The object."""
+        """The vocabulary as an object of Python."""
         found: dict[str, Any] = json.loads(self.bytes)
         return found
 
     @property
     def line(self) -> bytes:
-        """The text on one line, as `try` takes it."""
+        """The JSON text on one line, as the command `try` takes it."""
         return self.bytes.replace(b"\r", b" ").replace(b"\n", b" ") + b"\n"
 
     @property
@@ -118,7 +125,7 @@ class Vocabulary:
         return tuple(self.data["variables"])
 
     def values(self, variable: str) -> range:
-        """The values that a variable takes: its range, or else the domain."""
+        """The values that a variable may have: its range where it has one, else the domain."""
         low, high = self.data["domain"]
         for name, least, most in self.data.get("ranges", []):
             if name == variable:
@@ -126,13 +133,13 @@ class Vocabulary:
         return range(low, high + 1)
 
     def constraint(self, text: str) -> Constraint:
-        """The constraint that the program prints so."""
+        """The constraint of a line of the program, as `differ&before art maths`. Raises `KeyError` where a relation isn't one of these."""
         names, *variables = text.split(" ")
         relations = tuple(names.split("&"))
         return Constraint(relations, tuple(variables), tuple(self._tests[name] for name in relations))
 
     def accepted(self, constraint: Constraint) -> Iterator[tuple[int, ...]]:
-        """The tuples of values that a constraint accepts, within the ranges of its variables; as a solver's table constraint takes them."""
+        """All tuples of values that a constraint accepts, within the ranges of its variables, as a table constraint takes them."""
         ranges = [self.values(name) for name in constraint.variables]
         return (values for values in itertools.product(*ranges) if constraint.predicate(*values))
 
