@@ -1,0 +1,136 @@
+#!/usr/bin/python3
+"""`desk web`, the page in the browser, beside the built program.
+
+usage: checks/web.py PROGRAM [PART ..]
+       checks/web.py PROGRAM planted [PART ..]      a measure left out at a time, which a test of a part has to notice
+
+Each part is a file in checks/web_parts. `refused` makes requests by hand; `sittings` answers, kills and goes on; `clicks` and `plays`
+drive a real browser; `pace` measures. What they need is installed by apt-get where that is possible: python3-flask, python3-waitress,
+chromium, chromium-driver and python3-selenium. That is said before, and NO_INSTALL=1 forbids it; what can't be had is passed over,
+and the last line says so.
+"""
+
+from __future__ import annotations
+
+import importlib
+import importlib.util
+import os
+import shutil
+import subprocess
+import sys
+import tempfile
+import time
+from concurrent.futures import ThreadPoolExecutor
+
+HERE = os.path.dirname(os.path.realpath(__file__))
+PARTS_FOLDER = os.path.join(HERE, "web_parts")
+DESK = os.path.join(os.path.dirname(HERE), "desk")
+PARTS = ("refused",)
+IN_A_BROWSER = ("clicks", "plays")
+# what has to be there: a module or a command, and the Debian package that has it
+MODULES = {"flask": "python3-flask", "waitress": "python3-waitress", "selenium": "python3-selenium"}
+COMMANDS = {"chromium": "chromium", "chromedriver": "chromium-driver"}
+PATIENCE = 1800         # seconds for a test
+SIDE_BY_SIDE = 3
+
+
+def missing() -> list[str]:
+    """The packages that aren't there."""
+    return [package for name, package in MODULES.items() if importlib.util.find_spec(name) is None] + \
+           [package for name, package in COMMANDS.items() if not shutil.which(name)]
+
+
+def install() -> None:
+    """Installs what is missing where that can be, and says so before."""
+    packages = missing()
+    if not packages:
+        return
+    if os.environ.get("NO_INSTALL") or os.geteuid() != 0 or not shutil.which("apt-get"):
+        print(f"web: not installed, and tests that want them are passed over: {' '.join(packages)}", flush=True)
+        return
+    print(f"web: installing by apt-get, which NO_INSTALL=1 would forbid: {' '.join(packages)}", flush=True)
+    for words in (["update"], *(["install", "-y", "--no-install-recommends", package] for package in packages)):
+        subprocess.run(["apt-get", *words], env={**os.environ, "DEBIAN_FRONTEND": "noninteractive"}, stdin=subprocess.DEVNULL,
+                       stdout=subprocess.DEVNULL, stderr=subprocess.DEVNULL, check=False)
+    importlib.invalidate_caches()
+
+
+def tested(part: str, test: str, program: str, folder: str = DESK) -> list[str]:
+    """Runs one test in a process of its own; its faults."""
+    code = (f"import sys; sys.path.insert(0, {PARTS_FOLDER!r}); import {part} as it\n"
+            f"faults = list(it.{test}({program!r}))\n"
+            "print(*('FAULT ' + str(fault).replace(chr(10), ' | ') for fault in faults), sep=chr(10))")
+    environment = {**os.environ, "DESK_FOLDER": folder, "PYTHONDONTWRITEBYTECODE": "1"}
+    environment.pop("DESK_ACQUIRE", None)
+    try:
+        ran = subprocess.run([sys.executable, "-c", code], env=environment, stdin=subprocess.DEVNULL, capture_output=True, text=True,
+                             timeout=PATIENCE, check=False)
+    except subprocess.TimeoutExpired:
+        return [f"{part}.{test}: it isn't done after {PATIENCE} s"]
+    for line in ran.stdout.splitlines():
+        if line and not line.startswith("FAULT "):
+            print(line, flush=True)
+    faults = [f"{part}.{test}: {line.removeprefix('FAULT ')}" for line in ran.stdout.splitlines() if line.startswith("FAULT ")]
+    if ran.returncode:
+        faults.append(f"{part}.{test} broke off: {ran.stderr.strip()[-600:]}")
+    return faults
+
+
+def planted(program: str, parts: list[str]) -> tuple[int, list[str]]:
+    """Leaves measures out in copies of desk, one each: how many, and those that no test notices."""
+    def one(bug: tuple[str, str, str, str, str]) -> str | None:
+        part, file, old, new, test = bug
+        with tempfile.TemporaryDirectory() as folder:
+            copy = os.path.join(folder, "desk")
+            shutil.copytree(DESK, copy, ignore=shutil.ignore_patterns("__pycache__", "tests"))
+            path = os.path.join(copy, "planners_desk", "web", file)
+            with open(path, encoding="utf-8") as source:
+                text = source.read()
+            if old not in text:
+                return f"{part} plants a bug in {file} where there is no such text any more: {old.strip()}"
+            with open(path, "w", encoding="utf-8") as source:
+                source.write(text.replace(old, new, 1))
+            faults = tested(part, test, program, copy)
+        return None if faults else f"{part}.{test} doesn't notice that in {file} `{old.strip()}` is `{new.strip()}`"
+    bugs = [(part, file, old, new, test.__name__) for part in parts for file, old, new, test in importlib.import_module(part).PLANTED]
+    with ThreadPoolExecutor(SIDE_BY_SIDE) as pool:
+        return len(bugs), [fault for fault in pool.map(one, bugs) if fault]
+
+
+def main() -> int:
+    """Status 0 where no test has a fault."""
+    if len(sys.argv) < 2 or not set(sys.argv[2:]) <= {*PARTS, "planted"}:
+        print(__doc__)
+        return 1
+    program, wanted = os.path.abspath(sys.argv[1]), sys.argv[2:]
+    began = time.monotonic()
+    install()
+    lacking = missing()
+    over = ""
+    parts = [name for name in PARTS if name in wanted] or list(PARTS)
+    if {"python3-flask", "python3-waitress"} & set(lacking):
+        parts, over = [], "; passed over: all tests, since no page can be served here"
+    elif lacking:
+        out = [name for name in parts if name in IN_A_BROWSER]
+        parts = [name for name in parts if name not in out]
+        over = f"; passed over, since no browser can be driven here: {', '.join(out)}" if out else ""
+    sys.path.insert(0, PARTS_FOLDER)
+    faults: list[str] = []
+    count = 0
+    if "planted" in wanted:
+        count, faults = planted(program, parts)
+        print(f"planted: {count} measures left out, one at a time, and {count - len(faults)} were noticed")
+    else:
+        tests = [(part, test.__name__) for part in parts for test in importlib.import_module(part).TESTS]
+        count = len(tests)
+        with ThreadPoolExecutor(SIDE_BY_SIDE) as pool:
+            for found in pool.map(lambda it: tested(it[0], it[1], program), tests):
+                faults += found
+    for fault in faults:
+        print(f"FAULT {fault}", file=sys.stderr)
+    print(f"web: {count} {'measures' if 'planted' in wanted else 'tests'}, {len(faults)} faults, in {time.monotonic() - began:.0f} s{over}")
+    return 1 if faults else 0
+
+
+if __name__ == "__main__":
+    sys.exit(main())
