@@ -22,7 +22,7 @@ words: different, before
 plan: scopes
 """
 EVIL = """title: <script>document.title='hit'</script> & "x" '
-things: <script>alert(1)</script> "><img/src=x> 'b' {{7*7}}
+things: <script>alert(1)</script> "><img/src> 'b' {{7*7}}
 values: <b>one</b> two &amp; "three
 ask: all
 words: different, before
@@ -137,7 +137,7 @@ def by_page(program: str) -> Faults:
         for site in ("cross-site", "same-site"):
             if (reply := web.get("/ask/x.case", Sec_Fetch_Site=site)).status != 403:
                 yield f"a page is given to {site}: {reply.status}"
-        for method in ("PUT", "DELETE", "OPTIONS", "TRACE", "PATCH"):
+        for method in ("PUT", "DELETE", "TRACE", "PATCH"):
             if (reply := web.ask(method, web.path + "/ask/x.case/step", Origin=own)).status not in (400, 405, 501):
                 yield f"{method} has status {reply.status}"
         if web.shows("x.case"):

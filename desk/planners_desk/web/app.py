@@ -20,7 +20,9 @@ from .folder import Folder
 from .security import Secrets, guard
 from .sittings import Sittings
 
-MOST_SENT = 4_000_000       # bytes of a form: a case has a million at most, and its letters may take three each
+MOST_SENT = (
+    4_000_000  # bytes of a form: a case has a million at most, and its letters may take three each
+)
 WHAT_TO_DO = {
     400: "Go back to the page before, and try again from there.",
     403: "Open the file that `desk web` named when it began, or begin it again: all answers are kept.",
@@ -59,18 +61,30 @@ def report(content: Html) -> Markup:
 def wrong(error: HTTPException) -> tuple[str, int]:
     """The page of a request that can't be served, with what to do."""
     status = error.code or 500
-    if error.response is not None:      # a redirect of the router's own
+    if error.response is not None:  # a redirect of the router's own
         return "", status
     own = type(error).description != error.description and status != 405
     said = error.description if own and error.description else f"{error.name}."
-    return render_template("wrong.html", status=status, said=said, todo=WHAT_TO_DO.get(status, WHAT_TO_DO[400])), status
+    return (
+        render_template(
+            "wrong.html", status=status, said=said, todo=WHAT_TO_DO.get(status, WHAT_TO_DO[400])
+        ),
+        status,
+    )
 
 
 def faulty(fault: Fault) -> tuple[str, int]:
     """The page of what the person has to mend."""
-    return render_template("wrong.html", status=409, said="\n".join(fault.texts), todo=WHAT_TO_DO[404]), 409
+    return (
+        render_template(
+            "wrong.html", status=409, said="\n".join(fault.texts), todo=WHAT_TO_DO[404]
+        ),
+        409,
+    )
 
 
 def broken(error: Exception) -> tuple[str, int]:
     """The page of an error of desk's own; nothing is traced to the terminal."""
-    return wrong(InternalServerError(f"desk can't go on with this page, by an error of its own: {error!r}"))
+    return wrong(
+        InternalServerError(f"desk can't go on with this page, by an error of its own: {error!r}")
+    )

@@ -38,7 +38,9 @@ class Entrance:
     def __enter__(self) -> Entrance:
         place = os.environ.get("XDG_RUNTIME_DIR")
         usable = place is not None and os.path.isdir(place) and os.access(place, os.W_OK)
-        self._folder = tempfile.TemporaryDirectory(prefix="desk-web-", dir=place if usable else None)     # of mode 700
+        self._folder = tempfile.TemporaryDirectory(
+            prefix="desk-web-", dir=place if usable else None
+        )  # of mode 700
         self._renew()
         return self
 
@@ -88,7 +90,12 @@ class Entrance:
             known = same(request.cookies.get(COOKIE, ""), self._known.key)
             if not known and not self.takes(request.args.get("token", "")):
                 raise Forbidden(USED)
-            response = make_response(render_template("enter.html", first=first or url_for("cases.index")))
-            response.set_cookie(COOKIE, self._known.key, path=self._known.path, httponly=True, samesite="Strict")
+            response = make_response(
+                render_template("enter.html", first=first or url_for("cases.index"))
+            )
+            response.set_cookie(
+                COOKIE, self._known.key, path=self._known.path, httponly=True, samesite="Strict"
+            )
             return response
+
         return made

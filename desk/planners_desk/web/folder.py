@@ -16,17 +16,23 @@ class Folder:
 
     def __init__(self, path: str) -> None:
         """Takes the path of a folder, or of a case in one; a fault where neither is there."""
-        self.first = ""         # the case that was named
+        self.first = ""  # the case that was named
         if os.path.isdir(path):
             self.path = os.path.realpath(path)
         elif os.path.isfile(path):
-            self.path, self.first = os.path.realpath(os.path.dirname(path) or "."), os.path.basename(path)
+            self.path, self.first = os.path.realpath(
+                os.path.dirname(path) or "."
+            ), os.path.basename(path)
         else:
             raise Fault(f"{path}: there is no such case and no such folder")
 
     def names(self) -> list[str]:
         """The names of its cases, in their order."""
-        found = {entry.name for entry in os.scandir(self.path) if entry.name.endswith(ENDING) and entry.is_file()}
+        found = {
+            entry.name
+            for entry in os.scandir(self.path)
+            if entry.name.endswith(ENDING) and entry.is_file()
+        }
         return sorted(found | ({self.first} if self.first else set()))
 
     def path_of(self, name: str) -> str:

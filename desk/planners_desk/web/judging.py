@@ -20,9 +20,11 @@ from .sittings import Ended, Owner, Step
 from .tables import table_of
 
 MOST_ANSWERS = 40
-LIFTED = ("It may also be that no answer was wrong: {words} {speak} of fewer things than are asked about together, and where whole plans are "
-          "asked about first, a right no to a part of one can then end so. Where one group is asked about at a time it can't: choose that way of "
-          "asking in the case, for a new session.")
+LIFTED = (
+    "It may also be that no answer was wrong: {words} {speak} of fewer things than are asked about together, and where whole plans are "
+    "asked about first, a right no to a part of one can then end so. Where one group is asked about at a time it can't: choose that way of "
+    "asking in the case, for a new session."
+)
 LOOKING = "looking for a word that would explain the answers"
 
 
@@ -31,7 +33,7 @@ class Judging:
 
     def __init__(self, session: Session, owner: Owner) -> None:
         self.session, self.owner = session, owner
-        self._unsayable: dict[str, None] = {}       # judgements that the words can't say, each once
+        self._unsayable: dict[str, None] = {}  # judgements that the words can't say, each once
         self._judged = False
 
     def end(self, ending: Ending) -> int | Sheet:
@@ -46,7 +48,11 @@ class Judging:
 
     def _chosen(self, step: Step) -> bool:
         """Whether a step goes back to an answer that can be gone back to."""
-        return step.do == "back to" and 0 <= step.place < len(self.session.answers) and may_go_back(self.session, step.place)
+        return (
+            step.do == "back to"
+            and 0 <= step.place < len(self.session.answers)
+            and may_go_back(self.session, step.place)
+        )
 
     # ---- answers that clash
 
@@ -69,12 +75,31 @@ class Judging:
     def _clashing(self, search: missing.Search) -> sheets.Clash:
         """The clash, the suspects, and the words that would explain it."""
         session, answers = self.session, self.session.answers
-        shown = [sheets.Shown(str(answers[place].question.number), table_of(session.case, answers[place].question.values))
-                 for place in end.smallest(session, session.possible.clash())[:end.MOST_CLASHES]]
-        lifted = [f"`{word}`" for word in session.vocabulary.lifted] if session.plan != "scopes" else []
-        said = LIFTED.format(words=and_list(lifted), speak="speaks" if len(lifted) == 1 else "speak") if lifted else ""
-        return sheets.Clash("Your answers clash", len(answers), tuple(shown), tuple(given(session, place) for place in session.possible.suspects()),
-                            said, self._lacking(search), search.words, tuple(latest(session, MOST_ANSWERS)))
+        shown = [
+            sheets.Shown(
+                str(answers[place].question.number),
+                table_of(session.case, answers[place].question.values),
+            )
+            for place in end.smallest(session, session.possible.clash())[: end.MOST_CLASHES]
+        ]
+        lifted = (
+            [f"`{word}`" for word in session.vocabulary.lifted] if session.plan != "scopes" else []
+        )
+        said = (
+            LIFTED.format(words=and_list(lifted), speak="speaks" if len(lifted) == 1 else "speak")
+            if lifted
+            else ""
+        )
+        return sheets.Clash(
+            "Your answers clash",
+            len(answers),
+            tuple(shown),
+            tuple(given(session, place) for place in session.possible.suspects()),
+            said,
+            self._lacking(search),
+            search.words,
+            tuple(latest(session, MOST_ANSWERS)),
+        )
 
     def _lacking(self, search: missing.Search) -> tuple[str, ...]:
         """What a search for a word says, but for the words, which the page shows."""
@@ -105,26 +130,48 @@ class Judging:
             if step.do == "plans" and (place := self._plans(found)) is not None:
                 return place
 
-    def _rules(self, ending: Ending, found: Sequence[Sentence], odd: Sequence[patterns.Odd]) -> sheets.Done:
+    def _rules(
+        self, ending: Ending, found: Sequence[Sentence], odd: Sequence[patterns.Odd]
+    ) -> sheets.Done:
         """The sheet of the rules."""
         session = self.session
         names = [thing.name for thing in session.case.things]
-        strange = tuple(Odd(one.text(names), tuple(given(session, place) for place in one.behind)) for one in odd)
+        strange = tuple(
+            Odd(one.text(names), tuple(given(session, place) for place in one.behind))
+            for one in odd
+        )
         count = ending.answers
-        return sheets.Done(f"Done after {count} answer{'s' if count != 1 else ''}", tuple(self._rule(said) for said in found), strange,
-                           solver.name() is not None, tuple(self._unsayable), self._judged, tuple(latest(session, MOST_ANSWERS)), count)
+        return sheets.Done(
+            f"Done after {count} answer{'s' if count != 1 else ''}",
+            tuple(self._rule(said) for said in found),
+            strange,
+            solver.name() is not None,
+            tuple(self._unsayable),
+            self._judged,
+            tuple(latest(session, MOST_ANSWERS)),
+            count,
+        )
 
     def _rule(self, said: Sentence) -> Rule:
         """A sentence, and the answers behind it."""
         places = behind(self.session, said.rules)
-        return Rule(said.text, False, said.whole.removeprefix(said.text).strip(), tuple(given(self.session, place) for place in places[:MOST_ANSWERS]))
+        return Rule(
+            said.text,
+            False,
+            said.whole.removeprefix(said.text).strip(),
+            tuple(given(self.session, place) for place in places[:MOST_ANSWERS]),
+        )
 
     def _undecided(self, ending: Ending) -> Sheet:
         """What was learned, and what isn't settled."""
         found = grouped(self.session.vocabulary, ending.learned)
         left = tuple(review.open_lines(ending.open, self.session))
         while True:
-            step = self.owner.put(sheets.Undecided("Some rules couldn't be settled", tuple(Rule(said.text) for said in found), left))
+            step = self.owner.put(
+                sheets.Undecided(
+                    "Some rules couldn't be settled", tuple(Rule(said.text) for said in found), left
+                )
+            )
             if step.do != "report":
                 return stopped(self.session)
             reporting.shown(self.session, ending, self.owner)
@@ -147,18 +194,30 @@ class Judging:
         """Plans that keep rules which nobody has seen kept, plans that the rules allow, and for each sentence one that breaks it alone."""
         session = self.session
         clock = reporting.clock(self.owner, review.SECONDS_FOR_PLANS)
-        plans = solver.far(session.program, session.vocabulary, session.journal, review.MOST_PLANS, clock)
+        plans = solver.far(
+            session.program, session.vocabulary, session.journal, review.MOST_PLANS, clock
+        )
         for said in found:
             if plans and said.unseen:
-                yield review.Shown(plans[0].values, True, said.text, {thing: KEPT for rule in said.unseen for thing in rule.things}, None)
+                yield review.Shown(
+                    plans[0].values,
+                    True,
+                    said.text,
+                    {thing: KEPT for rule in said.unseen for thing in rule.things},
+                    None,
+                )
         for number, plan in enumerate(plans, 1):
-            yield review.Shown(plan.values, True, f"Plan {number}" + review.apart_text(plan), {}, None)
+            yield review.Shown(
+                plan.values, True, f"Plan {number}" + review.apart_text(plan), {}, None
+            )
         for said in found:
             clock = reporting.clock(self.owner, review.SECONDS_FOR_ONE)
             clock.doing("looking for a plan that breaks one rule alone")
             broken = review.broken_alone(session, said, found, clock=clock)
             if broken is not None:
-                yield review.Shown(broken.values, False, broken.rule.text, broken.marks, broken.rule)
+                yield review.Shown(
+                    broken.values, False, broken.rule.text, broken.marks, broken.rule
+                )
 
     def _one(self, shown: review.Shown) -> tuple[bool, int | None]:
         """Has one plan judged: whether that was enough, and the place of an answer to go back to."""
@@ -179,11 +238,24 @@ class Judging:
         """How a plan is put to the person."""
         table = table_of(self.session.case, shown.values, shown.marks)
         if shown.allowed and shown.marks:
-            return sheets.Judge("No plan that you accepted has shown this rule yet", f"{shown.title}.", table, "Here it is kept, in the marked cells. Is that right?", True)
+            return sheets.Judge(
+                "No plan that you accepted has shown this rule yet",
+                f"{shown.title}.",
+                table,
+                "Here it is kept, in the marked cells. Is that right?",
+                True,
+            )
         if shown.allowed:
-            return sheets.Judge(f"{shown.title}. The rules allow it.", "", table, "Is this right?", True)
-        return sheets.Judge("The rules refuse this plan, for one reason alone", f"{shown.title}, which the marked cells break.", table,
-                            "Is it right that it is refused?", False)
+            return sheets.Judge(
+                f"{shown.title}. The rules allow it.", "", table, "Is this right?", True
+            )
+        return sheets.Judge(
+            "The rules refuse this plan, for one reason alone",
+            f"{shown.title}, which the marked cells break.",
+            table,
+            "Is it right that it is refused?",
+            False,
+        )
 
     def _otherwise(self, shown: review.Shown) -> tuple[str, int | None]:
         """What can be done about a plan that the person judges otherwise: what they do, and the place to go back to."""
@@ -194,14 +266,28 @@ class Judging:
         values = {thing: shown.values[thing] for thing in cells} if cells else shown.values
         if places := review.behind(session, shown, values):
             table = table_of(session.case, shown.values, {thing: CHOSEN for thing in cells})
-            step = self.owner.put(sheets.Behind("Which answer was a slip?", table, tuple(given(session, place) for place in places)))
+            step = self.owner.put(
+                sheets.Behind(
+                    "Which answer was a slip?",
+                    table,
+                    tuple(given(session, place) for place in places),
+                )
+            )
             if self._chosen(step):
                 return "back to", step.place
             if step.do != "o":
                 return step.do, None
-        if shown.rule is not None and (shown.rule.word.text, shown.rule.things) in session.beforehand:
+        if (
+            shown.rule is not None
+            and (shown.rule.word.text, shown.rule.things) in session.beforehand
+        ):
             said = "It stands in the case among what you know beforehand. If it isn't so, take it out there; your other answers are taken over."
-            return self.owner.put(sheets.Unsayable("You said this rule beforehand", (f"{shown.title}.", said))).do, None
+            return (
+                self.owner.put(
+                    sheets.Unsayable("You said this rule beforehand", (f"{shown.title}.", said))
+                ).do,
+                None,
+            )
         return self._missing(shown, values, cells), None
 
     def _cells(self, shown: review.Shown) -> tuple[str, Things]:
@@ -211,14 +297,26 @@ class Judging:
             return "o", ()
         if 0 < len(shown.marks) <= most:
             return "o", tuple(sorted(shown.marks))
-        step = self.owner.put(sheets.Point("Which cells don't go together?", table_of(self.session.case, shown.values), most))
+        step = self.owner.put(
+            sheets.Point(
+                "Which cells don't go together?", table_of(self.session.case, shown.values), most
+            )
+        )
         return step.do, tuple(sorted(set(step.things) & set(shown.values)))[:most]
 
     def _missing(self, shown: review.Shown, values: Values, cells: Things) -> str:
         """Looks for a word that can say what is wrong; what the person does."""
         self.owner.busy(LOOKING)
         search = missing.lacking(self.session, values, not shown.allowed)
-        do = self.owner.put(sheets.Unsayable("Your words can't say this", (*self._lacking(search), review.STAYS), search.words)).do
+        do = self.owner.put(
+            sheets.Unsayable(
+                "Your words can't say this", (*self._lacking(search), review.STAYS), search.words
+            )
+        ).do
         if do != "b":
-            self._unsayable[f"{point.named(self.session, values)} (allowed, and wrong)" if cells else shown.title] = None
+            self._unsayable[
+                f"{point.named(self.session, values)} (allowed, and wrong)"
+                if cells
+                else shown.title
+            ] = None
         return do

@@ -9,7 +9,7 @@ from ..sitting.session import Session
 from .sheets import Given, Stopped
 from .tables import sentence_of
 
-MOST_VALUES = 6             # of an answer in a line
+MOST_VALUES = 6  # of an answer in a line
 
 
 def given(session: Session, place: int, most: int | None = MOST_VALUES) -> Given:
@@ -19,7 +19,13 @@ def given(session: Session, place: int, most: int | None = MOST_VALUES) -> Given
     some = dict(sorted(values.items())[:most])
     more = f" and {len(values) - len(some)} more" if len(some) < len(values) else ""
     why = f"{BY[answer.said.by]}: {answer.said.why}" if answer.said else ""
-    return Given(answer.question.number, answer.yes, sentence_of(session.case, some) + more, why, place if may_go_back(session, place) else None)
+    return Given(
+        answer.question.number,
+        answer.yes,
+        sentence_of(session.case, some) + more,
+        why,
+        place if may_go_back(session, place) else None,
+    )
 
 
 def latest(session: Session, most: int) -> Iterator[Given]:

@@ -2,7 +2,16 @@
 
 from __future__ import annotations
 
-from flask import Blueprint, Response, current_app, jsonify, redirect, render_template, request, url_for
+from flask import (
+    Blueprint,
+    Response,
+    current_app,
+    jsonify,
+    redirect,
+    render_template,
+    request,
+    url_for,
+)
 from werkzeug.exceptions import BadRequest, NotFound
 from werkzeug.wrappers import Response as Answer
 
@@ -11,7 +20,7 @@ from .folder import Folder
 from .sittings import Owner, Sittings, State, Step
 
 DOES = frozenset(("y", "n", "b", "q", "o", "back to", "plans", "report", "end"))
-DIGITS = 9              # of a number in a form
+DIGITS = 9  # of a number in a form
 LATE = "That came too late: another answer stood already, perhaps from another tab. Nothing was changed by it."
 
 blueprint = Blueprint("sitting", __name__, url_prefix="/ask/<name>")
@@ -49,8 +58,21 @@ def show(name: str) -> str:
 
 def shown(name: str, state: State) -> str:
     """The page of a state."""
-    sheet = state.sheet if state.waits or state.over else state.sheet if isinstance(state.sheet, sheets.Busy) else sheets.Busy("One moment", "looking for the next question")
-    return render_template(sheet.template, name=name, sheet=sheet, number=state.number, over=state.over, late=LATE if "late" in request.args else "")
+    sheet = (
+        state.sheet
+        if state.waits or state.over
+        else state.sheet
+        if isinstance(state.sheet, sheets.Busy)
+        else sheets.Busy("One moment", "looking for the next question")
+    )
+    return render_template(
+        sheet.template,
+        name=name,
+        sheet=sheet,
+        number=state.number,
+        over=state.over,
+        late=LATE if "late" in request.args else "",
+    )
 
 
 @blueprint.post("/begin")
@@ -68,7 +90,11 @@ def step(name: str) -> Answer:
     do = form.get("do", "")
     if do not in DOES:
         raise BadRequest("This form says nothing that desk knows. Nothing was changed.")
-    made = Step(do, number(form["place"]) if "place" in form else -1, tuple(number(text) for text in form.getlist("thing")))
+    made = Step(
+        do,
+        number(form["place"]) if "place" in form else -1,
+        tuple(number(text) for text in form.getlist("thing")),
+    )
     taken = owner.take(number(form.get("sheet", "")), made)
     return redirect(url_for("sitting.show", name=name, late=None if taken else "1"), 303)
 
@@ -77,7 +103,9 @@ def owner_of(name: str) -> Owner:
     """The sitting of a case; an error with a page where there is none."""
     owner = sittings().of(folder().path_of(name))
     if owner is None:
-        raise NotFound("No questions of this case are put now. Go to the case, and on with its questions.")
+        raise NotFound(
+            "No questions of this case are put now. Go to the case, and on with its questions."
+        )
     return owner
 
 
@@ -89,13 +117,20 @@ def state(name: str) -> Response:
         return jsonify(number=-1)
     now = owner.state()
     busy = now.sheet if isinstance(now.sheet, sheets.Busy) else None
-    return jsonify(number=now.number, waits=now.waits or now.over, text=busy.text if busy else "", share=busy.share if busy else None)
+    return jsonify(
+        number=now.number,
+        waits=now.waits or now.over,
+        text=busy.text if busy else "",
+        share=busy.share if busy else None,
+    )
 
 
 @blueprint.get("/report.html")
 def saved(name: str) -> Response:
     """The report as a file."""
-    return attached(report_of(name).page, "text/html; charset=utf-8", f"{name.removesuffix('.case')}.html")
+    return attached(
+        report_of(name).page, "text/html; charset=utf-8", f"{name.removesuffix('.case')}.html"
+    )
 
 
 @blueprint.get("/report.certificate")
@@ -104,7 +139,9 @@ def certificate(name: str) -> Response:
     content = report_of(name).certificate
     if content is None:
         raise NotFound("There is no certificate of this session.")
-    return attached(content, "application/octet-stream", f"{name.removesuffix('.case')}.certificate")
+    return attached(
+        content, "application/octet-stream", f"{name.removesuffix('.case')}.certificate"
+    )
 
 
 def report_of(name: str) -> sheets.Report:

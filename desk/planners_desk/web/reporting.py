@@ -28,4 +28,12 @@ def shown(session: Session, ending: Ending, owner: Owner) -> None:
     except Ended:
         return
     whole = page.whole(session.case.title, content).encode()
-    owner.put(sheets.Report(session.case.title, content, whole, certificate.content if certificate else None, ending.word == "suspended"))
+    owner.put(
+        sheets.Report(
+            session.case.title,
+            content,
+            whole,
+            certificate.content if certificate else None,
+            ending.word == "suspended",
+        )
+    )

@@ -19,14 +19,21 @@ if TYPE_CHECKING:
     from _typeshed.wsgi import StartResponse, WSGIApplication, WSGIEnvironment
 
 COOKIE = "desk"
-ENTER = "entrance.enter"        # the one page that needs no cookie
-OUTSIDE = "desk.outside"        # in a request's environment: its path isn't below the server's own
-POLICY = ("default-src 'none'; script-src 'self'; style-src 'self'; img-src 'self'; connect-src 'self'; "
-          "form-action 'self'; base-uri 'none'; frame-ancestors 'none'")
-HEADERS = {"Content-Security-Policy": POLICY, "X-Content-Type-Options": "nosniff", "X-Frame-Options": "DENY",
-           "Referrer-Policy": "same-origin",    # with no-referrer browsers send `Origin: null` for our own forms
-           "Cross-Origin-Opener-Policy": "same-origin", "Cross-Origin-Resource-Policy": "same-origin",
-           "Cache-Control": "no-store"}
+ENTER = "entrance.enter"  # the one page that needs no cookie
+OUTSIDE = "desk.outside"  # in a request's environment: its path isn't below the server's own
+POLICY = (
+    "default-src 'none'; script-src 'self'; style-src 'self'; img-src 'self'; connect-src 'self'; "
+    "form-action 'self'; base-uri 'none'; frame-ancestors 'none'"
+)
+HEADERS = {
+    "Content-Security-Policy": POLICY,
+    "X-Content-Type-Options": "nosniff",
+    "X-Frame-Options": "DENY",
+    "Referrer-Policy": "same-origin",  # with no-referrer browsers send `Origin: null` for our own forms
+    "Cross-Origin-Opener-Policy": "same-origin",
+    "Cross-Origin-Resource-Policy": "same-origin",
+    "Cache-Control": "no-store",
+}
 
 
 class Misdirected(HTTPException):
@@ -40,7 +47,7 @@ class Misdirected(HTTPException):
 class Secrets:
     """What only who may come in knows: the path of this server, and what a known browser sends."""
 
-    host: str = ""              # and port, as browsers name it; set once the port is known
+    host: str = ""  # and port, as browsers name it; set once the port is known
     path: str = field(default_factory=lambda: "/" + secrets.token_urlsafe(16))
     key: str = field(default_factory=lambda: secrets.token_urlsafe(32))
 
@@ -63,7 +70,10 @@ class Below:
 
     def __call__(self, environ: WSGIEnvironment, start: StartResponse) -> Iterable[bytes]:
         """One request."""
-        head, rest = environ["PATH_INFO"][:len(self._path)], environ["PATH_INFO"][len(self._path):]
+        head, rest = (
+            environ["PATH_INFO"][: len(self._path)],
+            environ["PATH_INFO"][len(self._path) :],
+        )
         environ[OUTSIDE] = not (same(head, self._path) and rest.startswith("/"))
         if not environ[OUTSIDE]:
             environ["SCRIPT_NAME"], environ["PATH_INFO"] = self._path, rest

@@ -17,7 +17,7 @@ from ..case.model import Fault
 from ..program.talk import Program
 
 LIBRARIES = ("flask", "waitress")
-ANOTHER = "DESK_WEB_PYTHON"     # set where this Python was taken since another one lacks the libraries
+ANOTHER = "DESK_WEB_PYTHON"  # set where this Python was taken since another one lacks the libraries
 
 
 def main(options: argparse.Namespace) -> int:
@@ -25,6 +25,7 @@ def main(options: argparse.Namespace) -> int:
     libraries()
     # what follows needs them
     from .server import serve
+
     program = Program.found(options.acquire)
     with ended_by_signals():
         serve(options.place, options.port, not options.no_browser, program, options.budget)
@@ -39,20 +40,29 @@ def libraries() -> None:
     for python in dict.fromkeys(filter(None, ("/usr/bin/python3", shutil.which("python3")))):
         if os.environ.get(ANOTHER) or os.path.realpath(python) == os.path.realpath(sys.executable):
             continue
-        if subprocess.run([python, "-c", f"import {', '.join(LIBRARIES)}"], capture_output=True, check=False).returncode == 0:
+        if (
+            subprocess.run(
+                [python, "-c", f"import {', '.join(LIBRARIES)}"], capture_output=True, check=False
+            ).returncode
+            == 0
+        ):
             os.environ[ANOTHER] = python
             sys.stdout.flush()
             package = os.path.dirname(os.path.dirname(os.path.realpath(__file__)))
             start = f"import sys; sys.path.insert(0, {os.path.dirname(package)!r}); from planners_desk.__main__ import main; sys.exit(main())"
             os.execv(python, [python, "-c", start, *sys.argv[1:]])
-    raise Fault("the libraries that serve pages aren't installed: `apt-get install python3-flask python3-waitress`")
+    raise Fault(
+        "the libraries that serve pages aren't installed: `apt-get install python3-flask python3-waitress`"
+    )
 
 
 @contextlib.contextmanager
 def ended_by_signals() -> Iterator[None]:
     """A signal that ends the server lets it put all sessions down."""
+
     def ended(number: int, _: FrameType | None) -> None:
         raise SystemExit(128 + number)
+
     before = {number: signal.signal(number, ended) for number in (signal.SIGTERM, signal.SIGHUP)}
     try:
         yield

@@ -21,7 +21,7 @@ from .sheets import Sheet
 from .sittings import Owner, Sittings
 
 LOOPBACK = "127.0.0.1"
-THREADS = 8             # that serve requests
+THREADS = 8  # that serve requests
 LIBRARIES = ("waitress", "waitress.queue", "werkzeug", "flask.app", "planners_desk.web.app")
 
 
@@ -38,15 +38,27 @@ def serve(place: str, port: int, browser: bool, program: Program, budget: int | 
     entrance = Entrance(known)
     app = application(known, folder, sittings, entrance)
     try:
-        server = create_server(Below(app, known.path), host=LOOPBACK, port=port, threads=THREADS, ident=None, clear_untrusted_proxy_headers=True)
+        server = create_server(
+            Below(app, known.path),
+            host=LOOPBACK,
+            port=port,
+            threads=THREADS,
+            ident=None,
+            clear_untrusted_proxy_headers=True,
+        )
     except OSError as error:
-        raise Fault(f"port {port} of {LOOPBACK}: {error.strerror}; take another one, or leave --port out") from None
+        raise Fault(
+            f"port {port} of {LOOPBACK}: {error.strerror}; take another one, or leave --port out"
+        ) from None
     known.host = f"{LOOPBACK}:{server.effective_port}"
     with entrance:
-        print(f"desk: the cases of {folder.path} are shown on a page, and nobody else on this machine can see it.\n"
-              f"desk: this file leads there: {entrance.file}\n"
-              f"desk: and so does this address, once: {entrance.address}\n"
-              "desk: Ctrl-C ends it; all answers are kept", flush=True)
+        print(
+            f"desk: the cases of {folder.path} are shown on a page, and nobody else on this machine can see it.\n"
+            f"desk: this file leads there: {entrance.file}\n"
+            f"desk: and so does this address, once: {entrance.address}\n"
+            "desk: Ctrl-C ends it; all answers are kept",
+            flush=True,
+        )
         if browser:
             opened(entrance.file)
         try:
@@ -59,12 +71,19 @@ def serve(place: str, port: int, browser: bool, program: Program, budget: int | 
 
 def opened(file: str) -> None:
     """Opens a browser, where there is a screen. What it prints isn't ours, and the token is in the file, not among its words."""
-    if sys.platform.startswith("linux") and not (os.environ.get("DISPLAY") or os.environ.get("WAYLAND_DISPLAY") or os.environ.get("BROWSER")):
+    if sys.platform.startswith("linux") and not (
+        os.environ.get("DISPLAY") or os.environ.get("WAYLAND_DISPLAY") or os.environ.get("BROWSER")
+    ):
         print("desk: no screen is known here, so no browser was opened", flush=True)
         return
     code = "import sys, webbrowser; webbrowser.open(sys.argv[1])"
-    subprocess.Popen([sys.executable, "-c", code, f"file://{file}"], stdin=subprocess.DEVNULL, stdout=subprocess.DEVNULL,
-                     stderr=subprocess.DEVNULL, start_new_session=True)
+    subprocess.Popen(
+        [sys.executable, "-c", code, f"file://{file}"],
+        stdin=subprocess.DEVNULL,
+        stdout=subprocess.DEVNULL,
+        stderr=subprocess.DEVNULL,
+        start_new_session=True,
+    )
 
 
 def quiet() -> None:

@@ -5,6 +5,7 @@ from __future__ import annotations
 from dataclasses import dataclass
 
 from ..report.markup import Html
+from ..sitting.answers import Few
 from .tables import Table
 
 
@@ -12,11 +13,11 @@ from .tables import Table
 class Given:
     """An answer that stands, in a line."""
 
-    number: int             # of its question
+    number: int  # of its question
     yes: bool
-    shown: str              # what was asked about
-    why: str                # where it was given for the person
-    place: int | None       # to go back to; None where the case itself gives it
+    shown: str  # what was asked about
+    why: str  # where it was given for the person
+    place: int | None  # to go back to; None where the case itself gives it
 
 
 @dataclass(frozen=True)
@@ -24,8 +25,8 @@ class Rule:
     """A rule in a sentence, or several at once."""
 
     text: str
-    fresh: bool = False     # whether the last answers have taught it
-    mark: str = ""          # that it follows from others, or that nobody has seen it kept
+    fresh: bool = False  # whether the last answers have taught it
+    mark: str = ""  # that it follows from others, or that nobody has seen it kept
     behind: tuple[Given, ...] = ()
 
 
@@ -51,8 +52,8 @@ class Busy(Sheet):
     """Something takes a while."""
 
     text: str = ""
-    share: float | None = None      # how much of the time is over, from 0 to 1
-    may_end: bool = False           # whether the person may do without
+    share: float | None = None  # how much of the time is over, from 0 to 1
+    may_end: bool = False  # whether the person may do without
 
 
 @dataclass(frozen=True)
@@ -62,18 +63,18 @@ class Question(Sheet):
     number: int
     table: Table
     sentence: str
-    part: bool                      # whether some things have no value
-    changed: bool                   # whether something is marked as changed
-    left_out: int                   # how many of the last question's things have no value now
+    part: bool  # whether some things have no value
+    changed: bool  # whether something is marked as changed
+    left_out: int  # how many of the last question's things have no value now
     notes: tuple[str, ...]
-    taught: tuple[str, ...]
-    why: tuple[str, ...]
+    taught: Few
+    why: Few
     rules: tuple[Rule, ...]
-    answers: tuple[Given, ...]      # the latest first, as many as a page shows
-    count: int                      # of all answers
-    finished: int                   # groups
+    answers: tuple[Given, ...]  # the latest first, as many as a page shows
+    count: int  # of all answers
+    finished: int  # groups
     groups: int
-    most: int                       # more questions
+    most: int  # more questions
 
     @property
     def keys(self) -> tuple[str, ...]:
@@ -94,8 +95,8 @@ class Against(Sheet):
     """A line of the case contradicts an answer."""
 
     shown: Shown
-    more: int                       # answers that are contradicted as well
-    place: int                      # of the answer
+    more: int  # answers that are contradicted as well
+    place: int  # of the answer
 
 
 @dataclass(frozen=True)
@@ -105,9 +106,9 @@ class Clash(Sheet):
     count: int
     clashes: tuple[Shown, ...]
     suspects: tuple[Given, ...]
-    lifted: str                     # that it may be no slip at all
-    lacking: tuple[str, ...]        # which words would explain it
-    words: tuple[str, ...]          # these, to be put into the case
+    lifted: str  # that it may be no slip at all
+    lacking: tuple[str, ...]  # which words would explain it
+    words: tuple[str, ...]  # these, to be put into the case
     answers: tuple[Given, ...]
 
 
@@ -125,9 +126,9 @@ class Done(Sheet):
 
     rules: tuple[Rule, ...]
     odd: tuple[Odd, ...]
-    solver: bool                    # whether plans can be looked for
-    unsayable: tuple[str, ...]      # what the person said of plans, and the words can't
-    judged: bool                    # whether the plans were looked at
+    solver: bool  # whether plans can be looked for
+    unsayable: tuple[str, ...]  # what the person said of plans, and the words can't
+    judged: bool  # whether the plans were looked at
     answers: tuple[Given, ...]
     count: int
 
@@ -152,7 +153,7 @@ class Point(Sheet):
     """The cells of a wrong plan, to be pointed at."""
 
     table: Table
-    most: int                       # cells
+    most: int  # cells
 
 
 @dataclass(frozen=True)
@@ -184,9 +185,9 @@ class Report(Sheet):
     """The page that another person gets."""
 
     content: Html
-    page: bytes                     # the same as a file
+    page: bytes  # the same as a file
     certificate: bytes | None
-    unfinished: bool                # whether questions are left
+    unfinished: bool  # whether questions are left
 
 
 @dataclass(frozen=True)

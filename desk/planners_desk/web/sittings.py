@@ -15,9 +15,11 @@ from dataclasses import dataclass, field
 from ..case.model import Fault
 from .sheets import Busy, Sheet, Stopped
 
-PATIENCE = 0.4          # seconds that a request waits for the next sheet before a page says that it takes a while
-ENDING = 5.0            # seconds that a sitting has to end
-NUMBERS = 1 << 30       # sheets are numbered from a drawn one on, so that no form of an earlier run fits
+PATIENCE = (
+    0.4  # seconds that a request waits for the next sheet before a page says that it takes a while
+)
+ENDING = 5.0  # seconds that a sitting has to end
+NUMBERS = 1 << 30  # sheets are numbered from a drawn one on, so that no form of an earlier run fits
 
 
 class Closed(BaseException):
@@ -33,8 +35,8 @@ class Step:
     """What the person does."""
 
     do: str
-    place: int = -1                     # of an answer
-    things: tuple[int, ...] = ()        # that were pointed at
+    place: int = -1  # of an answer
+    things: tuple[int, ...] = ()  # that were pointed at
 
 
 @dataclass(frozen=True)
@@ -43,23 +45,23 @@ class State:
 
     number: int
     sheet: Sheet
-    waits: bool             # whether a step of the person is waited for
-    over: bool              # whether the sitting has ended
+    waits: bool  # whether a step of the person is waited for
+    over: bool  # whether the sitting has ended
 
 
 @dataclass
 class Owner:
     """One sitting, and the thread that owns it."""
 
-    work: Callable[[Owner], Sheet]      # what the thread does; the last sheet
+    work: Callable[[Owner], Sheet]  # what the thread does; the last sheet
     path: str = ""
     _condition: threading.Condition = field(default_factory=threading.Condition)
     _sheet: Sheet = Busy("One moment", "opening the session")
     _number: int = field(default_factory=lambda: secrets.randbelow(NUMBERS))
-    _waits: bool = False                # for a step
+    _waits: bool = False  # for a step
     _step: Step | None = None
     _closing: bool = False
-    _ending: bool = False               # the person does without what is being looked for
+    _ending: bool = False  # the person does without what is being looked for
     _over: bool = False
 
     def start(self) -> Owner:
@@ -79,8 +81,14 @@ class Owner:
             pass
         except Fault as fault:
             last = Stopped("desk can't go on", fault.texts, True)
-        except Exception as error:      # pylint: disable=broad-exception-caught # told on the page, never in the terminal
-            last = Stopped("desk can't go on", (f"An error of its own: {error!r}. All answers are kept.",), True)
+        except (
+            Exception
+        ) as error:  # pylint: disable=broad-exception-caught # told on the page, never in the terminal
+            last = Stopped(
+                "desk can't go on",
+                (f"An error of its own: {error!r}. All answers are kept.",),
+                True,
+            )
         finally:
             with self._condition:
                 self._show(last)

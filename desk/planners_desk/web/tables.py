@@ -11,8 +11,13 @@ from ..case.model import Case, Values
 from ..case.picture import ASKED, CHANGED, CHOSEN, CLASH, KEPT, LEFT_OUT, shape
 
 # what is said of a mark to those who don't see it
-MARKS = {CHANGED: "changed", CLASH: "breaks the rule", KEPT: "keeps the rule", CHOSEN: "chosen",
-         LEFT_OUT: "left out now"}
+MARKS = {
+    CHANGED: "changed",
+    CLASH: "breaks the rule",
+    KEPT: "keeps the rule",
+    CHOSEN: "chosen",
+    LEFT_OUT: "left out now",
+}
 
 
 @dataclass(frozen=True)
@@ -20,7 +25,7 @@ class Entry:
     """What stands on a line of a cell."""
 
     text: str
-    kind: str               # its mark, `asked` where it is part of a question, else ""
+    kind: str  # its mark, `asked` where it is part of a question, else ""
     thing: int
 
     @property
@@ -53,7 +58,7 @@ class Row:
 class Table:
     """A table with heads at the top and at the left."""
 
-    corner: str             # what the heads at the left and at the top are
+    corner: str  # what the heads at the left and at the top are
     heads: tuple[str, ...]
     rows: tuple[Row, ...]
 
@@ -69,7 +74,9 @@ def table_of(case: Case, values: Values, marks: Mapping[int, str] | None = None)
     rows = []
     for down in itertools.product(*(range(len(part.members)) for part in parts[1:])):
         head = " ".join(part.members[at] for part, at in zip(parts[1:], down))
-        rows.append(Row(head, tuple(cells[(across, *down)] for across in range(len(parts[0].members)))))
+        rows.append(
+            Row(head, tuple(cells[(across, *down)] for across in range(len(parts[0].members))))
+        )
     corner = f"{' '.join(part.name for part in parts[1:])} \\ {parts[0].name}"
     return Table(corner, parts[0].members, tuple(rows))
 
@@ -83,7 +90,9 @@ def by_value(case: Case) -> bool:
 
 def sentence_of(case: Case, values: Values) -> str:
     """A plan, or a part of one, in a line: `Mon early Ann, Mon late Ben`."""
-    return ", ".join(f"{case.things[thing].name} {case.label(values[thing])}" for thing in sorted(values))
+    return ", ".join(
+        f"{case.things[thing].name} {case.label(values[thing])}" for thing in sorted(values)
+    )
 
 
 class _Made:
@@ -115,15 +124,24 @@ class _Made:
 
     def values(self) -> dict[tuple[int, ...], Cell]:
         """A grid of values: each cell has the things with this value."""
-        return {self.case.value_at(value): Cell(tuple(self._having(value))) for value in range(len(self.case.values))}
+        return {
+            self.case.value_at(value): Cell(tuple(self._having(value)))
+            for value in range(len(self.case.values))
+        }
 
     def by_value(self) -> Table:
         """A list by its values, so that what is together stands together."""
-        rows = [Row(label, (Cell(tuple(self._having(value))),)) for value, label in enumerate(self.case.values)]
+        rows = [
+            Row(label, (Cell(tuple(self._having(value))),))
+            for value, label in enumerate(self.case.values)
+        ]
         return Table("value", ("what has it",), tuple(rows))
 
     def by_thing(self) -> Table:
         """A list of things with their values; in a part of a plan those alone that have one."""
-        rows = [Row(self.case.things[thing].name, (self._of(thing),)) for thing in range(len(self.case.things))
-                if thing in self._values or thing in self._marks]
+        rows = [
+            Row(self.case.things[thing].name, (self._of(thing),))
+            for thing in range(len(self.case.things))
+            if thing in self._values or thing in self._marks
+        ]
         return Table("what", ("value",), tuple(rows))
