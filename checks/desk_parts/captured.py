@@ -20,7 +20,7 @@ from planners_desk.program.talk import Program
 KEPT = os.path.join(drawn.TOP, "checks", "desk_captures")
 PLANS = {"ward": "scopes", "school": "quacq", "bicycle": "multi", "garden": "scopes"}
 PLANTED = [
-    ("commands/check.py", 'yield f"Advice: {best.plan},', 'yield f"Advice: {some[1].plan},'),
+    ("sitting/outlook.py", "best = trials.best(words, some)", "best = some[1]"),
     ("hints/trials.py", "noticed += slipped(", "noticed += 1 - slipped("),
 ]
 DAYS = ["Mon", "Tue", "Wed", "Thu", "Fri", "Sat", "Sun"]

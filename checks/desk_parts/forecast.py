@@ -18,6 +18,7 @@ import drawn  # desk's folder is on the path now
 from planners_desk.case import casefile
 from planners_desk.commands import check
 from planners_desk.hints import offers
+from planners_desk.sitting import outlook
 from planners_desk.program import talk
 from planners_desk.hints import trials
 from planners_desk.hints.foreseen import Foreseen
@@ -30,22 +31,22 @@ WEEK = (
     "always: different on same day\n"
 )
 PLANTED = [
-    ("commands/check.py", "(inside & ~weakest).bit_count() > 1:", "(inside & ~weakest).bit_count() > 2:"),
-    ("commands/check.py", "also = inside & ~weakest & ~(1 << place)", "also = inside & ~weakest"),
+    ("sitting/outlook.py", "(inside & ~weakest).bit_count() > 1:", "(inside & ~weakest).bit_count() > 2:"),
+    ("sitting/outlook.py", "also = inside & ~weakest & ~(1 << place)", "also = inside & ~weakest"),
     (
-        "commands/check.py",
+        "sitting/outlook.py",
         "values[thing] = words.coding.value_of[digit]",
         "values[thing] = words.coding.value_of[-1 - digit]",
     ),
     (
-        "commands/check.py",
+        "sitting/outlook.py",
         "    for place in range(inside.bit_length()):\n        weakest = max(",
         "    for place in range(inside.bit_length()):\n        weakest = min(",
     ),
     (
-        "commands/check.py",
-        "key=lambda price: price.without or 0,",
-        "key=lambda price: -(price.without or 0),",
+        "sitting/outlook.py",
+        "known.sort(key=lambda pair: pair[0])",
+        "known.sort(key=lambda pair: -pair[0])",
     ),
     (
         "hints/trials.py",
@@ -221,7 +222,7 @@ def time_over(program: str) -> list[str]:
         if all(one.late and not one.questions for one in some)
         else [f"without time it says {some}"]
     )
-    said = " ".join(check.compared(words, some, 100))
+    said = " ".join(check.compared(words, outlook.advice(words, some), 100))
     if (
         "Advice: scopes, one group at a time, because the time was over" not in said
         or "not tried: the time was over" not in said

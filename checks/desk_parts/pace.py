@@ -28,7 +28,7 @@ NO_END = 180        # seconds by the clock after which a call counts as one with
 PLANTED = [
     ("hints/trials.py", "SECONDS = 10.0 ", "SECONDS = 60.0 "),
     ("hints/trials.py", "SECONDS_AT_FIRST = 3.0 ", "SECONDS_AT_FIRST = 40.0 "),
-    ("commands/check.py", "reply = program.call([made, *call], given, clock)", "reply = program.call([made, *call], given, Clock(60))"),
+    ("sitting/outlook.py", "reply = program.call([made, *call], given, clock)", "reply = program.call([made, *call], given, Clock(60))"),
     ("hints/trials.py", "if words.lifted or any(one.late for one in some):", "if words.lifted:"),
 ]
 EXAMS = f"title: Exams\nthings: {' '.join(f'exam{k}' for k in range(100))}\nvalues: 1 .. 15\nask: all\nwords: different, at least 2 apart, before\n"

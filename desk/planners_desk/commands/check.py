@@ -4,34 +4,26 @@ from __future__ import annotations
 
 import argparse
 import importlib.util
-import itertools
-import json
-import os
 import re
 import shutil
 import sys
-import tempfile
 import textwrap
 from collections.abc import Iterable, Iterator, Sequence
 
 from ..case import casefile
-from ..case.files import journal_of
-from ..case.model import MOST_RELATIONS, Case, Fault, Values
+from ..case.model import MOST_RELATIONS, Case, Values
 from ..case.picture import Picture, sentence
 from ..faces import plain
-from ..hints import offers, solver, trials
+from ..hints import offers, trials
 from ..hints.along import and_list
-from ..hints.trials import WAYS, Figures, Price
+from ..hints.trials import WAYS, Figures
 from ..program import vocabulary
-from ..program.talk import Clock, Late, Program
+from ..program.talk import Clock, Program
 from ..program.vocabulary import Vocabulary
-from ..sitting.session import head_of
+from ..sitting import outlook
+from ..sitting.outlook import Forecast, Seconds
 from . import streams
 
-PLANS_SHOWN = 3
-SECONDS_FOR_PLANS = 3.0  # for those that are shown
-SECONDS_FOR_PRICES = 3.0  # for what words cost in questions
-SECONDS_FOR_COUNTS = 2.0  # for what counts would cost
 SIZES = {1: "single things", 2: "pairs", 3: "groups of three", 4: "groups of four"}
 
 
@@ -63,6 +55,7 @@ def main(path: str, options: argparse.Namespace) -> int:
     words = vocabulary.build(case)
     width = min(shutil.get_terminal_size((100, 24)).columns, 100)
     moving = Moving(width)
+    seconds = Seconds.each(options.seconds)
 
     def put(lines: Iterable[str]) -> None:
         made = list(lines)
@@ -70,25 +63,15 @@ def main(path: str, options: argparse.Namespace) -> int:
         for line in made:
             print_wrapped(line, width)
 
+    def clock(most: float) -> Clock:
+        return Clock(most, moving.tell)
+
     put((*overview(words), *cannot_say(words, width)))
-    put(
-        first_plans(words, program, width, Clock(options.seconds or SECONDS_FOR_PLANS, moving.tell))
-    )
-    some = trials.compared(words, program, Clock(options.seconds or trials.SECONDS, moving.tell))
-    put(compared(words, some, width))
-    put(
-        priced(
-            some,
-            trials.prices(case, program, Clock(options.seconds or SECONDS_FOR_PRICES, moving.tell)),
-        )
-    )
-    put(
-        offered(
-            case,
-            some,
-            offers.offers(case, program, Clock(options.seconds or SECONDS_FOR_COUNTS, moving.tell)),
-        )
-    )
+    put(first_plans(words, outlook.first_plans(words, program, clock(seconds.plans)), width))
+    forecast = outlook.forecast(words, program, clock(seconds.ways))
+    put(compared(words, forecast, width))
+    put(priced(forecast, outlook.prices(trials.prices(case, program, clock(seconds.prices)))))
+    put(offered(case, forecast, offers.offers(case, program, clock(seconds.counts))))
     return 0
 
 
@@ -117,30 +100,20 @@ def overview(words: Vocabulary) -> Iterator[str]:
     case = words.case
     yield case.title
     yield "=" * len(case.title)
-    counts = [
-        f"{sum(len(scope) == arity for scope in words.scopes)} {SIZES[arity]}"
-        for arity in words.arities
-    ]
+    made = outlook.combined(words)
+    groups = " and ".join(f"{one.groups} {SIZES[one.arity]}" for one in made)
     yield (
         f"{len(case.things)} things, {len(case.values)} values, {len(case.words)} words; asked "
-        f"about: {' and '.join(counts)}"
+        f"about: {groups}"
         + (f"; {len(case.always)} rules said beforehand." if case.always else ".")
     )
-    for arity, made in words.closings.items():
+    for one in made:
+        without = [f"without `{text}` they make {rules}" for text, rules in one.without]
         yield (
-            f"On {SIZES[arity]} the words, alone and several at once, make {len(made.tables)} "
-            "rules, and the program takes "
-            f"{MOST_RELATIONS}" + _costs(words, arity, len(made.tables)) + "."
+            f"On {SIZES[one.arity]} the words, alone and several at once, make {one.rules} rules, "
+            f"and the program takes {MOST_RELATIONS}"
+            + (f"; {', '.join(without)}." if without else ".")
         )
-
-
-def _costs(words: Vocabulary, arity: int, whole: int) -> str:
-    """What leaving a word out would save, for the three that cost most."""
-    if whole < MOST_RELATIONS // 4 or len(words.case.words) < 2:
-        return ""
-    costs = {word.text: words.cost(arity, (word.text,)) for word in words.case.words}
-    dear = sorted(costs, key=lambda text: costs[text])[:3]
-    return "; " + ", ".join(f"without `{text}` they make {costs[text]}" for text in dear)
 
 
 # ---- what the case can't say
@@ -148,154 +121,93 @@ def _costs(words: Vocabulary, arity: int, whole: int) -> str:
 
 def cannot_say(words: Vocabulary, width: int) -> Iterator[str]:
     """What no answers can bring about, in words."""
-    case = words.case
+    unsaid = outlook.unsaid(words)
     yield ""
     yield "What this case can't say"
-    said = offers.counts_said(case)
+    said = [f"`{text}`" for text in unsaid.counts]
     yield (
         '- Counts above three, as "at most five shifts each", and sums: no rule is about more than '
-        'four things.'
-        + (
-            f" The counts that it does say: {and_list([f'`{text}`' for text in said])}."
-            if said
-            else ""
-        )
+        "four things." + (f" The counts that it does say: {and_list(said)}." if said else "")
     )
-    lone = [
-        thing.name
-        for thing in case.things
-        if not any(thing.place in scope for scope in words.scopes)
-    ]
-    if lone:
-        yield f"- Nothing is learned of {_some(lone)}: no `ask` line puts them in a group."
-    yield from _unasked(words)
-    for arity in words.arities:
-        yield from _dull(words, arity, width)
+    if unsaid.alone:
+        yield f"- Nothing is learned of {_some(unsaid.alone)}: no `ask` line puts them in a group."
+    if unsaid.apart is not None:
+        yield (
+            f"- Rules between things that aren't put together: {unsaid.apart.pairs} of "
+            f"{unsaid.apart.of} pairs, such as {' and '.join(unsaid.apart.example)}."
+        )
+    for weak in unsaid.weak:
+        yield from _weak(words.case, weak, width)
     yield (
         "- At the end nothing is left open of the rules that these words can say. What they can't "
-        "say was never asked, so look at "
-        "the sample plans."
+        "say was never asked, so look at the sample plans."
     )
 
 
-def _some(texts: list[str], most: int = 4) -> str:
+def _some(texts: Sequence[str], most: int = 4) -> str:
     """A few of them, and how many there are."""
     return ", ".join(texts[:most]) + (f" and {len(texts) - most} more" if len(texts) > most else "")
 
 
-def _unasked(words: Vocabulary) -> Iterator[str]:
-    """Pairs that no group holds."""
-    together = {pair for scope in words.scopes for pair in itertools.combinations(scope, 2)}
-    count = len(words.case.things) * (len(words.case.things) - 1) // 2
-    if len(together) < count:
-        first = next(
-            pair
-            for pair in itertools.combinations(range(len(words.case.things)), 2)
-            if pair not in together
-        )
-        names = " and ".join(words.case.things[thing].name for thing in first)
-        yield (
-            f"- Rules between things that aren't put together: {count - len(together)} of {count} "
-            f"pairs, such as {names}."
-        )
-
-
-def _dull(words: Vocabulary, arity: int, width: int) -> Iterator[str]:
-    """What the words can't refuse on the first group of an arity, and what they can't refuse
-    alone."""
-    scope = max((scope for scope in words.scopes if len(scope) == arity), key=words.choices)
-    inside = words.inside(scope)
-    tables = [table & inside for table in words.closings[arity].tables if inside & ~table]
-    strongest = inside
-    for table in tables:
-        strongest &= table
-    who = and_list([words.case.things[thing].name for thing in scope])
-    if not tables:
+def _weak(case: Case, weak: outlook.Weak, width: int) -> Iterator[str]:
+    """What the words can't refuse on a group, and what they can't refuse alone."""
+    who = and_list([case.things[thing].name for thing in weak.things])
+    if not weak.refuses:
         yield f"- On {who} no word refuses anything."
         return
-    if strongest:
+    if weak.example is not None:
         yield (
-            f"- On {SIZES[arity]} such as {who}, {strongest.bit_count()} of {inside.bit_count()} "
-            "choices can never be forbidden by these "
-            "words. Is this one always all right? Else a word is missing:"
+            f"- On {SIZES[len(weak.things)]} such as {who}, {weak.never} of {weak.choices} "
+            "choices can never be forbidden by these words. Is this one always all right? Else a "
+            "word is missing:"
         )
-        yield from (
-            "    " + line
-            for line in plan_lines(words.case, _choice(words, scope, strongest), width - 4)
+        yield from ("    " + line for line in plan_lines(case, weak.example, width - 4))
+    if weak.coarse is not None:
+        others = weak.coarse.others
+        yield (
+            f"- Whatever forbids {_said(case, weak.coarse.values)} forbids {others} other "
+            f"choice{'s' if others > 1 else ''} too, at the least; as "
+            f"{_said(case, weak.coarse.example)}."
         )
-    for place in range(inside.bit_length()):
-        weakest = max(
-            (table for table in tables if not table >> place & 1),
-            key=lambda table: table.bit_count(),
-            default=None,
-        )
-        if inside >> place & 1 and weakest is not None and (inside & ~weakest).bit_count() > 1:
-            also = inside & ~weakest & ~(1 << place)
-            yield (
-                f"- Whatever forbids {_said(words, scope, 1 << place)} forbids {also.bit_count()} "
-                "other "
-                f"choice{'s' if also.bit_count() > 1 else ''} too, at the least; as "
-                f"{_said(words, scope, also)}."
-            )
-            return
 
 
-def _choice(words: Vocabulary, scope: tuple[int, ...], table: int) -> Values:
-    """The first choice of a table."""
-    place = (table & -table).bit_length() - 1
-    values: Values = {}
-    for thing in reversed(scope):
-        place, digit = divmod(place, words.coding.size)
-        values[thing] = words.coding.value_of[digit]
-    return values
-
-
-def _said(words: Vocabulary, scope: tuple[int, ...], table: int) -> str:
-    """The first choice of a table in words."""
-    return and_list(sentence(Picture(words.case, _choice(words, scope, table))).split(", "))
+def _said(case: Case, values: Values) -> str:
+    """A choice in words."""
+    return and_list(sentence(Picture(case, values)).split(", "))
 
 
 # ---- plans before the first question
 
+BY = {
+    outlook.LEARNED: "Plans that the rules learned so far allow",
+    outlook.BEFOREHAND: "Plans that the rules said beforehand allow",
+    outlook.NOTHING: "Plans that are possible as long as no rule is known",
+}
 
-def first_plans(words: Vocabulary, program: Program, width: int, clock: Clock) -> Iterator[str]:
+
+def first_plans(
+    words: Vocabulary, found: outlook.FirstPlans | None, width: int
+) -> Iterator[str]:
     """Plans that all that is known so far allows."""
     yield ""
-    if solver.name() is None:
+    if found is None:
         yield "No plans are shown here: no SAT solver is installed (cadical, minisat or clasp)."
         return
-    journal = journal_of(words.case.path)
-    head = head_of(journal) if os.path.exists(journal) else None
-    if head is not None and head[1] == words.json.encode():
-        yield "Plans that the rules learned so far allow"
-        some = solver.plans(program, words, journal, PLANS_SHOWN, clock)
-    else:
-        if words.case.always:
-            yield "Plans that the rules said beforehand allow"
-        else:
-            yield "Plans that are possible as long as no rule is known"
-        some = plans_of(words, program, words.network(words.case.always), PLANS_SHOWN, clock)
-    if not some:
+    yield BY[found.by]
+    if not found.some:
         yield "The solver found none: the rules leave no plan, or it took too long."
-    yield from pictures(words, some, width)
-    always_there = plans_of(
-        words,
-        program,
-        [words.item(scope, words.strictest(scope)) for scope in words.scopes],
-        1,
-        clock,
-    )
-    if always_there:
+    yield from pictures(words, found.some, width)
+    if found.strictest is not None:
         yield ""
         yield (
             "A plan that no answers can rule out, since it keeps every rule that these words can say"
         )
-        yield from pictures(words, always_there, width)
+        yield from pictures(words, [found.strictest], width)
         yield ""
         yield "If this one is wrong, the case needs other words or groups."
 
 
-def pictures(words: Vocabulary, some: list[Values], width: int) -> Iterator[str]:
+def pictures(words: Vocabulary, some: Sequence[Values], width: int) -> Iterator[str]:
     """Plans one below the other."""
     for values in some:
         yield ""
@@ -312,40 +224,17 @@ def plan_lines(case: Case, values: Values, width: int) -> list[str]:
     return drawing.plan_lines(case, values, width)
 
 
-def plans_of(
-    words: Vocabulary, program: Program, network: Sequence[Sequence[str]], most: int, clock: Clock
-) -> list[Values]:
-    """Plans that a network allows: it is played, which learns it, and the solver draws from what
-    was learned."""
-    with tempfile.TemporaryDirectory(
-        dir=trials.MEMORY if os.path.isdir(trials.MEMORY) else None
-    ) as folder:
-        made = os.path.join(folder, "known.journal")
-        clock.doing("looking for plans")
-        for call, given in (
-            (["new", "--plan", "scopes"], words.json.encode()),
-            (["play"], json.dumps(network).encode()),
-        ):
-            try:
-                reply = program.call([made, *call], given, clock)
-            except Late:
-                return []
-            if reply.status:
-                raise Fault(f"{words.case.path}: acquire says: {reply.said}")
-        return solver.plans(program, words, made, most, clock)
-
-
 # ---- ways of asking
 
 
-def compared(words: Vocabulary, some: list[Figures], width: int) -> Iterator[str]:
+def compared(words: Vocabulary, found: Forecast, width: int) -> Iterator[str]:
     """The ways of asking side by side, and which one is advised."""
     yield ""
     yield "How many questions will come"
     ways = "; ".join(f"`{plan}`, {way}" for plan, way in WAYS.items())
     yield f"There are {len(WAYS)} ways of asking: {ways}."
     yield (
-        f"Each was tried on {trials.trials_of(words)} made-up cases: some with rules here and "
+        f"Each was tried on {found.cases} made-up cases: some with rules here and "
         "there, some in which one thing has a rule with "
         "all others, some with two kinds of things that don't go together. Yours may need fewer "
         "questions or more."
@@ -361,11 +250,11 @@ def compared(words: Vocabulary, some: list[Figures], width: int) -> Iterator[str
             "slips noticed",
         )
     ]
-    rows += [_row(one) for one in some]
+    rows += [_row(one) for one in found.ways]
     yield from table(rows, width)
     yield ""
     yield (
-        f"Questions: the fewest, the middle and the most of {trials.trials_of(words)} made-up cases"
+        f"Questions: the fewest, the middle and the most of {found.cases} made-up cases"
         + (", without those that your `always` lines answer" if words.case.always else "")
         + ". Values shown: in the middle question. Slips noticed: one of your answers was turned "
         "round in each case, and the session "
@@ -376,9 +265,11 @@ def compared(words: Vocabulary, some: list[Figures], width: int) -> Iterator[str
         "answers can disagree, and one wrong "
         "answer is one wrong rule."
     )
-    best = trials.best(words, some)
+    best = found.best.plan
+    longer = "`--seconds 60` tries for longer." if found.late else ""
+    because = " ".join(filter(None, [found.because, longer, found.beside]))
     yield ""
-    yield f"Advice: {best.plan}, {WAYS[best.plan]}, because {because(words, best, some)}"
+    yield f"Advice: {best}, {WAYS[best]}, because {because}"
     yield (
         "If you hold a rule that your words can't say, a count above all, take `scopes` in any "
         "case: none of its questions shows more than one "
@@ -386,7 +277,7 @@ def compared(words: Vocabulary, some: list[Figures], width: int) -> Iterator[str
         "only because of what your "
         "words can't say, answer yes, and note it."
     )
-    if words.case.plan and words.case.plan != best.plan:
+    if words.case.plan and words.case.plan != best:
         yield f"The case says `plan: {words.case.plan}`, and that counts."
 
 
@@ -404,73 +295,27 @@ def _row(one: Figures) -> tuple[str, ...]:
     return (one.plan, counts, str(one.most), *shown, slips)
 
 
-def because(words: Vocabulary, best: Figures, some: list[Figures]) -> str:
-    """Why a way of asking is advised."""
-    if words.lifted:
-        return (
-            f"{' and '.join(f'`{text}`' for text in words.lifted)} "
-            f"speak{'s' if len(words.lifted) == 1 else ''} of fewer things than groups "
-            "have that are asked about. The other ways also ask about parts of groups, where a no "
-            "because of such a word may end the "
-            "session though no answer was wrong." + odd_one_out(words)
-        )
-    if any(one.late for one in some):
-        return (
-            "the time was over before the others had been tried to the end, and what it costs is "
-            "known. `--seconds 60` tries for longer."
-            + odd_one_out(words)
-        )
-    cheapest = min(some, key=lambda one: one.effort)
-    if best.plan != "scopes":
-        times = best.effort / max(cheapest.effort, 1)
-        dear = f", and costs {times:.1f} times the reading of {cheapest.plan}"
-        return "it notices slips" + ("." if best is cheapest else dear + ".")
-    careful = min((one for one in some if one.notices), key=lambda one: one.effort, default=None)
-    if careful is None:
-        return "it shows the fewest values to judge." + odd_one_out(words)
-    return (
-        f"it shows the fewest values to judge; {careful.plan}, which notices slips, costs "
-        f"{careful.effort / max(best.effort, 1):.1f} times the reading." + odd_one_out(words)
-    )
-
-
-def odd_one_out(words: Vocabulary) -> str:
-    """What helps against slips in plan `scopes`."""
-    grid = (
-        " A group whose rule is another than that of its like in the grid is shown as the odd one "
-        "out."
-        if words.case.thing_parts
-        else ""
-    )
-    return grid + " Look at the plans that break a rule, at the end."
-
-
-def priced(some: list[Figures], prices: Iterable[Price]) -> Iterator[str]:
+def priced(forecast: Forecast, prices: outlook.Prices) -> Iterator[str]:
     """What each word costs in questions, the dearest first."""
-    whole = next(one for one in some if one.plan == "scopes")
-    found = list(prices)
-    known = sorted(
-        (price for price in found if price.without is not None),
-        key=lambda price: price.without or 0,
-    )
-    if not found or whole.late:
+    whole = forecast.one_by_one
+    if not (prices.known or prices.unknown) or whole.late:
         return
     yield ""
     yield "What a word costs in questions"
-    if known:
-        said = ", ".join(f"without `{price.word}` {price.without}" for price in known)
+    if prices.known:
+        said = ", ".join(f"without `{price.word}` {price.without}" for price in prices.known)
         yield (
             f"Asked one group at a time, in the middle case: {said}, in place of {whole.middle}. "
             "A word that you don't need can go."
         )
-    left = [f"`{price.word}`" for price in found if price.without is None]
-    if left:
-        yield f"Not reckoned, since the time was over: {', '.join(left)}."
+    if prices.unknown:
+        left = ", ".join(f"`{word}`" for word in prices.unknown)
+        yield f"Not reckoned, since the time was over: {left}."
 
 
-def offered(case: Case, some: list[Figures], counts: Iterable[offers.Offer]) -> Iterator[str]:
+def offered(case: Case, forecast: Forecast, counts: Iterable[offers.Offer]) -> Iterator[str]:
     """Counts that the case could say, with their price in questions."""
-    whole = next(one for one in some if one.plan == "scopes")
+    whole = forecast.one_by_one
     yield ""
     yield "Counts"
     value = case.values[0]
