@@ -5,4 +5,5 @@ Each complete question starts seven threads, and the C library keeps their stack
 
 import resource
 
-resource.setrlimit(resource.RLIMIT_STACK, (1 << 20, resource.getrlimit(resource.RLIMIT_STACK)[1]))
+MOST = resource.getrlimit(resource.RLIMIT_STACK)[1]
+resource.setrlimit(resource.RLIMIT_STACK, (1 << 20 if MOST == resource.RLIM_INFINITY else min(1 << 20, MOST), MOST))

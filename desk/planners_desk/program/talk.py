@@ -6,6 +6,7 @@ import contextlib
 import ctypes
 import math
 import os
+import resource
 import select
 import shutil
 import signal
@@ -25,6 +26,7 @@ MOST_READ = 65536   # bytes that are read at once
 MOST_PRINTED = 2**29    # bytes that a call prints; one that goes on isn't of the program
 REASONS = {8: "its input failed", 9: "its output failed", 10: "the file may not be read and written, or the disk is full", 11: "memory was wanting"}
 MOST_LINE = 2**20       # bytes of a line that asks or ends
+MOST_STACK = 2**20      # bytes of a thread of acquire: of larger stacks the C library keeps fewer than the threads of a question need
 
 
 class Late(Exception):
@@ -138,7 +140,7 @@ class Program:
         """One call with all its input. Where a clock is given and its time is over, the program is ended, and `Late` has
         what it had printed."""
         try:
-            status, printed = called([self.path, *words], given, clock)
+            status, printed = called([self.path, *words], given, clock, _is_acquire)
         except OSError as error:
             raise Fault(f"{self.path}: {error.strerror}") from None
         except Endless:
@@ -146,11 +148,25 @@ class Program:
         return Reply(status, text_of(printed))
 
 
-def called(words: Sequence[str], given: bytes = b"", clock: Clock | None = None) -> tuple[int, bytes]:
+def _dies_with_us() -> None:
+    """In the child: the system ends it when this process ends, however that comes about."""
+    parent_gone = 1     # PR_SET_PDEATHSIG
+    ctypes.CDLL(None).prctl(parent_gone, signal.SIGTERM)
+
+
+def _is_acquire() -> None:
+    """In a child that becomes acquire: its stacks are small, as the scripts make them that start it."""
+    most = resource.getrlimit(resource.RLIMIT_STACK)[1]
+    resource.setrlimit(resource.RLIMIT_STACK, (MOST_STACK if most == resource.RLIM_INFINITY else min(MOST_STACK, most), most))
+    _dies_with_us()
+
+
+def called(words: Sequence[str], given: bytes = b"", clock: Clock | None = None,
+           in_child: Callable[[], None] = _dies_with_us) -> tuple[int, bytes]:
     """Runs a program with all its input: its exit status and what it printed. `Late` where the clock's time is over before,
     `Endless` where it prints more than any program that desk calls."""
     process = subprocess.Popen(words, stdin=subprocess.PIPE, stdout=subprocess.PIPE, stderr=subprocess.DEVNULL,
-                               process_group=0, preexec_fn=_dies_with_us)
+                               process_group=0, preexec_fn=in_child)
     with process:
         try:
             printed = _printed(process, given, clock)
@@ -200,12 +216,6 @@ def _ended(given: IO[bytes]) -> None:
         given.close()
 
 
-def _dies_with_us() -> None:
-    """In the child: the system ends it when this process ends, however that comes about."""
-    parent_gone = 1     # PR_SET_PDEATHSIG
-    ctypes.CDLL(None).prctl(parent_gone, signal.SIGTERM)
-
-
 class Run:
     """`acquire JOURNAL run`, or another command that asks, over pipes.
 
@@ -219,7 +229,7 @@ class Run:
         try:
             self._process = subprocess.Popen([program.path, *words], stdin=subprocess.PIPE, stdout=subprocess.PIPE,
                                              stderr=subprocess.DEVNULL, process_group=0,
-                                             pass_fds=() if lock is None else (lock,), preexec_fn=_dies_with_us)
+                                             pass_fds=() if lock is None else (lock,), preexec_fn=_is_acquire)
         except OSError as error:
             raise Fault(f"{program.path}: {error.strerror}") from None
         assert self._process.stdin and self._process.stdout
