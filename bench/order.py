@@ -6,7 +6,7 @@ usage: bench/order.py PROGRAM [--draws N] [--case WORD]
 PROGRAM is the built program, as crates/acquire/out/acquire. Each task is learned by `try` in plans `quacq` and `multi` from an owner
 who answers by a network: once with its variables as they stand, where those that belong together are neighbours, and N times with
 them shuffled, 5 where none are given, by draws of fixed numbers. The network stays the same. A table in Markdown comes: the
-questions as it stands, and the least and the most of the shuffled ones. Plan `scopes` asks as many in each order.
+questions as it stands, and the least and the most of the shuffled ones. Plan `scopes` asks about scopes one by one, so it isn't tried.
 """
 
 import argparse
