@@ -154,5 +154,9 @@ refuses "a check is touched meanwhile"
 fresh
 change_during touch "$kit/bin/rt"
 report "rt is touched meanwhile: it is proved" "one $here j run 6 1" "$(start)"
+fresh
+mkdir "$room/few" && ln -s "$(command -v bash)" "$(command -v dirname)" "$(command -v env)" "$room/few"
+report "a machine without the kit" "127 gate: rt isn't on the path, so nothing was tried: README.md says what is needed" \
+    "$(PATH=$room/few; gate) $(cat "$room/said")"
 
 finish

@@ -77,6 +77,9 @@ report "what is put" "$(all "755 bin/desk" "644 lib/acquire/desk/cases/ward" "75
     "644 share/bash-completion/completions/desk" "644 share/zsh/site-functions/_desk" \
     "644 share/doc/acquire/desk/README.md" "644 share/doc/acquire/desk/cases/ward" "644 share/man/man1/desk.1")" "$(files "$room/to")"
 report "desk starts" "desk $room/to/bin/../lib/acquire/desk $room/to/bin/acquire ask x y" "$("$room/to/bin/desk" ask "x y")"
+mkdir "$room/few" && ln -s "$(command -v dirname)" "$(command -v readlink)" "$room/few"
+report "desk without Python" "desk: it needs Python from 3.11 on, and no python3 is on the path 1" \
+    "$(PATH=$room/few /bin/sh "$room/to/bin/desk" ask 2>&1 | tr '\n' ' '; echo "${PIPESTATUS[0]}")"
 report "desk with another program" "other" "$(DESK_ACQUIRE=other "$room/to/bin/desk" | cut -d' ' -f3)"
 ln -s "$room/to/bin/desk" "$room/elsewhere/desk"
 report "desk by a link" "$room/to/bin/acquire" "$("$room/elsewhere/desk" | cut -d' ' -f3)"

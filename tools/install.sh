@@ -76,6 +76,7 @@ if [ -f "$home/desk/desk" ]; then
 #!/bin/sh
 # Starts desk. It takes the program acquire that lies beside this script, unless DESK_ACQUIRE names another one.
 at=$(dirname -- "$(readlink -f -- "$0")")
+command -v python3 >/dev/null || { echo "desk: it needs Python from 3.11 on, and no python3 is on the path" >&2; exit 1; }
 DESK_ACQUIRE=${DESK_ACQUIRE:-$at/acquire} exec "$at/../lib/acquire/desk/desk" "$@"
 END
     put 755 "$room/desk" bin/desk
