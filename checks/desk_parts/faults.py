@@ -71,6 +71,7 @@ FAULTS = [
     ("things: day Mon Tue x shift\nvalues: a\n" + REST, ":1: a side of a grid is its name and its members, as `day Mon Tue`; `shift` has no members"),
     ("things: day Mon .. Foo x shift a b\nvalues: c\n" + REST, ":1: `Mon .. Foo` can't be filled in: write the names out, or count days, months, numbers or letters upwards"),
     ("things: a=b c\nvalues: d e\n" + REST, ":1: `a=b`: a name has no `=` in it"),
+    ("things: day Mon Tue x shift early late\nthing other: a b\nvalues: c\nask: all\nwords: same\n", ":2: a grid of things stands alone: its line is above"),
     ("things: day Mon Tue x shift Mon late\nvalues: c\nask: all\nwords: same\n", ":1: `Mon` stands in two sides of the grid"),
     ("things: day Mon Mon x shift early late\nvalues: c\nask: all\nwords: same\n", ":1: the member `Mon` stands twice"),
     ("things: day Mon Tue x day early late\nvalues: c\nask: all\nwords: same\n", ":1: the side `day` stands twice"),

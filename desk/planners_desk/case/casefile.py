@@ -209,6 +209,7 @@ class _Reader:
             if line.key == "values":
                 self._values(line)
             elif line.key == "thing":
+                self._no_grid()
                 own.append((names.checked(line.name), self._unique(self._few(self._listed(line), MOST_VALUES, "values"), "value")))
             else:
                 self._listed_things(line, own)
@@ -237,10 +238,14 @@ class _Reader:
                 raise Fault("a grid of things stands alone: there are other things already")
             self.thing_parts = parts
             own += [(name, []) for name in self._cells(parts)]
-        elif self.thing_parts:
-            raise Fault("a grid of things stands alone: its line is above")
         else:
+            self._no_grid()
             own += [(name, []) for name in self._listed(line)]
+
+    def _no_grid(self) -> None:
+        """A fault where things are a grid already."""
+        if self.thing_parts:
+            raise Fault("a grid of things stands alone: its line is above")
 
     def _listed(self, line: Line) -> list[str]:
         """The names of a list; a fault where the first is likely meant as a heading of the others."""
@@ -288,15 +293,13 @@ class _Reader:
 
     def _grid(self, line: Line, most: int, what: str) -> tuple[Part, ...]:
         """`day Mon .. Sun x shift early late` as its parts; none where it is a list. The cells are counted before there are any."""
-        sides = re.split(r"(?<!\s)\s+x\s+", line.text)
-        if len(sides) < 2 or any(side.strip().endswith(",") or side.strip().startswith(",") for side in sides):
-            return ()
         listed = []
-        for side in sides:
-            name, _, rest = side.strip().partition(" ")
-            if not rest.strip():
+        for name, members in names.sides(line.text):
+            if not members:
                 raise Fault(f"a side of a grid is its name and its members, as `day Mon Tue`; `{name}` has no members")
-            listed.append((names.checked(name), names.listed(rest)))
+            listed.append((names.checked(name), names.listed(members)))
+        if not listed:
+            return ()
         cells = math.prod(len(members) for _, members in listed)
         if cells > most:
             raise Fault(self._too_many(cells, most, what))

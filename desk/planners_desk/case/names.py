@@ -80,6 +80,16 @@ def listed(text: str) -> list[str]:
     return names
 
 
+def sides(text: str) -> list[tuple[str, str]]:
+    """The sides of a grid, as `day Mon .. Sun x shift early late`: the name of each and its members,
+    which may be missing. None where the text is a list."""
+    parts = [part.strip() for part in re.split(r"(?<!\s)\s+x\s+", text)]
+    if len(parts) < 2 or any(part.endswith(",") or part.startswith(",") for part in parts):
+        return []
+    cut = (part.partition(" ") for part in parts)
+    return [(name, members.strip()) for name, _, members in cut]
+
+
 @dataclass(frozen=True)
 class Heading:
     """A name in front of a range or of numbers, which reads like a heading of them."""

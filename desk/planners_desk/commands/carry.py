@@ -52,6 +52,12 @@ def main(old: str, new: str | None, options: argparse.Namespace) -> int:
     program = Program.found(options.acquire)
     case = casefile.read(new or old)
     streams.can_show(case)
+    print("\n".join(carried(old, case, program, options.budget)))
+    return 0
+
+
+def carried(old: str, case: Case, program: Program, budget: int | None) -> list[str]:
+    """Carries the answers of a session over to a case; what came of it, in lines."""
     Vocabulary(case)  # a new case that the program can't take is refused before anything is made
     journal = journal_of(case.path)
     to_itself = os.path.realpath(journal) == os.path.realpath(journal_of(old))
@@ -61,11 +67,10 @@ def main(old: str, new: str | None, options: argparse.Namespace) -> int:
             locks.enter_context(free(journal, case.path))
 
         def make(made: str) -> list[str]:
-            return begun(case, program, made, plan, options.budget, before)
+            return begun(case, program, made, plan, budget, before)
 
         told = replaced(journal, to_itself, make)
-    print("\n".join(told))
-    return 0
+    return told
 
 
 @contextlib.contextmanager

@@ -16,6 +16,7 @@ from . import opening
 from .app import application
 from .entrance import Entrance
 from .folder import Folder
+from .forecast import Forecasts
 from .security import Below, Secrets
 from .sheets import Sheet
 from .sittings import Owner, Sittings
@@ -34,9 +35,10 @@ def serve(place: str, port: int, browser: bool, program: Program, budget: int | 
         return opening.sitting(path, owner, program, budget)
 
     quiet()
-    known, sittings = Secrets(), Sittings(work)
+    known, sittings, forecasts = Secrets(), Sittings(work), Forecasts(program)
     entrance = Entrance(known)
     app = application(known, folder, sittings, entrance)
+    app.extensions["desk_program"], app.extensions["desk_forecasts"] = program, forecasts
     try:
         server = create_server(
             Below(app, known.path),
@@ -64,6 +66,7 @@ def serve(place: str, port: int, browser: bool, program: Program, budget: int | 
         try:
             server.run()
         finally:
+            forecasts.close()
             sittings.close()
             with contextlib.suppress(OSError):
                 server.close()

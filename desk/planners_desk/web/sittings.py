@@ -154,11 +154,15 @@ class Owner:
             self._condition.wait_for(lambda: self._waits or self._over, PATIENCE)
             return State(self._number, self._sheet, self._waits, self._over)
 
-    def close(self) -> None:
-        """Ends the sitting, and waits until the session is put down."""
+    def give_up(self) -> None:
+        """Lets the work end at its next step, and doesn't wait for that."""
         with self._condition:
             self._closing = True
             self._condition.notify_all()
+
+    def close(self) -> None:
+        """Ends the sitting, and waits until the session is put down."""
+        self.give_up()
         self._thread.join(ENDING)
 
 

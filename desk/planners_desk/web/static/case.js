@@ -1,0 +1,97 @@
+// The form of a case: what things, values, groups and words come to is drawn as one types. Each page works without it.
+"use strict";
+
+const WAIT = 350;       // milliseconds after a key until the preview is asked for
+const LOOK = 700;       // between two looks at how far a forecast is
+const form = document.getElementById("fields");
+let timer = 0;
+let asked = 0;
+
+// what stands in the form is put in place of what stood there, but for where somebody is typing
+function put(page) {
+  const active = document.activeElement;
+  const within = active ? active.id : "";
+  for (const part of document.querySelectorAll("[data-live]")) {
+    const now = page.getElementById(part.id);
+    if (!now || part.innerHTML === now.innerHTML) continue;
+    const open = [...part.querySelectorAll("details")].map(one => one.open);
+    part.replaceChildren(...now.childNodes);
+    const details = [...part.querySelectorAll("details")];
+    if (details.length === open.length) details.forEach((one, place) => { one.open = one.open || open[place]; });
+  }
+  const again = within && !document.activeElement.isSameNode(active) ? document.getElementById(within) : null;
+  if (again) again.focus();
+}
+
+async function preview() {
+  const mine = ++asked;
+  try {
+    const response = await fetch(form.dataset.preview, {method: "POST", body: new URLSearchParams(new FormData(form)), cache: "no-store"});
+    if (!response.ok || mine !== asked) return;
+    const text = await response.text();
+    if (mine === asked) put(new DOMParser().parseFromString(text, "text/html"));
+  } catch (error) {
+    // the next change asks again
+  }
+}
+
+function soon(milliseconds) {
+  clearTimeout(timer);
+  timer = setTimeout(preview, milliseconds);
+}
+
+// a last row that is filled in gets an empty one behind it
+function longer(target) {
+  const rows = target.closest("[data-rows]");
+  const row = target.closest(".row");
+  if (!rows || row !== rows.lastElementChild || !target.value) return;
+  const next = row.cloneNode(true);
+  const place = rows.children.length;
+  for (const one of next.querySelectorAll("[id], [for], [name], [aria-describedby]")) {
+    for (const name of ["id", "for", "name", "aria-describedby"]) {
+      const value = one.getAttribute(name);
+      if (value) one.setAttribute(name, value.replace(`-${place - 1}`, `-${place}`));
+    }
+    if (one.tagName === "INPUT") one.value = "";
+  }
+  for (const fault of next.querySelectorAll(".fault")) fault.remove();
+  rows.append(next);
+}
+
+if (form) {
+  form.addEventListener("input", event => {
+    longer(event.target);
+    if (!/^(checkbox|radio|select-one)$/.test(event.target.type)) soon(WAIT);
+  });
+  form.addEventListener("change", () => soon(0));
+}
+
+// a line of the text that has a fault
+addEventListener("click", event => {
+  const link = event.target.closest("a[data-line]");
+  if (!link) return;
+  const text = document.getElementById("text-all");
+  const lines = text.value.split("\n");
+  const begin = lines.slice(0, link.dataset.line - 1).reduce((sum, line) => sum + line.length + 1, 0);
+  event.preventDefault();
+  text.focus();
+  text.setSelectionRange(begin, begin + (lines[link.dataset.line - 1] || "").length);
+});
+
+async function follow(part) {
+  while (part.dataset.follow) {
+    await new Promise(done => setTimeout(done, LOOK));
+    try {
+      const response = await fetch(part.dataset.follow, {cache: "no-store"});
+      if (!response.ok) continue;
+      const page = new DOMParser().parseFromString(await response.text(), "text/html");
+      if (!page.querySelector("progress")) delete part.dataset.follow;
+      part.replaceChildren(...page.body.childNodes);
+    } catch (error) {
+      // desk has ended, or this computer has slept
+    }
+  }
+}
+
+const reckoned = document.getElementById("forecast-live");
+if (reckoned) follow(reckoned);
