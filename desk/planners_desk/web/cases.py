@@ -289,7 +289,7 @@ def reckon(name: str) -> Answer:
 def forecast(name: str) -> str:
     """How far that is, or what came of it, as a piece of the page."""
     path = path_of(name)
-    return render_template("forecast.html", name=name, seconds=SECONDS,
+    return render_template("forecast.html", name=name, seconds=SECONDS, ways=trials.WAYS,
                            forecast=forecasts().of(path, store.load(path).mark))
 
 

@@ -3,38 +3,24 @@ questions each way of asking has, and what each word costs."""
 
 from __future__ import annotations
 
+import dataclasses
 import threading
 from collections.abc import Callable
 from dataclasses import dataclass
 
 from ..case import casefile
-from ..case.model import Fault, Values
-from ..commands import check
 from ..hints import offers, solver, trials
 from ..hints.offers import Offer
-from ..hints.trials import Figures, Price
 from ..program.talk import Clock, Program
 from ..program.vocabulary import Vocabulary
+from ..sitting import outlook
+from ..sitting.outlook import Prices, Seconds
 from .sheets import Busy, Sheet
 from .sittings import Owner
 from .tables import Table, table_of
 
 MOST_KEPT = 50  # cases of which it is kept what came of it
-SECONDS = {  # for each of its steps
-    "plans": check.SECONDS_FOR_PLANS,
-    "ways": trials.SECONDS,
-    "prices": check.SECONDS_FOR_PRICES,
-    "counts": check.SECONDS_FOR_COUNTS,
-}
-
-
-@dataclass(frozen=True)
-class Way:
-    """A way of asking, and what it costs."""
-
-    figures: Figures
-    says: str  # what it does
-    best: bool  # whether it is advised
+SECONDS = dataclasses.asdict(Seconds())  # of each step, in their order
 
 
 @dataclass(frozen=True)
@@ -42,14 +28,11 @@ class Forecast(Sheet):
     """What came of it."""
 
     solver: bool  # whether plans could be looked for
-    plans: tuple[Table, ...]  # that all that is known allows
-    known: bool  # whether something is known
+    plans: tuple[Table, ...]  # that all that is known so far allows
+    by: str  # what that is
     last: Table | None  # a plan that no answers can rule out
-    ways: tuple[Way, ...]
-    trials: int  # made-up cases in which each way was tried
-    because: str  # why a way is advised
-    prices: tuple[Price, ...]
-    middle: int | None  # questions with all words, one group at a time
+    ways: outlook.Forecast
+    prices: Prices
     counts: tuple[Offer, ...]
 
 
@@ -125,34 +108,15 @@ def _clocks(owner: Owner) -> Callable[[str], Clock]:
 def reckoned(words: Vocabulary, program: Program, clock: Callable[[str], Clock]) -> Forecast:
     """What a case comes to."""
     case = words.case
-    known, last = plans(words, program, clock("plans"))
-    some = trials.compared(words, program, clock("ways"))
-    best = trials.best(words, some)
-    prices = tuple(trials.prices(case, program, clock("prices")))
-    whole = next(one for one in some if one.plan == "scopes")
+    plans = outlook.first_plans(words, program, clock("plans"))
+    last = plans.strictest if plans is not None else None
     return Forecast(
         "What it comes to",
         solver.name() is not None,
-        tuple(table_of(case, values) for values in known),
-        bool(case.always),
+        tuple(table_of(case, values) for values in plans.some) if plans is not None else (),
+        plans.by if plans is not None else outlook.NOTHING,
         table_of(case, last) if last is not None else None,
-        tuple(Way(one, trials.WAYS[one.plan], one is best) for one in some),
-        trials.trials_of(words),
-        check.because(words, best, some),
-        tuple(sorted(prices, key=lambda price: (price.without is None, price.without or 0))),
-        None if whole.late or not whole.questions else whole.middle,
+        outlook.forecast(words, program, clock("ways")),
+        outlook.prices(trials.prices(case, program, clock("prices"))),
         tuple(offers.offers(case, program, clock("counts"))),
     )
-
-
-def plans(words: Vocabulary, program: Program, clock: Clock) -> tuple[list[Values], Values | None]:
-    """Plans that all that is known so far allows, and one that no answers can rule out."""
-    if solver.name() is None:
-        return [], None
-    try:
-        known = check.plans_of(words, program, words.network(words.case.always), check.PLANS_SHOWN, clock)
-        strict = [words.item(scope, words.strictest(scope)) for scope in words.scopes]
-        last = check.plans_of(words, program, strict, 1, clock)
-    except Fault:
-        return [], None
-    return known, last[0] if last else None
