@@ -67,13 +67,14 @@ report "nothing is put" "" "$(ls "$room/other" 2>/dev/null)"
 ./acquire j run >/dev/null 2>&1
 
 # With desk, which starts the program beside it.
-mkdir -p desk/cases desk/planners_desk/program/__pycache__
+mkdir -p desk/cases desk/planners_desk/program/__pycache__ python/acquire && touch python/acquire/session.py
 # shellcheck disable=SC2016 # (these are the words of the program)
 printf '#!/bin/sh\necho "desk $(dirname "$0") $DESK_ACQUIRE $*"\n' >desk/desk
 chmod +x desk/desk
 touch desk/{desk.1,README.md} desk/cases/ward desk/planners_desk/program/{talk.py,__pycache__/talk.pyc}
 report "with desk" 0 "$(install install PREFIX="$room/to"; echo $?)"
 report "what is put" "$(all "755 bin/desk" "644 lib/acquire/desk/cases/ward" "755 lib/acquire/desk/desk" "644 lib/acquire/desk/planners_desk/program/talk.py" \
+    "644 lib/acquire/python/acquire/session.py" \
     "644 share/bash-completion/completions/desk" "644 share/zsh/site-functions/_desk" \
     "644 share/doc/acquire/desk/README.md" "644 share/doc/acquire/desk/cases/ward" "644 share/man/man1/desk.1")" "$(files "$room/to")"
 report "desk starts" "desk $room/to/bin/../lib/acquire/desk $room/to/bin/acquire ask x y" "$("$room/to/bin/desk" ask "x y")"

@@ -71,6 +71,7 @@ put 644 "$home/man/acquire.1" share/man/man1/acquire.1
 put 644 "$home/completions/acquire.bash" share/bash-completion/completions/acquire
 put 644 "$home/completions/_acquire" share/zsh/site-functions/_acquire
 put_files share/doc/acquire README.md CHANGELOG.md CITATION.cff CONTRIBUTING.md THIRD-PARTY.md LICENSE-MIT LICENSE-APACHE docs examples desk/README.md desk/cases
+put_files lib/acquire python/acquire
 if [ -f "$home/desk/desk" ]; then
     cat >"$room/desk" <<'END'
 #!/bin/sh
