@@ -16,7 +16,7 @@ from html.parser import HTMLParser
 
 import hands        # desk's folder is on the path now
 from planners_desk.case import casefile
-from planners_desk.faces import review
+from planners_desk.sitting import judging
 from planners_desk.hints import sentences
 from planners_desk.sitting import session
 from planners_desk.hints import solver
@@ -238,7 +238,7 @@ def plans(one: session.Session, page: Page, state: object) -> list[str]:
         if not rules[text].violated(plan) or any(other.violated(plan) for name, other in rules.items() if name != text):
             found.append(f"{text}: {plan} doesn't break it alone")
     for it in some:
-        if review.broken_alone(one, it, some) is not None and not any(rule.text in broken for rule in it.rules):
+        if judging.broken_alone(one, it, some) is not None and not any(rule.text in broken for rule in it.rules):
             found.append(f"{it.text}: no plan breaks it")
     return found
 

@@ -19,7 +19,7 @@ import hands        # desk's folder is on the path now
 from planners_desk.case import casefile
 from planners_desk.case import model
 from planners_desk.report import page
-from planners_desk.faces import review
+from planners_desk.sitting import judging
 from planners_desk.hints import sentences
 from planners_desk.sitting import session
 from planners_desk.hints import solver
@@ -174,7 +174,7 @@ def alone(one: session.Session, ending: model.Ending, every: list[model.Values],
         if got is not None and (not rule.violated(got) or any(other.violated(got) for other in others) or got in every):
             found.append(f"{rule.text}: {got} doesn't break it alone")
     for sentence in said:
-        shown = review.broken_alone(one, sentence, said)
+        shown = judging.broken_alone(one, sentence, said)
         can = any(rule.violated(plan) and not any(other.violated(plan) for other in rules if other is not rule)
                   for rule in sentence.rules[:4] for plan in plans)
         if sentence.follows != "all" and (shown is not None) != can:
@@ -230,7 +230,7 @@ def stuck(program: str) -> list[str]:
                 began = time.monotonic()
                 plans = solver.far(one.program, one.vocabulary, one.journal, 3, talk.Clock(1.5))
                 said = sentences.grouped(one.vocabulary, one.state().learned)
-                broken = review.broken_alone(one, said[0], said, clock=talk.Clock(1.5))
+                broken = judging.broken_alone(one, said[0], said, clock=talk.Clock(1.5))
                 took = time.monotonic() - began
             if len(plans) != 1 or broken is not None or took > 9:
                 found.append(f"{len(plans)} plans and {broken} after {took:.1f} s of 3")

@@ -37,7 +37,7 @@ PLANTED = [
     ("faces/goback.py", "super().__init__([place for place in places if may_go_back(session, place)], keys,",
      "super().__init__([place - 1 for place in places if may_go_back(session, place) and place], keys,"),
     # behind a broken plan only a single answer that explains it is shown
-    ("faces/review.py", "    if places or shown.rule is None:\n        return places", "    return places"),
+    ("sitting/judging.py", "    if places or plan.rule is None:\n        return places", "    return places"),
     # a second step back forgets what the first one took
     ("sitting/session.py", "*(self._aside.every if self._aside else ())", ""),
     # what decides the question that waits is dropped for good
@@ -45,9 +45,9 @@ PLANTED = [
     # letters stay at the first answers
     ("faces/goback.py", "self._first += len(self._letters)", "self._first += 0"),
     # rules that nobody saw kept don't come first
-    ("faces/review.py", "            if plans and said.unseen:", "            if False:"),
+    ("sitting/judging.py", "        if allowed and said.unseen:", "        if False:"),
     # cells that are pointed at are judged with all others
-    ("faces/review.py", "values = {thing: shown.values[thing] for thing in cells} if cells else shown.values", "values = shown.values"),
+    ("faces/review.py", "values = plan.meant(cells)", "values = plan.values"),
     # the answers behind a sentence are those about anything
     ("sitting/answers.py", "if asked in scopes and any(", "if any("),
     # a line that contradicts an answer leads nowhere

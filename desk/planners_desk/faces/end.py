@@ -7,20 +7,19 @@ from ..case.picture import Picture
 from ..hints import solver
 from ..hints.along import and_list
 from ..hints.sentences import Sentence, grouped
-from ..sitting import missing
-from ..sitting.answers import MOST_VALUES, answer_text, last_own, odd_ones
+from ..sitting import judging, missing
+from ..sitting.answers import MOST_VALUES, answer_text, last_own, odd_ones, open_lines
 from ..sitting.session import Session, said_by
 from . import views
 from .face import Block, Face, Sheet, patience
 from .goback import Choice, sure
-from .review import MISSING, Review, open_lines
+from .review import MISSING, Review
 
 ALL_SAID = "Nothing is left that your words can say and your answers don't decide. "
 LOOK = "What your words can't say wasn't asked: so look at some plans now."
 NO_SOLVER = "What your words can't say wasn't asked. For plans to look at, install a SAT solver: cadical, minisat or clasp."
 LIFTED = ("It may also be that no answer was wrong: {words} {speak} of fewer things than are asked about together, and in plan {plan} "
           "a right no to a part of a plan can then end so. In plan scopes it can't: `desk ask --plan scopes` in a new session.")
-MOST_CLASHES = 3            # that are drawn
 LAST = (("b", "back to the last answer"), ("s", "all answers"), ("q", "stop"))
 
 
@@ -64,7 +63,7 @@ class Collapse:
         """The clash and the suspects."""
         answers = self.session.answers
         blocks: list[Block] = [f"No rules that your words can say agree with all {len(answers)} answers. One was a slip, or a word is missing."]
-        for place in smallest(self.session, self.session.possible.clash())[:MOST_CLASHES]:
+        for place in judging.clashing(self.session):
             question = answers[place].question
             blocks += ["", f"You said no to question {question.number}, and what you accepted leaves no rule that refuses it:",
                        Picture(self.session.case, question.values)]
@@ -74,8 +73,8 @@ class Collapse:
                        for place in self.suspects]
         else:
             blocks += ["", "No single answer explains it: more than one was a slip, or a word is missing. Go back with b, one by one."]
-        lifted = [f"`{word}`" for word in self.session.vocabulary.lifted]
-        if lifted and self.session.plan != "scopes":
+        lifted = judging.lifted(self.session)
+        if lifted:
             blocks += ["", LIFTED.format(words=and_list(lifted), speak="speaks" if len(lifted) == 1 else "speak", plan=self.session.plan)]
         lacking = "If no answer was a slip, a word is missing. " + self.lacking[0]
         blocks += ["", lacking, *self.lacking[1:]]
@@ -85,12 +84,6 @@ class Collapse:
         """The person's last answer, where they want to go back to it."""
         place = last_own(self.session)
         return place if place is not None and sure(self.session, self.face, place) else None
-
-
-def smallest(session: Session, places: list[int]) -> list[int]:
-    """Of some refused answers those that hold no other of them."""
-    items = {place: set(session.answers[place].question.values.items()) for place in places}
-    return [place for place in places if not any(items[other] < items[place] for other in places)]
 
 
 # ---------------------------------------------------------------- rules
@@ -127,7 +120,7 @@ def undecided_lines(session: Session, ending: Ending) -> list[str]:
     """What was learned, and what isn't settled."""
     lines = rule_lines(grouped(session.vocabulary, ending.learned))
     lines += ["", "Not settled, since the search took too long; all else that is possible follows from the rules above:"]
-    return lines + [f"- {text}" for text in open_lines(ending.open, session)] + ["", "`desk ask --budget 10000000` looks for longer."]
+    return lines + [f"- {text}" for text in open_lines(session, ending.open)] + ["", "`desk ask --budget 10000000` looks for longer."]
 
 
 def print_last(session: Session, ending: Ending | None, rules: bool = True) -> None:

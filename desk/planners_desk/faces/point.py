@@ -35,11 +35,3 @@ def cells(session: Session, face: Face, values: Values) -> tuple[str, Things]:
         else:
             return key, tuple(sorted(chosen))
     return "o", tuple(sorted(chosen))
-
-
-def named(session: Session, values: Values) -> str:
-    """Cells by name: `Cy left 1 and Dürr left 2`."""
-    return " and ".join(
-        f"{session.case.things[thing].name} {session.case.label(value)}"
-        for thing, value in sorted(values.items())
-    )

@@ -14,11 +14,12 @@ from ..case import casefile, files
 from ..case.files import journal_of, kept_of
 from ..case.model import Case, Ending, Fault, Values
 from ..case.picture import CLASH, Cells, Grid, Picture, grid_of, sentence
-from ..faces import beforehand, review
+from ..faces import beforehand
 from ..hints import patterns, solver
 from ..hints.foreseen import AGAIN, ALWAYS, CARRIED
 from ..hints.sentences import Sentence, grouped
 from ..program.talk import Clock, Program
+from ..sitting import judging
 from ..sitting.answers import BY, yes_no
 from ..sitting.session import Session
 from .markup import Html, element, joined
@@ -179,7 +180,7 @@ def plans(session: Session, found: Sequence[Sentence], clock: Callable[[float], 
         return
     some = solver.far(session.program, session.vocabulary, session.journal, MOST_PLANS,
                       clock(SECONDS_FOR_PLANS))
-    shown = [drawn(session, plan.values, f"Plan {number}{review.apart_text(plan)}") for number, plan in enumerate(some, 1)]
+    shown = [drawn(session, plan.values, f"Plan {number}{judging.apart_text(plan)}") for number, plan in enumerate(some, 1)]
     hint = element("p", "If one of these is wrong, an answer was a slip, or the words of the case can't say why.", class_="dim")
     yield section("Plans that the rules allow", hint,
                   element("div", *shown, class_="side") if shown else element("p", "No plan was found that satisfies all rules."))
@@ -188,7 +189,7 @@ def plans(session: Session, found: Sequence[Sentence], clock: Callable[[float], 
     left.doing("looking for plans that break one rule alone")
     broken, without = [], []
     for said in found:
-        one = review.broken_alone(session, said, found, clauses, left)
+        one = judging.broken_alone(session, said, found, clauses, left)
         if one is None:
             without.append(rule(said))
         else:

@@ -10,6 +10,7 @@ from dataclasses import dataclass
 from ..case.model import Answer, Constraint, Question, Rule
 from ..case.picture import Picture, sentence
 from ..hints import patterns
+from ..hints.along import and_list
 from ..hints.patterns import Odd
 from .session import Session
 
@@ -108,3 +109,12 @@ def behind(session: Session, some: Sequence[Rule]) -> list[int]:
 def odd_ones(session: Session, learned: Sequence[Constraint]) -> list[Odd]:
     """The odd ones out among the groups on which all is settled."""
     return patterns.odd(session.vocabulary, learned, session.answers, session.possible.open)
+
+
+def open_lines(session: Session, constraints: Sequence[Constraint]) -> list[str]:
+    """Constraints that aren't settled, in sentences."""
+    words = session.vocabulary
+    return [
+        and_list([rule.text for rule in words.claims(constraint)] or [constraint.line])
+        for constraint in constraints
+    ]

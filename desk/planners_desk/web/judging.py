@@ -5,13 +5,13 @@ from __future__ import annotations
 from collections.abc import Iterator, Sequence
 
 from ..case.model import Ending, Fault, Values
-from ..case.picture import CHOSEN, KEPT
-from ..faces import end, point, review
+from ..case.picture import CHOSEN
 from ..hints import patterns, solver
 from ..hints.along import Things, and_list
 from ..hints.sentences import Sentence, grouped
-from ..sitting import missing
-from ..sitting.answers import behind, may_go_back, odd_ones
+from ..sitting import judging, missing
+from ..sitting.answers import behind, last_own, may_go_back, odd_ones, open_lines
+from ..sitting.judging import Plan
 from ..sitting.session import Session, said_by
 from . import reporting, sheets
 from .lines import given, latest, stopped
@@ -65,7 +65,7 @@ class Judging:
             step = self.owner.put(sheet)
             if self._chosen(step):
                 return step.place
-            if step.do == "b" and (last := self._last()) is not None:
+            if step.do == "b" and (last := last_own(self.session)) is not None:
                 return last
             if step.do == "q":
                 return stopped(self.session)
@@ -80,11 +80,9 @@ class Judging:
                 str(answers[place].question.number),
                 table_of(session.case, answers[place].question.values),
             )
-            for place in end.smallest(session, session.possible.clash())[: end.MOST_CLASHES]
+            for place in judging.clashing(session)
         ]
-        lifted = (
-            [f"`{word}`" for word in session.vocabulary.lifted] if session.plan != "scopes" else []
-        )
+        lifted = judging.lifted(session)
         said = (
             LIFTED.format(words=and_list(lifted), speak="speaks" if len(lifted) == 1 else "speak")
             if lifted
@@ -105,11 +103,6 @@ class Judging:
         """What a search for a word says, but for the words, which the page shows."""
         told = missing.told(self.session, search)
         return tuple(told if not search.words else told[:-1])
-
-    def _last(self) -> int | None:
-        """The person's last answer."""
-        places = [place for place, answer in enumerate(self.session.answers) if answer.said is None]
-        return places[-1] if places else None
 
     # ---- rules
 
@@ -165,7 +158,7 @@ class Judging:
     def _undecided(self, ending: Ending) -> Sheet:
         """What was learned, and what isn't settled."""
         found = grouped(self.session.vocabulary, ending.learned)
-        left = tuple(review.open_lines(ending.open, self.session))
+        left = tuple(open_lines(self.session, ending.open))
         while True:
             step = self.owner.put(
                 sheets.Undecided(
@@ -181,7 +174,7 @@ class Judging:
     def _plans(self, found: Sequence[Sentence]) -> int | None:
         """Has plans judged, one after the other; the place of an answer to go back to, or None."""
         try:
-            for shown in self._shown(found):
+            for shown in judging.plans(self.session, found, lambda most: reporting.clock(self.owner, most)):
                 done, place = self._one(shown)
                 if done or place is not None:
                     return place
@@ -190,36 +183,7 @@ class Judging:
         self._judged = True
         return None
 
-    def _shown(self, found: Sequence[Sentence]) -> Iterator[review.Shown]:
-        """Plans that keep rules which nobody has seen kept, plans that the rules allow, and for each sentence one that breaks it alone."""
-        session = self.session
-        clock = reporting.clock(self.owner, review.SECONDS_FOR_PLANS)
-        plans = solver.far(
-            session.program, session.vocabulary, session.journal, review.MOST_PLANS, clock
-        )
-        for said in found:
-            if plans and said.unseen:
-                yield review.Shown(
-                    plans[0].values,
-                    True,
-                    said.text,
-                    {thing: KEPT for rule in said.unseen for thing in rule.things},
-                    None,
-                )
-        for number, plan in enumerate(plans, 1):
-            yield review.Shown(
-                plan.values, True, f"Plan {number}" + review.apart_text(plan), {}, None
-            )
-        for said in found:
-            clock = reporting.clock(self.owner, review.SECONDS_FOR_ONE)
-            clock.doing("looking for a plan that breaks one rule alone")
-            broken = review.broken_alone(session, said, found, clock=clock)
-            if broken is not None:
-                yield review.Shown(
-                    broken.values, False, broken.rule.text, broken.marks, broken.rule
-                )
-
-    def _one(self, shown: review.Shown) -> tuple[bool, int | None]:
+    def _one(self, shown: Plan) -> tuple[bool, int | None]:
         """Has one plan judged: whether that was enough, and the place of an answer to go back to."""
         while True:
             do = self.owner.put(self._judge(shown)).do
@@ -234,7 +198,7 @@ class Judging:
             if do == "q":
                 return True, None
 
-    def _judge(self, shown: review.Shown) -> sheets.Judge:
+    def _judge(self, shown: Plan) -> sheets.Judge:
         """How a plan is put to the person."""
         table = table_of(self.session.case, shown.values, shown.marks)
         if shown.allowed and shown.marks:
@@ -257,14 +221,14 @@ class Judging:
             False,
         )
 
-    def _otherwise(self, shown: review.Shown) -> tuple[str, int | None]:
+    def _otherwise(self, shown: Plan) -> tuple[str, int | None]:
         """What can be done about a plan that the person judges otherwise: what they do, and the place to go back to."""
         do, cells = self._cells(shown)
         if do != "o":
             return do, None
         session = self.session
-        values = {thing: shown.values[thing] for thing in cells} if cells else shown.values
-        if places := review.behind(session, shown, values):
+        values = shown.meant(cells)
+        if places := judging.behind(session, shown, values):
             table = table_of(session.case, shown.values, {thing: CHOSEN for thing in cells})
             step = self.owner.put(
                 sheets.Behind(
@@ -277,10 +241,7 @@ class Judging:
                 return "back to", step.place
             if step.do != "o":
                 return step.do, None
-        if (
-            shown.rule is not None
-            and (shown.rule.word.text, shown.rule.things) in session.beforehand
-        ):
+        if judging.said_beforehand(session, shown):
             said = "It stands in the case among what you know beforehand. If it isn't so, take it out there; your other answers are taken over."
             return (
                 self.owner.put(
@@ -290,13 +251,12 @@ class Judging:
             )
         return self._missing(shown, values, cells), None
 
-    def _cells(self, shown: review.Shown) -> tuple[str, Things]:
+    def _cells(self, shown: Plan) -> tuple[str, Things]:
         """The cells of an allowed plan that are wrong, none where it isn't known or a rule says it; and what the person does."""
         most = max(self.session.vocabulary.arities)
-        if not shown.allowed:
-            return "o", ()
-        if 0 < len(shown.marks) <= most:
-            return "o", tuple(sorted(shown.marks))
+        known = shown.known_cells(most)
+        if known is not None:
+            return "o", known
         step = self.owner.put(
             sheets.Point(
                 "Which cells don't go together?", table_of(self.session.case, shown.values), most
@@ -304,19 +264,15 @@ class Judging:
         )
         return step.do, tuple(sorted(set(step.things) & set(shown.values)))[:most]
 
-    def _missing(self, shown: review.Shown, values: Values, cells: Things) -> str:
+    def _missing(self, shown: Plan, values: Values, cells: Things) -> str:
         """Looks for a word that can say what is wrong; what the person does."""
         self.owner.busy(LOOKING)
         search = missing.lacking(self.session, values, not shown.allowed)
         do = self.owner.put(
             sheets.Unsayable(
-                "Your words can't say this", (*self._lacking(search), review.STAYS), search.words
+                "Your words can't say this", (*self._lacking(search), judging.STAYS), search.words
             )
         ).do
         if do != "b":
-            self._unsayable[
-                f"{point.named(self.session, values)} (allowed, and wrong)"
-                if cells
-                else shown.title
-            ] = None
+            self._unsayable[judging.title_of(self.session, shown, cells)] = None
         return do
