@@ -172,9 +172,11 @@ class Web:
         reply = self.post(f"/ask/{name}/step", {"sheet": number, "do": do, **more})
         if reply.status != 303:
             return reply
-        page = self.settled(name)
-        late = "late=1" in reply.headers.get("location", "")
-        return Reply(page.status, {**page.headers, "late": "yes" if late else ""}, page.text)
+        location = reply.headers.get("location", "")
+        page = self.ask("GET", location)
+        if 'id="share"' in page.text:
+            page = self.settled(name)
+        return Reply(page.status, {**page.headers, "late": "yes" if "late=1" in location else ""}, page.text)
 
     def shows(self, name: str) -> list[str]:
         """The answers of a case's journal, as the program shows them."""

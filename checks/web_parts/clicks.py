@@ -1,0 +1,312 @@
+"""What happens in a real browser: one answer for one press, no other page's answer, and pages that everybody can read."""
+
+from __future__ import annotations
+
+import contextlib
+import http.server
+import threading
+import time
+from collections.abc import Iterator
+
+from browser import Browser
+from people import HOLIDAYS, SEATS, WARD
+from refused import CASE, EVIL
+from served import Web
+
+WIDTHS = (360, 800, 1600)
+LEAST_CONTRAST = 4.5
+HELD = 3.0              # seconds that a key is held
+FOLLOWS = 15.0          # seconds in which another tab follows
+
+Faults = Iterator[str]
+
+
+@contextlib.contextmanager
+def opened(program: str, cases: dict[str, str], name: str, **words: object) -> Iterator[tuple[Web, Browser]]:
+    """A server with a browser in front of the first question of a case."""
+    with Web(program, cases) as web, Browser(**words) as browser:
+        browser.go(f"file://{web.file}")
+        browser.wait(browser.head)
+        browser.go(f"http://{web.host}{web.path}/ask/{name}")
+        browser.click("Begin the questions")
+        browser.wait(lambda: "question" in browser.head())
+        web.enter()
+        yield web, browser
+
+
+def yes(web: Web, name: str = "x.case") -> int:
+    """How many answers the person has given with yes."""
+    return sum(line.endswith("yes") for line in web.shows(name))
+
+
+def presses(program: str) -> Faults:
+    """Buttons and keys answer once: also held, pressed twice, and clicked twice."""
+    with opened(program, {"x.case": WARD}, "x.case") as (web, browser):
+        before = browser.number()
+        browser.click("Yes")
+        before = browser.next_sheet(before)
+        if yes(web) != 1:
+            yield f"a click on Yes has given {yes(web)} answers"
+        time.sleep(0.3)
+        browser.key("y")
+        before = browser.next_sheet(before)
+        if yes(web) != 2:
+            yield f"the key y has given {yes(web) - 1} answers"
+        time.sleep(0.3)
+        browser.key("b")
+        before = browser.next_sheet(before)
+        if yes(web) != 1 or "taken back" not in browser.text():
+            yield f"the key b doesn't go back: {browser.text()[:200]!r}"
+        time.sleep(0.3)
+        end = time.monotonic() + HELD
+        first = True
+        while time.monotonic() < end:           # a key that is held
+            browser.driver.execute_cdp_cmd("Input.dispatchKeyEvent", {"type": "keyDown", "key": "y", "text": "y", "autoRepeat": not first})
+            first = False
+            time.sleep(0.03)
+        browser.driver.execute_cdp_cmd("Input.dispatchKeyEvent", {"type": "keyUp", "key": "y"})
+        browser.wait(lambda: browser.number() != before)
+        if yes(web) != 2:
+            yield f"a key that is held for {HELD:.0f} s has given {yes(web) - 1} answers"
+        time.sleep(0.3)
+        before, stand = browser.number(), len(web.shows("x.case"))
+        browser.driver.execute_script("const b=document.querySelector('button.yes'); b.click(); b.click(); b.click();")
+        browser.next_sheet(before)
+        time.sleep(0.5)
+        if yes(web) != 3 or "too late" in browser.text():
+            yield f"three clicks at once have given {yes(web) - 2} answers: {browser.text()[:200]!r}"
+        before, stand = browser.number(), len(web.shows("x.case"))
+        browser.driver.execute_script("const f=document.querySelector('button.yes').form; f.submit(); f.submit();")
+        browser.next_sheet(before)
+        if yes(web) != 4:
+            yield f"a form that is sent twice has given {yes(web) - 3} answers"
+        before, stand = browser.number(), len(web.shows("x.case"))
+        browser.driver.refresh()
+        browser.wait(browser.head)
+        if browser.number() != before or len(web.shows("x.case")) != stand:
+            yield "a reload changes something"
+        browser.driver.back()
+        browser.wait(lambda: browser.number() == before)
+        if len(web.shows("x.case")) != stand:
+            yield "a page of the history changes something"
+        if errors := browser.errors():
+            yield f"the browser complains: {errors}"
+
+
+def tabs(program: str) -> Faults:
+    """Two tabs show one sitting, the other one follows by itself, and a form of a page that stood still counts for nothing."""
+    with opened(program, {"x.case": WARD}, "x.case") as (web, browser):
+        one = browser.driver.current_window_handle
+        browser.driver.switch_to.new_window("tab")
+        browser.go(f"http://{web.host}{web.path}/ask/x.case")
+        two = browser.driver.current_window_handle
+        old = browser.wait(browser.number)
+        browser.driver.execute_script("window.fetch = () => new Promise(() => {});")    # this tab stands still from now on
+        browser.driver.switch_to.window(one)
+        browser.click("Yes")
+        now = browser.next_sheet(old)
+        stand = web.shows("x.case")
+        browser.driver.switch_to.window(two)
+        if browser.number() != old:
+            yield "the tab doesn't stand still"
+        browser.click("No")
+        browser.wait(lambda: "too late" in browser.text())
+        if web.shows("x.case") != stand or browser.number() != now:
+            yield "a form that came too late has changed something"
+        browser.go(f"http://{web.host}{web.path}/ask/x.case")
+        browser.driver.switch_to.window(one)
+        browser.does("Yes")
+        now = browser.number()
+        browser.driver.switch_to.window(two)
+        try:
+            browser.wait(lambda: browser.number() == now, FOLLOWS)
+        except AssertionError:
+            yield "the other tab doesn't follow"
+
+
+class Foreign(http.server.BaseHTTPRequestHandler):
+    """Another server of this machine, whose page tries what it can."""
+
+    page = ""
+    cookies: list[str] = []
+
+    def do_GET(self) -> None:       # pylint: disable=invalid-name # the library's name
+        """Gives the page, and keeps the cookies that came."""
+        self.cookies.append(self.headers.get("Cookie", ""))
+        self.send_response(200)
+        self.send_header("Content-Type", "text/html; charset=utf-8")
+        self.end_headers()
+        self.wfile.write(self.page.encode())
+
+    def log_message(self, *_: object) -> None:      # pylint: disable=arguments-differ
+        """Nothing is logged."""
+
+
+def foreign(program: str) -> Faults:
+    """A page of another server, at another name and at another port of this machine, can't answer, see or frame; nor gets it the cookie."""
+    with opened(program, {"x.case": WARD}, "x.case") as (web, browser), \
+            http.server.ThreadingHTTPServer(("127.0.0.1", 0), Foreign) as server:
+        threading.Thread(target=server.serve_forever, daemon=True).start()
+        step = f"http://{web.host}{web.path}/ask/x.case/step"
+        number = browser.number()
+        Foreign.page = f"""<!DOCTYPE html><h1>foreign</h1><p id=said></p>
+<iframe name=frame></iframe><iframe id=theirs src="http://{web.host}{web.path}/ask/x.case"></iframe>
+<form id=f target=frame method=post action="{step}"><input name=sheet value="{number}"><input name=do value=y></form>
+<script>
+document.getElementById('f').submit();
+const said=[];
+const data=new URLSearchParams({{sheet:'{number}',do:'y'}});
+Promise.allSettled([fetch('{step}',{{method:'POST',body:data,credentials:'include',mode:'no-cors'}}),
+ fetch('{step}',{{method:'POST',body:data,credentials:'include'}}).then(()=>said.push('posted')),
+ fetch('http://{web.host}{web.path}/ask/x.case',{{credentials:'include'}}).then(r=>r.text()).then(t=>said.push('read'))])
+ .then(()=>setTimeout(()=>{{let inside='';try{{inside=document.getElementById('theirs').contentDocument.body.innerText}}catch(e){{}}
+ document.getElementById('said').textContent='done '+said.join(' ')+(inside.includes('question')?' framed':'')}},500));
+</script>"""
+        stand = web.shows("x.case")
+        for host in ("127.0.0.1", "localhost"):
+            browser.go(f"http://{host}:{server.server_address[1]}/")
+            said = browser.wait(lambda: browser.text("#said"))
+            if said.strip() != "done":
+                yield f"a page at {host} could do this: {said}"
+            if web.shows("x.case") != stand:
+                yield f"a page at {host} has answered"
+        if any("desk=" in cookie for cookie in Foreign.cookies):
+            yield f"another server of this machine gets the cookie: {Foreign.cookies}"
+        browser.go(f"http://{web.host}{web.path}/ask/x.case")
+        if browser.wait(browser.number) != number:
+            yield "the sheet is another one"
+        server.shutdown()
+
+
+def names(program: str) -> Faults:
+    """Names with scripts in them do nothing."""
+    with opened(program, {"x.case": EVIL}, "x.case") as (_, browser):
+        for says in ("Yes", "No", "Yes", "No"):
+            if "question" in browser.head():
+                browser.does(says)
+        if browser.driver.title == "hit" or "<script>" not in browser.text():
+            yield f"a name is a script: {browser.driver.title!r} {browser.text()[:200]!r}"
+        if errors := browser.errors():
+            yield f"the browser complains: {errors}"
+
+
+def keyboard(program: str) -> Faults:
+    """The page is used by the keyboard alone, and what has the focus can be seen."""
+    from selenium.webdriver.common.keys import Keys
+    with opened(program, {"x.case": CASE}, "x.case") as (web, browser):
+        seen: list[str] = []
+        for _ in range(40):
+            browser.key(Keys.TAB)
+            where = browser.driver.execute_script(
+                "const e=document.activeElement, s=getComputedStyle(e); return [e.tagName, e.textContent.trim().split('\\n')[0], s.outlineStyle, s.outlineWidth];")
+            seen.append(where[1])
+            if where[0] in ("BUTTON", "A", "SUMMARY") and (where[2] == "none" or float(where[3].removesuffix("px")) < 2):
+                yield f"the focus at {where[1]!r} can't be seen"
+            if where[1].startswith("Yes"):
+                break
+        if not seen[0].startswith("To the content"):
+            yield f"the first stop is {seen[0]!r}"
+        if not seen[-1].startswith("Yes"):
+            yield f"Yes isn't reached: {seen}"
+            return
+        before = browser.number()
+        browser.key(Keys.ENTER)
+        browser.next_sheet(before)
+        if len(web.shows("x.case")) != 1:
+            yield "the Enter key on Yes doesn't answer"
+        while "question" in browser.head():
+            browser.does("No")
+            if "clash" in browser.head():
+                break
+
+
+READ = r"""
+const out=[], seen=new Map();
+const number=c=>{const m=c.match(/[\d.]+/g).map(Number);return m.length<4?[...m,1]:m;};
+const light=([r,g,b])=>{const f=v=>{v/=255;return v<=.03928?v/12.92:((v+.055)/1.055)**2.4;};return .2126*f(r)+.7152*f(g)+.0722*f(b);};
+const over=(a,b)=>{const t=a[3];return [0,1,2].map(i=>a[i]*t+b[i]*(1-t)).concat(1);};
+const page=matchMedia('(prefers-color-scheme: dark)').matches?[0,0,0,1]:[255,255,255,1];
+function ground(e){const all=[];for(;e;e=e.parentElement)all.unshift(number(getComputedStyle(e).backgroundColor));return all.reduce((b,c)=>over(c,b),page);}
+const walk=document.createTreeWalker(document.body,NodeFilter.SHOW_TEXT);
+while(walk.nextNode()){const e=walk.currentNode.parentElement;if(!walk.currentNode.textContent.trim()||!e.checkVisibility()||e.closest('.unseen,.skip,script,noscript'))continue;
+ const s=getComputedStyle(e), b=ground(e), t=over(number(s.color),b), x=light(t), y=light(b), c=(Math.max(x,y)+.05)/(Math.min(x,y)+.05);
+ if(c<LEAST)out.push(e.tagName+' "'+walk.currentNode.textContent.trim().slice(0,30)+'" has contrast '+c.toFixed(1));}
+const heads=[...document.querySelectorAll('h1,h2,h3,h4')].filter(h=>h.checkVisibility()).map(h=>+h.tagName[1]);
+if(heads.filter(h=>h===1).length!==1||heads[0]!==1)out.push('headings '+heads);
+heads.forEach((h,i)=>{if(i&&h>heads[i-1]+1)out.push('heading '+h+' after '+heads[i-1]);});
+if(document.documentElement.lang!=='en')out.push('no language');
+for(const name of ['main','nav','header'])if(document.querySelectorAll(name).length<1)out.push('no '+name);
+for(const e of document.querySelectorAll('input:not([type=hidden]),select,textarea'))if(!e.labels.length&&!e.getAttribute('aria-label')&&!e.getAttribute('aria-labelledby'))out.push('no label at '+e.outerHTML.slice(0,80));
+for(const e of document.querySelectorAll('button,a,summary'))if(!e.textContent.trim()&&!e.getAttribute('aria-label'))out.push('no name at '+e.outerHTML.slice(0,80));
+for(const e of document.querySelectorAll('th'))if(!e.scope)out.push('no scope at '+e.textContent);
+for(const e of document.querySelectorAll('progress'))if(!e.labels.length&&!e.getAttribute('aria-labelledby')&&!e.getAttribute('aria-label'))out.push('no label at a bar');
+const ids=[...document.querySelectorAll('[id]')].map(e=>e.id);ids.filter((id,i)=>ids.indexOf(id)!==i).forEach(id=>out.push('twice the id '+id));
+for(const e of document.querySelectorAll('[aria-labelledby]'))for(const id of e.getAttribute('aria-labelledby').split(' '))if(!ids.includes(id))out.push('no '+id);
+if(document.documentElement.scrollWidth>innerWidth)out.push('it is '+document.documentElement.scrollWidth+' wide in '+innerWidth);
+for(const e of document.querySelectorAll('button,a.button'))if(e.checkVisibility()){const r=e.getBoundingClientRect();if(r.height<24)out.push('"'+e.textContent.trim()+'" is '+r.height+' high');}
+return out;
+""".replace("LEAST", str(LEAST_CONTRAST))
+
+
+def looked_at(browser: Browser, what: str) -> Faults:
+    """A page at each width, light and dark."""
+    for width in WIDTHS:
+        for dark in (False, True):
+            browser.sized(width, 900, dark)
+            for fault in dict.fromkeys(browser.driver.execute_script(READ)):
+                yield f"{what} at {width}{' dark' if dark else ''}: {fault}"
+    browser.sized(1000, 900)
+
+
+def read(program: str) -> Faults:
+    """Each page of a sitting can be read at three widths, light and dark, by its headings and labels, and with contrast."""
+    for text, wrong in ((SEATS.replace("different table, ", "").replace("scopes", "quacq"), True), (WARD, False), (HOLIDAYS, False)):
+        with opened(program, {"x.case": text}, "x.case") as (_, browser):
+            kinds = set()
+            for turn in range(300):
+                kind = browser.driver.execute_script("return document.querySelector('h1').textContent").split(":")[0].rstrip("0123456789")
+                if kind not in kinds or turn == 12:
+                    kinds.add(kind)
+                    yield from looked_at(browser, kind)
+                if "question" in browser.head():
+                    browser.does("Yes" if turn % 3 and not (wrong and turn % 5 == 4) else "No")
+                    continue
+                if "clash" in browser.head() or "Done" in browser.head():
+                    break
+            if "Done" in browser.head():
+                yield from judged(browser)
+            if errors := browser.errors():
+                yield f"the browser complains: {errors}"
+
+
+def judged(browser: Browser) -> Faults:
+    """The pages of the end."""
+    browser.does("Look at plans")
+    for _ in range(60):
+        kind = browser.head()
+        yield from looked_at(browser, kind)
+        if "Done" in kind:
+            break
+        for says in ("No, ", "No", "These are", "None of", "Go on", "Enough"):
+            if browser.button(says) and browser.button(says).tag_name == "button":
+                browser.does(says)
+                break
+        if browser.button("Yes") and browser.head() != kind:
+            browser.does("Yes")
+    browser.does("Report")
+    yield from looked_at(browser, "the report")
+
+
+TESTS = (presses, tabs, foreign, names, keyboard, read)
+PLANTED = (
+    ("static/page.js", "event.repeat || ", "", presses),
+    ("sittings.py", "            if number != self._number or self._over:\n", "            if self._over:\n", tabs),
+    ("static/page.js", "location.replace(body.dataset.page);", "", tabs),
+    ("security.py", 'if request.headers.get("Origin") != known.origin or site != "same-origin":', "if False:", foreign),
+    ("entrance.py", "path=self._known.path, ", "", foreign),
+    ("templates/sitting.html", "{% block title %}{{ sheet.head }}", "{% block title %}{{ sheet.head|safe }}", names),
+    ("static/style.css", ":focus-visible { outline: 3px solid var(--link); outline-offset: 2px; }", ":focus-visible { outline: none; }", keyboard),
+    ("static/style.css", "--dim: #566072", "--dim: #9aa3b0", read),
+    ("templates/question.html", "<label for=\"bar\">", "<label>", read),
+    ("static/style.css", ".wide { overflow-x: auto; max-width: 100%;", ".wide {", read),
+)
