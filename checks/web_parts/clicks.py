@@ -9,10 +9,32 @@ import time
 from collections.abc import Iterator
 
 from browser import Browser
-from people import HOLIDAYS, SEATS, WARD
+from people import WARD
 from refused import CASE, EVIL
 from served import Web
 
+GRID = """title: Two days
+things: day Mon Tue x shift early late night
+values: Ann Ben
+ask: same day
+words: different, never Ann
+always: different on Mon early - Mon late
+plan: scopes
+"""
+LIST = """title: Weeks
+things: Ana Bea Cem
+values: week1 .. week3
+ask: all
+words: different, before
+plan: scopes
+"""
+QUARREL = """title: Seats
+things: Ada Bo Cy Eve
+values: table left right x seat 1 2
+ask: all
+words: different, same table, next to
+plan: quacq
+"""
 WIDTHS = (360, 800, 1600)
 LEAST_CONTRAST = 4.5
 HELD = 3.0              # seconds that a key is held
@@ -260,19 +282,16 @@ def looked_at(browser: Browser, what: str) -> Faults:
 
 def read(program: str) -> Faults:
     """Each page of a sitting can be read at three widths, light and dark, by its headings and labels, and with contrast."""
-    for text, wrong in ((SEATS.replace("different table, ", "").replace("scopes", "quacq"), True), (WARD, False), (HOLIDAYS, False)):
+    for text, answers in ((GRID, "YYYN"), (LIST, "YN"), (QUARREL, "N")):
         with opened(program, {"x.case": text}, "x.case") as (_, browser):
-            kinds = set()
-            for turn in range(300):
-                kind = browser.driver.execute_script("return document.querySelector('h1').textContent").split(":")[0].rstrip("0123456789")
-                if kind not in kinds or turn == 12:
-                    kinds.add(kind)
-                    yield from looked_at(browser, kind)
-                if "question" in browser.head():
-                    browser.does("Yes" if turn % 3 and not (wrong and turn % 5 == 4) else "No")
-                    continue
-                if "clash" in browser.head() or "Done" in browser.head():
-                    break
+            yield from looked_at(browser, "the first question")
+            turn = 0
+            while "question" in browser.head():
+                if turn == 3:
+                    yield from looked_at(browser, "a question")
+                browser.does("Yes" if answers[turn % len(answers)] == "Y" else "No")
+                turn += 1
+            yield from looked_at(browser, browser.head())
             if "Done" in browser.head():
                 yield from judged(browser)
             if errors := browser.errors():
@@ -280,19 +299,20 @@ def read(program: str) -> Faults:
 
 
 def judged(browser: Browser) -> Faults:
-    """The pages of the end."""
+    """The pages of the end: a plan that is said to be wrong, one that the rules refuse, and the report."""
     browser.does("Look at plans")
-    for _ in range(60):
-        kind = browser.head()
-        yield from looked_at(browser, kind)
-        if "Done" in kind:
-            break
-        for says in ("No, ", "No", "These are", "None of", "Go on", "Enough"):
-            if browser.button(says) and browser.button(says).tag_name == "button":
-                browser.does(says)
-                break
-        if browser.button("Yes") and browser.head() != kind:
-            browser.does("Yes")
+    kinds = set()
+    while "Done" not in browser.head():
+        kind = browser.head().rstrip("0123456789.")[:12]
+        if kind not in kinds:
+            kinds.add(kind)
+            yield from looked_at(browser, browser.head())
+            for says in ("No", "These are", "None of", "Go on"):
+                if (found := browser.button(says)) is not None and found.tag_name == "button":
+                    browser.does(says)
+                    break
+        else:
+            browser.does("Enough")
     browser.does("Report")
     yield from looked_at(browser, "the report")
 
