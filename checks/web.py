@@ -25,7 +25,7 @@ from concurrent.futures import ThreadPoolExecutor
 HERE = os.path.dirname(os.path.realpath(__file__))
 PARTS_FOLDER = os.path.join(HERE, "web_parts")
 DESK = os.path.join(os.path.dirname(HERE), "desk")
-PARTS = ("refused", "sittings", "clicks", "pace")
+PARTS = ("plays", "clicks", "sittings", "refused", "pace")
 IN_A_BROWSER = ("clicks", "plays")
 # what has to be there: a module or a command, and the Debian package that has it
 MODULES = {"flask": "python3-flask", "waitress": "python3-waitress", "selenium": "python3-selenium"}

@@ -19,7 +19,11 @@ class Person:
     name: str                           # of the file
     text: str
     judge: Callable[[Shown], bool]
-    rules: tuple[str, ...] = ()         # as the page says them at the end
+    rules: tuple[str, ...] = ()         # as the page says them at the end, or a part of each
+
+    def of(self, key: str) -> str:
+        """What a line of the case says; nothing where there is none."""
+        return next((line.partition(": ")[2] for line in self.text.splitlines() if line.startswith(f"{key}: ")), "")
 
 
 def pairs(shown: Shown, some: list[tuple[str, str]], good: Callable[[str, str], bool]) -> bool:
@@ -140,5 +144,10 @@ def store(shown: Shown) -> bool:
             and pairs(shown, far, lambda one, other: abs(int(one[5:]) - int(other[5:])) >= 2))
 
 
-EVERY = (Person("ward.case", WARD, ward), Person("seats.case", SEATS, seats), Person("conference.case", CONFERENCE, conference),
-         Person("holidays.case", HOLIDAYS, holidays), Person("store.case", STORE, store))
+EVERY = (
+    Person("ward.case", WARD, ward, ("early, late and night differ", "night and early on the next day differ", "night is never Ann")),
+    Person("seats.case", SEATS, seats, ("Ada and Bo have the same table", "Cy and Dürr have a different table", "Eve and Fay are next to each other")),
+    Person("conference.case", CONFERENCE, conference, ("opening has an earlier hour than each of", "maths and stars have a different hour")),
+    Person("holidays.case", HOLIDAYS, holidays, ("each two of Ana, Bea and Cem differ", "Ana and Dan are the same")),
+    Person("store.case", STORE, store, ("each of nitric-acid and sulfuric-acid differs from each of bleach, ammonia and lye", "sodium and water are at least 2 apart")),
+)

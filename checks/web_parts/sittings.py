@@ -268,7 +268,7 @@ PLANTED = (
     ("sittings.py", "            if not self._waits or self._step is not None:\n", "            if self._over:\n", once),
     ("sittings.py", "field(default_factory=lambda: secrets.randbelow(NUMBERS))", "0", once),
     ("sittings.py", "            if owner is None or owner.state().over:\n", "            if True:\n", one_writer),
-    ("entrance.py", "                self._folder.cleanup()\n", "                pass\n", ended),
+    ("serve.py", "(signal.SIGTERM, signal.SIGHUP)", "()", ended),
     ("server.py", "    quiet()\n", "", quiet),
     ("reporting.py", "owner.busy(text, 1 - made.left / seconds, True)", "None", alive),
 )

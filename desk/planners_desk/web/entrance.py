@@ -81,7 +81,7 @@ class Entrance:
             return True
 
     def blueprint(self, first: str) -> Blueprint:
-        """The page behind the token, which leads on to a first page."""
+        """The page behind the token, which leads on to a case, or where none is named to all."""
         made = Blueprint("entrance", __name__)
 
         @made.get("/enter")
@@ -90,9 +90,8 @@ class Entrance:
             known = same(request.cookies.get(COOKIE, ""), self._known.key)
             if not known and not self.takes(request.args.get("token", "")):
                 raise Forbidden(USED)
-            response = make_response(
-                render_template("enter.html", first=first or url_for("cases.index"))
-            )
+            page = url_for("cases.show", name=first) if first else url_for("cases.index")
+            response = make_response(render_template("enter.html", first=page))
             response.set_cookie(
                 COOKIE, self._known.key, path=self._known.path, httponly=True, samesite="Strict"
             )
