@@ -23,7 +23,7 @@ PLANTED = [
     ("case/catalogue.py", "    if meant:\n        return synonyms.hint(meant)\n", ""),
     ("case/groups.py", "    if meant_form:\n        return synonyms.hint(meant_form)\n", ""),
     ("case/casefile.py", "        self._missing()\n", ""),
-    ("case/casefile.py", "sorted(self.faults, key=lambda fault: fault[0] or len(self.text))", "self.faults"),
+    ("case/casefile.py", "sorted(self.faults, key=lambda fault: fault.line or len(self.text))", "self.faults"),
     ("case/casefile.py", "for piece in self._pieces(key):\n", "for piece in self._pieces(key)[:1]:\n"),
     ("case/names.py", "return None if ranged and _of_a_kind(first, others[0]) else Heading", "return None if ranged else Heading"),
     ("case/names.py", "return None if ranged and _of_a_kind(first, others[0]) else Heading", "return Heading"),
@@ -41,7 +41,7 @@ FAULTS = [
     ("only: a\n", ":1: no such key: only; the nearest is `only NAME`"),
     ("title: x\n", ": there are no things: a line such as `things: maths english sport` is missing\n"
      "it.case: there are no values: a line such as `values: Ann Ben Cas` is missing\n"
-     "it.case: there are no words: a line such as `words: different, before` is missing; `desk words` lists all\n"
+     "it.case: there are no words: a line such as `words: different, before` is missing\n"
      "it.case: nothing is asked about: a line such as `ask: all` is missing"),
     ("thigns: a b\nvalues: 1 2\nwrods: same\nask all\n", ":1: no such key: thigns; the nearest is `things`\n"
      "it.case:3: no such key: wrods; the nearest is `words`\nit.case:4: a line is `key: text`; the nearest is `ask`"),
@@ -88,7 +88,7 @@ FAULTS = [
     (WARD + "ask: sam day\nwords: different\n", ":3: `sam day` isn't a way to put things together; the nearest is `same day`"),
     (WARD + "ask: nigth to next day early\nwords: different\n", ":3: `nigth to next day early` isn't a way to put things together; the nearest is `night to next day early`"),
     (WARD + "ask: Mon early - Tue erly\nwords: different\n", ":3: no such thing: Tue erly; the nearest is `Tue early`"),
-    (WARD + "ask: same day\n", ": there are no words: a line such as `words: different, before` is missing; `desk words` lists all"),
+    (WARD + "ask: same day\n", ": there are no words: a line such as `words: different, before` is missing"),
     (WARD + "words: different\n", ": nothing is asked about: a line such as `ask: all` is missing"),
     (WARD + "ask: same day\nwords: diferent\n", ":4: the word `diferent` isn't in the catalogue; the nearest is `different`"),
     (WARD + "ask: same day\nwords: different, never An\n", ":4: the word `never An` isn't in the catalogue; the nearest is `never Ann`"),
@@ -109,7 +109,7 @@ FAULTS = [
      ": always: \"maths, english and sport aren't all the same\" can't be learned: `ask` doesn't put maths - english - sport together; "
      "add `maths - english - sport` to `ask`" + KNOWN),
     (LIST + "ask: all\nwords: different\nknown: nobody works on Sunday\n",
-     ":5: the word `nobody works` isn't in the catalogue; `desk words` lists all; what can't be looked for in a plan goes into a line `note`"),
+     ":5: the word `nobody works` isn't in the catalogue; what can't be looked for in a plan goes into a line `note`"),
     (LIST + "ask: all\nwords: different\nknown: no long days\n", ":5: `no long days` can't be looked for in a plan: there are " + FORMS),
     (LIST + "ask: all\nwords: different\nknown: at most two of them 9\nknown: at most 2 alike on maths - sprot\n",
      ":5: no such value: 9\nit.case:6: `maths - sprot`: counted is `on all`, `on same day` or on things, as `on maths - sport`; the nearest is `sport`"),

@@ -29,7 +29,7 @@ from planners_desk.report import page
 from planners_desk.sitting import session
 from planners_desk.program import talk
 from hands import DESK, journal
-from planners_desk.case.model import Fault
+from planners_desk.case.model import Fault, Way
 
 KILLS = int(os.environ.get("DESK_KILLS", "24"))
 OLD = """things: a b c d
@@ -259,7 +259,7 @@ def told(program: str, path: str) -> list[str] | None:
                     for answer in one.answers
                 ]
         except Fault as fault:
-            if "desk carry" in str(fault):
+            if Way.CARRY in fault.ways:
                 return None
             if "another desk works on it" not in str(fault) or time.monotonic() > patience:
                 raise

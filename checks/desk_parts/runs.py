@@ -15,6 +15,7 @@ import tempfile
 from collections.abc import Callable
 
 from planners_desk.case import casefile
+from planners_desk.faces import ways
 import drawn
 from planners_desk.case.model import Answer, Fault, Values
 from planners_desk.sitting.session import Session, journal_of
@@ -177,7 +178,7 @@ def changed(program: Program, folder: str) -> list[str]:
             with Session.opened(casefile.read(path), program):
                 return ""
         except Fault as fault:
-            return str(fault)
+            return "; ".join(ways.lines(fault))
     for said, change in (
             ("its values are others", lambda text: text.replace("Ann Ben", "Ben Ann")),
             ("its values are others", lambda text: text.replace("Ann", "Anna")),

@@ -11,6 +11,7 @@ import traceback
 from .case import catalogue
 from .case.model import PLANS, Fault
 from .commands import handout, streams
+from .faces import ways
 from .program import repository
 
 USAGE = f"""desk finds the rules of a plan: you look at examples and say whether they are all right.
@@ -157,8 +158,8 @@ def main() -> int:
 
 def told(error: Exception) -> int:
     """Says why desk can't go on, a line for each thing that has to be mended; the exit status."""
-    for text in (error if isinstance(error, Fault) else Fault(streams.reason(error))).texts:
-        print(f"desk: {text}", file=sys.stderr)
+    for line in ways.lines(error if isinstance(error, Fault) else Fault(streams.reason(error))):
+        print(f"desk: {line}", file=sys.stderr)
     if sys.flags.dev_mode:
         traceback.print_exception(error)
     return 1

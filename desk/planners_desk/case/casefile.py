@@ -26,7 +26,7 @@ from dataclasses import dataclass
 from typing import TypeVar
 
 from . import catalogue, counts, files, groups, letters, names
-from .model import MOST_VALUES, PLANS, Case, Fault, Group, Known, Part, Rule, Thing, Word
+from .model import MOST_VALUES, PLANS, Case, Fault, Group, Known, Part, Rule, Thing, Way, Word
 
 KEYS = ("title", "things", "values", "ask", "words", "always", "known", "note", "plan", "thing NAME", "only NAME")
 MOST_THINGS = 128       # of the program
@@ -54,6 +54,15 @@ class Piece:
 
     line: Line
     text: str
+
+
+@dataclass(frozen=True)
+class Told:
+    """A fault of the case, with its line; 0 where a line is missing."""
+
+    line: int
+    text: str
+    way: Way | None = None
 
 
 def read(path: str) -> Case:
@@ -85,7 +94,7 @@ class _Reader:
         self.values: list[str] = []
         self.thing_parts: tuple[Part, ...] = ()
         self.value_parts: tuple[Part, ...] = ()
-        self.faults: list[tuple[int, str]] = []     # with their lines; 0 where a line is missing
+        self.faults: list[Told] = []
 
     def case(self) -> Case:
         """Reads all lines, the things first, since others name them; one fault that has all that can be told at once."""
@@ -113,15 +122,16 @@ class _Reader:
     def _tell(self) -> None:
         """One fault that has all that were found so far, by their lines; what is missing comes last."""
         if self.faults:
-            raise Fault(*(f"{self.path}:{line}: {text}" if line else f"{self.path}: {text}"
-                          for line, text in sorted(self.faults, key=lambda fault: fault[0] or len(self.text))))
+            some = sorted(self.faults, key=lambda fault: fault.line or len(self.text))
+            raise Fault(*(f"{self.path}:{one.line}: {one.text}" if one.line else f"{self.path}: {one.text}" for one in some),
+                        ways=[one.way for one in some])
 
     def _try(self, read: Callable[[], Read]) -> Read | None:
         """Reads something; its fault is kept, so that others can be told with it."""
         try:
             return read()
         except Fault as fault:
-            self.faults.append((self.line_number, str(fault)))
+            self.faults.append(Told(self.line_number, str(fault), fault.ways[0]))
             if len(self.faults) == MOST_FAULTS:
                 self._tell()
             return None
@@ -187,13 +197,13 @@ class _Reader:
     def _missing(self) -> None:
         """Adds a fault for each key without which there is no case."""
         if not self._of("things", "thing"):
-            self.faults.append((0, "there are no things: a line such as `things: maths english sport` is missing"))
+            self.faults.append(Told(0, "there are no things: a line such as `things: maths english sport` is missing"))
             if not self._of("values"):
-                self.faults.append((0, "there are no values: a line such as `values: Ann Ben Cas` is missing"))
+                self.faults.append(Told(0, "there are no values: a line such as `values: Ann Ben Cas` is missing"))
         if not self._of("words"):
-            self.faults.append((0, "there are no words: a line such as `words: different, before` is missing; `desk words` lists all"))
+            self.faults.append(Told(0, "there are no words: a line such as `words: different, before` is missing", Way.WORDS))
         if not self._of("ask") and not any("=" in line.text for line in self._of("words")):
-            self.faults.append((0, "nothing is asked about: a line such as `ask: all` is missing"))
+            self.faults.append(Told(0, "nothing is asked about: a line such as `ask: all` is missing"))
 
     def _pieces(self, key: str) -> list[Piece]:
         """What stands between commas in all lines of a key."""

@@ -12,7 +12,7 @@ from collections.abc import Callable, Iterator, Sequence
 from dataclasses import dataclass
 
 from . import names, synonyms
-from .model import Fault, Part, Thing, Word
+from .model import Fault, Part, Thing, Way, Word
 
 NUMBERS = {"one": 1, "two": 2, "three": 3, "four": 4}
 COUNTED = {number: text for text, number in NUMBERS.items()}
@@ -119,7 +119,8 @@ def word(setting: Setting, text: str) -> Word:
     text = " ".join(text.split())
     made = _made(setting, text)
     if made is None:
-        raise Fault(f"the word `{text}` isn't in the catalogue{_near(setting, text)}")
+        near = _near(setting, text)
+        raise Fault(f"the word `{text}` isn't in the catalogue{near}", ways=[None if near else Way.WORDS])
     return made
 
 
@@ -388,7 +389,7 @@ def _forms(setting: Setting) -> Iterator[str]:
 
 
 def _near(setting: Setting, text: str) -> str:
-    """The form that is meant, else the nearest by letters, and where to find all."""
+    """The form that is meant, else the nearest by letters, where there is one."""
     named = synonyms.about(text, [thing.name for thing in setting.things], lambda middle: _meant(setting, middle))
     if named:
         word, one, other = named
@@ -399,4 +400,4 @@ def _near(setting: Setting, text: str) -> str:
         return synonyms.hint(meant)
     if setting.value_parts and re.fullmatch(r"at (least|most) \d+ apart", text):
         return f"; in a grid it is counted in a part: `{text.removesuffix(' apart')} {setting.value_parts[0].name} apart`"
-    return names.nearest(text, _forms(setting)) or "; `desk words` lists all"
+    return names.nearest(text, _forms(setting))

@@ -42,7 +42,7 @@ def known(setting: catalogue.Setting, parts: Sequence[Part], text: str) -> Known
         word = catalogue.word(setting, head)
     except Fault as fault:
         raise Fault(
-            f"{fault}; what can't be looked for in a plan goes into a line `note`"
+            f"{fault}; what can't be looked for in a plan goes into a line `note`", ways=fault.ways
         ) from None
     if word.things:
         raise Fault(f"`{word.text}` names its things: leave `on {phrase}` out")

@@ -7,8 +7,9 @@ one list of values; which of them a thing may take is in `Thing.allowed`. Number
 
 from __future__ import annotations
 
-from collections.abc import Callable
+from collections.abc import Callable, Sequence
 from dataclasses import dataclass, field
+from enum import Enum
 
 from . import letters
 
@@ -20,14 +21,25 @@ MOST_RELATIONS = 64
 Values = dict[int, int]
 
 
+class Way(Enum):
+    """What can be done about a fault. No text names it: a face adds its command, or its button."""
+
+    ASK = "put the questions of the case"
+    CARRY = "take the answers over into a new session"
+    WORDS = "look at all words of the catalogue"
+
+
 class Fault(Exception):
     """What the person has to mend; each text is one thing, for them, and begins with file and line where there are some.
 
     Each is a line that may be printed, whatever stands in the file that it is about.
     """
 
-    def __init__(self, *texts: str) -> None:
+    def __init__(self, *texts: str, ways: Sequence[Way | None] = (), path: str = "") -> None:
+        """Takes the texts, with what can be done about each where there is something, and the path of the case for that."""
         self.texts = tuple(letters.shown("; ".join(text.split("\n"))) for text in texts)
+        self.ways = tuple(ways) or (None,) * len(texts)
+        self.path = path
         super().__init__("\n".join(self.texts))
 
 

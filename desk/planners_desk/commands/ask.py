@@ -11,12 +11,13 @@ from types import FrameType
 
 from ..case import casefile
 from ..case.model import Ending, Fault
-from ..faces import beforehand, end
+from ..faces import end, ways
 from ..faces.face import Face, moving
 from ..faces.plain import Lines
 from ..faces.questions import Questions
 from ..hints import trials
 from ..program.talk import Clock, Program
+from ..sitting.answers import contradicted
 from ..sitting.asking import Asking
 from ..sitting.session import Session
 from . import streams
@@ -40,7 +41,7 @@ def main(path: str, options: argparse.Namespace) -> int:
                 face.close()
                 end.print_last(session, ending, not face.stays)
                 if session.against():
-                    print(beforehand.text(session))
+                    print(*ways.lines(contradicted(session)))
                 sys.stdout.flush()
             except Exception as error:
                 raise Fault(f"{streams.reason(error)}; {kept(session)}") from error

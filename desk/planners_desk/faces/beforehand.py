@@ -3,7 +3,7 @@ before anything else is asked."""
 
 from __future__ import annotations
 
-from ..case.picture import CLASH, Picture, sentence
+from ..case.picture import CLASH, Picture
 from ..sitting.session import Session
 from .face import Face, Sheet
 
@@ -16,18 +16,6 @@ OUT = (
     "If your answer is right, stop, and take the line out of the case, or narrow it; the session "
     "then goes on as it was."
 )
-
-
-def text(session: Session) -> str:
-    """The first contradiction in one line, with both ways out."""
-    place, rule = session.against()[0]
-    question, path = session.answers[place].question, session.case.path
-    shown = Picture(session.case, {thing: question.values[thing] for thing in sorted(rule.things)})
-    return (
-        f"{path}: a line `always` says that {rule.text}, and your yes to question "
-        f"{question.number} ({sentence(shown)}) says otherwise. `desk ask {path}` goes back to that answer; "
-        "if the answer is right, take the line out, and the session goes on as it was"
-    )
 
 
 def way_out(session: Session, face: Face) -> int | None:

@@ -10,7 +10,7 @@ from ..hints.sentences import Sentence, grouped
 from ..sitting import judging, missing
 from ..sitting.answers import MOST_VALUES, answer_text, last_own, odd_ones, open_lines
 from ..sitting.session import Session, said_by
-from . import views
+from . import views, ways
 from .face import Block, Face, Sheet, patience
 from .goback import Choice, sure
 from .review import MISSING, Review
@@ -44,7 +44,7 @@ class Collapse:
         self.suspects = session.possible.suspects()
         self.choice = Choice(session, self.suspects, LAST)
         with patience(face, "looking for a word that would explain the answers .."):
-            self.lacking = missing.told(session, missing.lacking(session))
+            self.lacking = ways.lacking(session, missing.lacking(session))
 
     def run(self) -> int | None:
         """The place of the answer to go back to, or None."""

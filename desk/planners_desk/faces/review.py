@@ -20,7 +20,7 @@ from ..sitting import judging, missing
 from ..sitting.answers import MOST_VALUES, answer_text
 from ..sitting.judging import Plan
 from ..sitting.session import Session
-from . import point
+from . import point, ways
 from .face import Face, Sheet, moving, patience
 from .goback import Choice
 
@@ -85,7 +85,7 @@ class Review:
             return self.face.put(Sheet("You said this rule beforehand", (told,), keys=UNSAYABLE)), None
         with patience(self.face, "looking for a word that can say it .."):
             search = missing.lacking(self.session, values, not plan.allowed)
-        lines = (*missing.told(self.session, search), "", judging.STAYS)
+        lines = (*ways.lacking(self.session, search), "", judging.STAYS)
         key = self.face.put(Sheet("Your words can't say this", lines, keys=UNSAYABLE))
         if key != "b":
             self.unsayable.append(judging.title_of(self.session, plan, cells))

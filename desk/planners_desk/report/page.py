@@ -14,13 +14,12 @@ from ..case import casefile, files
 from ..case.files import journal_of, kept_of
 from ..case.model import Case, Ending, Fault, Values
 from ..case.picture import CLASH, Cells, Grid, Picture, grid_of, sentence
-from ..faces import beforehand
 from ..hints import patterns, solver
 from ..hints.foreseen import AGAIN, ALWAYS, CARRIED
 from ..hints.sentences import Sentence, grouped
 from ..program.talk import Clock, Program
 from ..sitting import judging
-from ..sitting.answers import BY, yes_no
+from ..sitting.answers import BY, contradicted, yes_no
 from ..sitting.session import Session
 from .markup import Html, element, joined
 from .style import STYLE
@@ -50,7 +49,7 @@ def main(path: str, options: argparse.Namespace) -> int:
     files.may_be_replaced(beside, is_certificate, "a certificate")
     with Session.opened(case, Program.found(options.acquire), make=False) as session:
         if session.against():
-            raise Fault(beforehand.text(session))
+            raise contradicted(session)
         ending = session.state()
         certificate = certified(session, ending, beside)
         made = {certificate.name: certificate.content} if certificate else {}

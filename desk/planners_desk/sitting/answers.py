@@ -7,7 +7,7 @@ from collections import Counter
 from collections.abc import Sequence
 from dataclasses import dataclass
 
-from ..case.model import Answer, Constraint, Question, Rule
+from ..case.model import Answer, Constraint, Fault, Question, Rule, Way
 from ..case.picture import Picture, sentence
 from ..hints import patterns
 from ..hints.along import and_list
@@ -118,3 +118,17 @@ def open_lines(session: Session, constraints: Sequence[Constraint]) -> list[str]
         and_list([rule.text for rule in words.claims(constraint)] or [constraint.line])
         for constraint in constraints
     ]
+
+
+def contradicted(session: Session) -> Fault:
+    """The first answer that a line `always` contradicts, which was added later."""
+    place, rule = session.against()[0]
+    question, path = session.answers[place].question, session.case.path
+    shown = Picture(session.case, {thing: question.values[thing] for thing in sorted(rule.things)})
+    return Fault(
+        f"{path}: a line `always` says that {rule.text}, and your yes to question "
+        f"{question.number} ({sentence(shown)}) says otherwise. If the answer is right, take the "
+        "line out, and the session goes on as it was; else go back to that answer",
+        ways=[Way.ASK],
+        path=path,
+    )

@@ -10,7 +10,6 @@ from __future__ import annotations
 
 import itertools
 import re
-import shlex
 import time
 from collections.abc import Iterable, Iterator, Sequence
 from dataclasses import dataclass
@@ -264,6 +263,5 @@ def told(session: Session, search: Search) -> list[str]:
     return [
         *said,
         f"{one} would explain it: {offered}.{more} Where it is what you mean, write it into the case "
-        f"as a line, {write}; `desk carry {shlex.quote(case.path)}` then takes your answers over, and "
-        "asks only what is new.",
+        f"as a line, {write}; then your answers are taken over, and only what is new is asked",
     ]

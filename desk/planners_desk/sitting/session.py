@@ -20,7 +20,7 @@ from typing import TypedDict
 
 from ..case import casefile, files, letters
 from ..case.files import journal_of, kept_of
-from ..case.model import Answer, Case, Constraint, Ending, Fault, Question, Rule, Values
+from ..case.model import Answer, Case, Constraint, Ending, Fault, Question, Rule, Values, Way
 from ..hints import trials
 from ..hints.foreseen import AGAIN, ALWAYS, CARRIED, Foreseen, Old, old
 from ..hints.possible import Possible
@@ -139,6 +139,11 @@ def changed(before: Case, now: Case) -> str | None:
     return None
 
 
+def no_session(case: Case) -> Fault:
+    """A fault where there is no session yet."""
+    return Fault(f"{case.path} has no session yet; it begins with the first question", ways=[Way.ASK], path=case.path)
+
+
 class Session:
     """The session of a case, held by a lock; a context manager."""
 
@@ -165,7 +170,7 @@ class Session:
         """
         journal = journal or journal_of(case.path)
         if not make and not os.path.exists(journal):
-            raise Fault(f"{case.path} has no session yet: `desk ask {case.path}` begins one")
+            raise no_session(case)
         words = vocabulary.build(case)
         session = cls(words, program, journal, locked(journal), budget, clock)
         try:
@@ -196,7 +201,7 @@ class Session:
             self.reload()       # the program says what is wrong with the file
         if head is None:
             if not make:
-                raise Fault(f"{self.case.path} has no session yet: `desk ask {self.case.path}` begins one")
+                raise no_session(self.case)
             self._make(plan)
             began = self.case.text
         else:
@@ -227,7 +232,7 @@ class Session:
         if difference is not None:
             self._shown()       # a file that is damaged isn't a case that has changed
             raise Fault(f"{self.case.path} has changed since its session began: {difference}. Take the change back, or take the answers over "
-                        f"into a new session by `desk carry {self.case.path}`")
+                        "into a new session", ways=[Way.CARRY], path=self.case.path)
         wanted = plan or self.case.plan
         if wanted and wanted != self.plan:
             raise Fault(f"the session of {self.case.path} has plan {self.plan}, which stays as long as it goes on")

@@ -156,8 +156,7 @@ def _placed(text: str, name: str, form: Form, told: Sequence[str]) -> Iterator[A
         if 1 < len(pieces) <= looks:
             looks -= len(pieces)
             piece = _guilty(text, name, number, line, found[2])
-        told_there = found[2].replace("; `desk words` lists all", "")
-        yield At(line.field or WHOLE, _place(form, lines, number - 1, piece), number, told_there)
+        yield At(line.field or WHOLE, _place(form, lines, number - 1, piece), number, found[2])
 
 
 def _missing(told: str) -> At:
