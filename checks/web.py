@@ -4,8 +4,8 @@
 usage: checks/web.py PROGRAM [PART ..]
        checks/web.py PROGRAM planted [PART ..]      a measure left out at a time, which a test of a part has to notice
 
-Each part is a file in checks/web_parts. `refused` makes requests by hand; `sittings` answers, kills and goes on; `clicks` and `plays`
-drive a real browser; `pace` measures. What they need is installed by apt-get where that is possible: python3-flask, python3-waitress,
+Each part is a file in checks/web_parts. `refused` makes requests by hand, and `cases` those of cases; `sittings` answers, kills and
+goes on; `clicks`, `plays` and `form` drive a real browser; `pace` measures. What they need is installed by apt-get where that is possible: python3-flask, python3-waitress,
 chromium, chromium-driver and python3-selenium. That is said before, and NO_INSTALL=1 forbids it; what can't be had is passed over,
 and the last line says so.
 """
@@ -25,8 +25,8 @@ from concurrent.futures import ThreadPoolExecutor
 HERE = os.path.dirname(os.path.realpath(__file__))
 PARTS_FOLDER = os.path.join(HERE, "web_parts")
 DESK = os.path.join(os.path.dirname(HERE), "desk")
-PARTS = ("plays", "clicks", "sittings", "refused", "pace")
-IN_A_BROWSER = ("clicks", "plays")
+PARTS = ("plays", "form", "clicks", "sittings", "cases", "refused", "pace")
+IN_A_BROWSER = ("clicks", "plays", "form")
 # what has to be there: a module or a command, and the Debian package that has it
 MODULES = {"flask": "python3-flask", "waitress": "python3-waitress", "selenium": "python3-selenium"}
 COMMANDS = {"chromium": "chromium", "chromedriver": "chromium-driver"}

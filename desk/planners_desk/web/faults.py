@@ -43,6 +43,7 @@ class At:
     place: int | None  # among what the field has several of
     line: int  # of the text, from 1; 0 where no line has it
     text: str
+    missing: bool = False  # whether it is only that nothing is filled in yet
 
 
 @dataclass(frozen=True)
@@ -163,7 +164,7 @@ def _missing(told: str) -> At:
     """A fault that no line has."""
     found = ((field, said) for pattern, field, said in MISSING if re.match(pattern, told))
     field, said = next(found, (WHOLE, told))
-    return At(field, None, 0, said or told)
+    return At(field, None, 0, said or told, bool(said))
 
 
 def _place(form: Form, lines: Sequence[Line], at: int, piece: str) -> int | None:

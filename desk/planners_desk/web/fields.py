@@ -143,7 +143,7 @@ def left(sent: Sent, form: Form) -> dict[str, list[str]]:
     halves = (
         builder.name_of(part)
         for builder in BUILDERS
-        if builder.made(sent) is None
+        if not builder.made(sent)
         for part in ("form", *builder.parts)
     )
     return {**sent_of(form), **{name: list(sent.get(name, ())) for name in halves}}

@@ -5,37 +5,51 @@ const WAIT = 350;       // milliseconds after a key until the preview is asked f
 const LOOK = 700;       // between two looks at how far a forecast is
 const form = document.getElementById("fields");
 let timer = 0;
-let asked = 0;
+let wanted = 0;         // previews so far
 
-// what stands in the form is put in place of what stood there, but for where somebody is typing
+function typing(target) {
+  return target !== null && (target.tagName === "TEXTAREA" || target.tagName === "INPUT" && target.type === "text");
+}
+
+// what the server has drawn is put in place of what stood there, but for where somebody is typing
 function put(page) {
   const active = document.activeElement;
-  const within = active ? active.id : "";
   for (const part of document.querySelectorAll("[data-live]")) {
     const now = page.getElementById(part.id);
-    if (!now || part.innerHTML === now.innerHTML) continue;
+    if (!now || part.innerHTML === now.innerHTML || part.contains(active) && typing(active)) continue;
     const open = [...part.querySelectorAll("details")].map(one => one.open);
     part.replaceChildren(...now.childNodes);
     const details = [...part.querySelectorAll("details")];
     if (details.length === open.length) details.forEach((one, place) => { one.open = one.open || open[place]; });
   }
-  const again = within && !document.activeElement.isSameNode(active) ? document.getElementById(within) : null;
-  if (again) again.focus();
-}
-
-async function preview() {
-  const mine = ++asked;
-  try {
-    const response = await fetch(form.dataset.preview, {method: "POST", body: new URLSearchParams(new FormData(form)), cache: "no-store"});
-    if (!response.ok || mine !== asked) return;
-    const text = await response.text();
-    if (mine === asked) put(new DOMParser().parseFromString(text, "text/html"));
-  } catch (error) {
-    // the next change asks again
+  if (!active.isConnected) {
+    const again = active.id ? document.getElementById(active.id) : document.querySelector(`[name="${active.name}"][value="${CSS.escape(active.value)}"]`);
+    if (again) again.focus({preventScroll: true});
   }
 }
 
+function filled() {
+  return new URLSearchParams(new FormData(form)).toString();
+}
+
+async function preview() {
+  const mine = wanted;
+  const sent = filled();
+  try {
+    const response = await fetch(form.dataset.preview, {method: "POST", cache: "no-store", body: sent,
+      headers: {"Content-Type": "application/x-www-form-urlencoded"}});
+    const text = response.ok ? await response.text() : "";
+    if (mine !== wanted) return;
+    if (text && filled() === sent) put(new DOMParser().parseFromString(text, "text/html"));
+  } catch (error) {
+    // the next change asks again
+  }
+  document.body.dataset.drawn = String(mine);
+}
+
 function soon(milliseconds) {
+  wanted += 1;
+  document.body.dataset.wanted = String(wanted);
   clearTimeout(timer);
   timer = setTimeout(preview, milliseconds);
 }

@@ -1,0 +1,280 @@
+"""Cases typed and clicked into an empty form in a real browser, as a person would, until the first
+question is shown: the file is what a planner would type at a terminal, where the same is asked."""
+
+from __future__ import annotations
+
+import contextlib
+import os
+import re
+import subprocess
+import sys
+import time
+from collections.abc import Iterator, Sequence
+from dataclasses import dataclass, field
+
+import people
+from browser import Browser
+from served import DESK, Web
+
+# seconds of a person, by the keystroke-level model of Card, Moran and Newell: a key of an average typist, pointing, a click, the
+# way of a hand between keys and mouse, and making up one's mind
+KEY, POINT, CLICK, HAND, MIND = 0.28, 1.1, 0.2, 0.4, 1.35
+
+MENU = """title: Menu
+thing starter: soup salad melon
+thing main: fish beef pasta
+thing wine: white red none
+thing dessert: ice cheese fruit
+only dessert: ice cheese
+words: main=fish not with wine=red, if main=beef then wine=red, starter=melon not with dessert=cheese
+note: no nuts
+"""
+DUTY = """title: Kitchen duty
+things: day Mon .. Fri x job cook wash shop
+values: Ada, Bo Li, Cy, Dürr
+only Fri cook: Bo Li, Cy
+ask: same day, next day, shop to next day cook
+words: different, never Cy, no Ada after Cy, not both Dürr
+always: different on same day
+known: at most 4 of them Ada on all
+note: Bo Li is away in May
+plan: scopes
+"""
+
+Faults = Iterator[str]
+
+
+@dataclass
+class Typist:
+    """Somebody at the form, whose time is reckoned."""
+
+    browser: Browser
+    seconds: float = 0.0
+    did: list[str] = field(default_factory=list)
+
+    def _spent(self, seconds: float, what: str) -> None:
+        self.seconds += seconds
+        self.did.append(what)
+
+    def element(self, selector: str):  # type: ignore[no-untyped-def]
+        """An element that can be seen; what it is hidden in is opened first."""
+        found = self.browser.wait(lambda: self.browser.all(selector))[0]
+        for one in found.find_elements("xpath", "ancestor::details[not(@open)]"):
+            summary = one.find_element("css selector", "summary")
+            self.browser.driver.execute_script("arguments[0].scrollIntoView({block: 'center'})", summary)
+            summary.click()
+            self._spent(MIND + POINT + CLICK, f"opens {summary.text}")
+        self.browser.driver.execute_script("arguments[0].scrollIntoView({block: 'center'})", found)
+        return found
+
+    def types(self, name: str, text: str) -> None:
+        """Types into a field by its name."""
+        element = self.element(f"[name='{name}']")
+        element.clear()
+        element.send_keys(text)
+        self._spent(MIND + 2 * HAND + POINT + CLICK + KEY * len(text), f"types {text!r} into {name}")
+
+    def clicks(self, selector: str) -> None:
+        """Clicks something, also where the page is just being drawn anew."""
+        def clicked() -> bool:
+            self.element(selector).click()
+            return True
+        self.browser.wait(clicked)
+        self._spent(MIND + POINT + CLICK, f"clicks {selector}")
+
+    def ticks(self, name: str, text: str) -> None:
+        """Ticks a box; the page stands again when it is ticked."""
+        selector = f"input[name='{name}'][value=\"{text}\"]"
+        self.clicks(selector)
+        self.browser.wait(lambda: self.browser.all(selector)[0].is_selected())
+
+    def chooses(self, name: str, text: str) -> None:
+        """Chooses one of a list by its first letters, as with a keyboard."""
+        def chosen() -> bool:
+            self.settled()
+            element = self.element(f"select[name='{name}']")
+            element.send_keys(text)
+            if self.browser.driver.execute_script("return arguments[0].selectedOptions[0].text", element) == text:
+                return True
+            time.sleep(1.5)     # until the browser has forgotten the letters
+            return bool(self.browser.driver.execute_script("return arguments[0].selectedOptions[0].text", element) == text)
+        self.browser.wait(chosen)
+        self._spent(2 * (POINT + CLICK) + MIND, f"chooses {text} in {name}")
+
+    def settled(self) -> None:
+        """Waits until the page is drawn for all that was typed."""
+        self.browser.wait(lambda: self.browser.driver.execute_script(
+            "return document.body.dataset.wanted === document.body.dataset.drawn"))
+
+
+# ---------------------------------------------------------------- what each does
+
+
+def names(it: Typist, key: str, text: str) -> None:
+    """A list, or a grid by its sides."""
+    sides = [side.partition(" ") for side in re.split(r" x ", text)]
+    if len(sides) == 1:
+        it.types(f"{key}-text", text)
+        return
+    it.clicks(f"input[name='{key}-kind'][value='grid']")
+    for place, (name, _, members) in enumerate(sides):
+        it.types(f"{key}-side-{place}-name", name)
+        it.types(f"{key}-side-{place}-text", members)
+
+
+def pieces(text: str) -> list[str]:
+    """What stands between commas."""
+    return [piece.strip() for piece in text.split(",")]
+
+
+def word(it: Typist, text: str) -> None:
+    """A word, ticked, or put together where it names several values or things."""
+    chosen = re.fullmatch(r"(if )?(\S+=\S+) (?:not with|then) (\S+=\S+)", text)
+    after = re.fullmatch(r"no (.+) after (.+)", text)
+    if chosen:
+        it.chooses("chosen-form", "if A then B" if chosen[1] else "A not with B")
+        it.chooses("chosen-v", chosen[2])
+        it.chooses("chosen-w", chosen[3])
+    elif after:
+        it.chooses("pair-form", "no B after A")
+        it.chooses("pair-v", after[2])
+        it.chooses("pair-w", after[1])
+    else:
+        it.ticks("words", text)
+        return
+    it.browser.wait(lambda: it.browser.all(f"input[name='words'][value=\"{text}\"]:checked"))
+
+
+def filled(it: Typist, text: str) -> None:
+    """Fills the form in with what the lines of a text say."""
+    rows = {"thing": 0, "only": 0}
+    for line in text.splitlines():
+        head, _, said = line.partition(": ")
+        key, _, name = head.partition(" ")
+        it.settled()
+        if key in rows:
+            field_name = {"thing": "own", "only": "only"}[key]
+            it.types(f"{field_name}-{rows[key]}-name", name)
+            it.types(f"{field_name}-{rows[key]}-text", said)
+            rows[key] += 1
+        elif key in ("things", "values"):
+            names(it, key, said)
+        elif key == "ask":
+            for piece in pieces(said):
+                it.ticks("ask", piece)
+        elif key == "words":
+            for piece in pieces(said):
+                word(it, piece)
+        elif key == "always":
+            what, _, on = said.rpartition(" on ")
+            it.chooses("rule-word", what)
+            it.chooses("rule-on", on)
+        elif key == "known":
+            known(it, said)
+        elif key == "plan":
+            it.chooses("plan", "one group at a time (scopes)")
+        else:
+            it.types({"title": "title", "note": "notes"}[key], said)
+
+
+def known(it: Typist, said: str) -> None:
+    """A count, put together; two is chosen as a number."""
+    found = re.fullmatch(r"(at most|at least|exactly) (\w+) of them (.+?)(?: on (.+))?", said)
+    assert found
+    if not found[2].isdigit():
+        it.types("known-other", said)
+        return
+    for name, text in (("how", found[1]), ("count", found[2]), ("v", found[3]), ("on", found[4] or "all")):
+        it.chooses(f"number-{name}", text)
+
+
+@contextlib.contextmanager
+def at_form(program: str, name: str) -> Iterator[tuple[Web, Typist]]:
+    """An empty form of a new case."""
+    with Web(program, {}) as web, Browser(1200, 1000) as browser:
+        web.enter()
+        browser.go(f"file://{web.file}")
+        it = Typist(browser)
+        it.types("new", name)
+        it.clicks("main form button")
+        browser.wait(lambda: browser.all("#fields"))
+        yield web, it
+
+
+def first_question(program: str, folder: str, text: str) -> str:
+    """What desk at a terminal asks first, in a line."""
+    path = os.path.join(folder, "terminal.case")
+    with open(path, "w", encoding="utf-8") as file:
+        file.write(text)
+    ran = subprocess.run([sys.executable, os.path.join(DESK, "desk"), "ask", "--plain", path, "--acquire", program], input="q\n",
+                         capture_output=True, text=True, check=False)
+    found = [line for line in ran.stdout.splitlines() if re.match(r"\S.*: .*\S$", line)]
+    other = ("Judge", "y yes", "Answered for you")
+    return ", ".join(line.replace(": ", " ") for line in found if not line.startswith(other) and "question" not in line)
+
+
+def normal(text: str) -> list[str]:
+    """The lines of a case, with the words in one line and order, since ticks have theirs."""
+    lines = text.splitlines()
+    words = sorted(word for line in lines if line.startswith("words: ") for word in pieces(line.removeprefix("words: ")))
+    return [*(line for line in lines if not line.startswith("words: ")), *words]
+
+
+def walk(program: str, name: str, text: str, bare: Sequence[str] = ()) -> Faults:
+    """One case from an empty form to the first question."""
+    with at_form(program, name) as (web, it):
+        filled(it, text)
+        it.settled()
+        it.clicks("button[name='do'][value='ask']")
+        it.browser.wait(lambda: it.browser.text(".said") or it.browser.all(".fault:not(#lost)"))
+        with open(os.path.join(web.folder, f"{name}.case"), encoding="utf-8") as file:
+            made = file.read()
+        if normal(made) != normal(text):
+            yield f"{name}: the file says {made!r}, and what was typed is {text!r}"
+        shown = it.browser.text(".said")
+        due = first_question(program, web.folder, made)
+        if not shown or due != shown:
+            yield f"{name}: the page asks {shown!r}, and desk at a terminal {due!r}"
+        errors = [one for one in it.browser.errors() if "favicon" not in one]
+        if errors:
+            yield f"{name}: the browser complains of {errors}"
+        clicks = sum(one.startswith(("clicks", "opens", "chooses")) for one in it.did)
+        typed = sum(len(one.split("'")[1]) for one in it.did if one.startswith("types"))
+        print(f"form: {name}: {typed} letters and {clicks} clicks until the first question, some {it.seconds / 60:.1f} minutes of a person")
+
+
+def seats(program: str) -> Faults:
+    """A dinner, whose values are a grid."""
+    yield from walk(program, "seats", people.SEATS)
+
+
+def conference(program: str) -> Faults:
+    """A conference."""
+    yield from walk(program, "conference", people.CONFERENCE)
+
+
+def holidays(program: str) -> Faults:
+    """Holidays, with a count that is known."""
+    yield from walk(program, "holidays", people.HOLIDAYS.replace("two of them week1", "2 of them week1 on all"))
+
+
+def store(program: str) -> Faults:
+    """A store of chemicals."""
+    yield from walk(program, "store", people.STORE)
+
+
+def duty(program: str) -> Faults:
+    """A roster, with names that have blanks, with what somebody can't do, steps, notes."""
+    yield from walk(program, "duty", DUTY)
+
+
+def menu(program: str) -> Faults:
+    """Things with values of their own, and words that name them."""
+    yield from walk(program, "menu", MENU)
+
+
+TESTS = (seats, conference, holidays, store, duty, menu)
+PLANTED = (
+    # a word that is ticked isn't written
+    ("fields.py", 'several[builder.field].append(made)', 'several[builder.field] = [made]', duty),
+)
