@@ -1,6 +1,7 @@
 mod Prelude
 mod Gate
 mod RecordLists
+mod Valued
 mod Append
 mod ReadPairs
 mod Payloads

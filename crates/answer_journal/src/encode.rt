@@ -58,24 +58,21 @@ fn encode_answer(question: &Partial, yes: bool) -> ArrayVec<u8, LONGEST>
 
 /// How many variables have a value.
 pub(crate) fn valued_count(question: &Partial) -> u8
+    requires { length question.now ≤ 128 }
     ensures { result ≡ valued_count question.now }
 {
-    let mut count = 0;
-    for v in 0..question.len() {
-        if let Some(_) = question.get(v) {
-            count += 1;
-        }
-    }
-    count
+    question.vars().len()
 }
 
 // Appends each variable that has a value, with it.
 fn put_pairs(question: &Partial, out: &mut ArrayVec<u8, LONGEST>)
+    requires fits { length question.now ≤ 128 }
     requires room { array_vec_len out.old + 2 * length question.now ≤ 263 }
     ensures pairs { out.new.items ≡ out.old.items ++ pairs_from 0 question.now }
     ensures few { array_vec_len out.new ≤ array_vec_len out.old + 2 * length question.now }
 {
-    for v in 0..question.len() {
+    let mut left = question.vars();
+    while let Some(v) = left.pop_first() {
         if let Some(x) = question.get(v) {
             out.push(v);
             out.push(x);
