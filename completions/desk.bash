@@ -6,7 +6,7 @@ _desk() {
     read -ra words <<<"${COMP_LINE:0:COMP_POINT}"
     [[ ${COMP_LINE:0:COMP_POINT} != *[[:space:]] ]] || words+=("")
     local -A options=(
-        [check]="$common --seconds" [ask]="$common --seconds --plan --plain" [report]="$common" [carry]="$common" [words]="" [cases]=""
+        [check]="$common --seconds" [ask]="$common --seconds --plan --plain" [report]="$common" [carry]="$common" [web]="$common --no-browser --port" [words]="" [cases]=""
     )
     if [[ ${words[1]} == --unproved && ${#words[@]} -gt 2 ]]; then
         unset 'words[1]'
@@ -17,16 +17,16 @@ _desk() {
     # How many names stand in front; an option's value is none.
     for ((index = 2; index < at; index++)); do
         case ${words[index]} in
-        --acquire | --budget | --seconds | --plan) ((index++)) ;;
+        --acquire | --budget | --seconds | --plan | --port) ((index++)) ;;
         -*) ;;
         *) ((place++)) ;;
         esac
     done
     case $at:$before in
-    1:*) [[ $cur == -* ]] && found="--unproved --help --version" || found="check ask report carry words cases" ;;
+    1:*) [[ $cur == -* ]] && found="--unproved --help --version" || found="check ask report carry web words cases" ;;
     *:--plan) found=$plans ;;
     *:--acquire) kind=file ;;
-    *:--budget | *:--seconds) ;;
+    *:--budget | *:--seconds | *:--port) ;;
     *)
         case $command:$place:$cur in
         *:*:--plan=*)
@@ -34,7 +34,7 @@ _desk() {
             return
             ;;
         *:*:-*) found=${options[$command]} ;;
-        check:0:* | ask:0:* | report:0:* | carry:[01]:*) kind=case ;;
+        check:0:* | ask:0:* | report:0:* | carry:[01]:* | web:0:*) kind=case ;;
         report:1:*) kind=html ;;
         cases:0:*) kind=/ ;;
         esac
