@@ -73,7 +73,8 @@ def text_of(web: Web, name: str) -> str:
 def faults_at(page: str, field: str) -> list[str]:
     """The faults that a page has at a field."""
     found = re.search(rf'<div id="{field}-faults" data-live>(.*?)</div>', page, re.DOTALL)
-    return [html.unescape(one) for one in re.findall(r'<p class="\w+">(.*?)</p>', found[1])] if found else []
+    told = [html.unescape(one) for one in re.findall(r'<p class="\w+">(.*?)</p>', found[1])] if found else []
+    return [re.sub("[\u201c\u201d]", "`", one) for one in told]
 
 
 def unchanged(program: str) -> Faults:
@@ -151,7 +152,7 @@ def as_text(program: str) -> Faults:
         web.enter()
         wrong = THREE.replace("ask: all", "ask: alll\nwhatever").replace("plan: scopes\n", "")
         web.post("/case/x.case/text", {"mark": mark(web.get("/case/x.case").text), "text": wrong})
-        page = html.unescape(web.get("/case/x.case").text)
+        page = re.sub("[\u201c\u201d]", "`", html.unescape(web.get("/case/x.case").text))
         lines = dict(re.findall(r'data-line="(\d+)">[^<]*</a>: (.*?)</li>', page))
         if text_of(web, "x.case") != wrong or f">\n{wrong}</textarea>" not in page:
             yield f"a text with a fault is {text_of(web, 'x.case')!r}"

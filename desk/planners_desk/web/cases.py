@@ -4,6 +4,7 @@ from __future__ import annotations
 
 import dataclasses
 import os
+import re
 from collections.abc import Mapping, Sequence
 
 from flask import Blueprint, current_app, redirect, render_template, request, url_for
@@ -67,6 +68,12 @@ def path_of(name: str) -> str:
 
 
 # ---------------------------------------------------------------- the cases of the folder
+
+
+@blueprint.app_template_filter("quoted")
+def quoted(text: str) -> str:
+    """What is said of a case, with its words in quotes, as people write them."""
+    return re.sub(r"`([^`]*)`", "\u201c\\1\u201d", text)
 
 
 @dataclasses.dataclass(frozen=True)

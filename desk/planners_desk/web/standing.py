@@ -6,7 +6,7 @@ import os
 from dataclasses import dataclass
 
 from ..case.files import journal_of
-from ..case.model import Case
+from ..case.model import Case, Fault
 from ..commands import carry
 from ..hints.foreseen import Foreseen
 from ..program.talk import Program
@@ -21,6 +21,7 @@ class Standing:
     begun: bool = False  # whether there is one
     plan: str = ""  # its way of asking
     change: str = ""  # why it can't go on with the case as it is now; "" where it can
+    fault: str = ""  # why that can't be told
 
 
 @dataclass(frozen=True)
@@ -35,11 +36,15 @@ class Carried:
 def standing(path: str, case: Case | None, words: Vocabulary | None) -> Standing:
     """How a case stands; `words` is None where it has faults."""
     journal = journal_of(path)
-    head = head_of(journal) if os.path.isfile(journal) else None
-    if head is None:
-        return Standing()
-    change = _change(journal, case, words, head) if case is not None and words is not None else ""
-    return Standing(True, head[0], change)
+    try:
+        head = head_of(journal) if os.path.isfile(journal) else None
+        if head is None:
+            return Standing()
+        if case is None or words is None:
+            return Standing(True, head[0])
+        return Standing(True, head[0], _change(journal, case, words, head))
+    except Fault as fault:
+        return Standing(True, fault=str(fault))
 
 
 def _change(journal: str, case: Case, words: Vocabulary, head: tuple[str, bytes]) -> str:
