@@ -4,6 +4,7 @@ the form, and answers that are taken over."""
 from __future__ import annotations
 
 import html
+import html.parser
 import os
 import re
 import time
@@ -126,21 +127,22 @@ def at_fields(program: str) -> Faults:
         ({"title": "Room # 3"}, "title", "a `#` behind a blank begins a comment"),
         ({"pair-form": "{0} not with {1}", "pair-v": "1"}, "words", "something is chosen by half"),
     )
-    every = [field for _, field, _ in rows]
-    for more, field, due in rows:
-        with Web(program, {"x.case": THREE}) as web:
-            web.enter()
+    with Web(program, {"x.case": THREE}) as web:
+        web.enter()
+        for more, field, due in rows:
+            with open(os.path.join(web.folder, "x.case"), "w", encoding="utf-8") as file:
+                file.write(THREE)
             sent = changed(fields(web.get("/case/x.case").text), more)
             reply = web.post("/case/x.case", sent)
             page = web.get("/case/x.case").text if reply.status == 303 else reply.text
             told = faults_at(page, field)
             if not any(one.startswith(due) for one in told):
                 yield f"{more}: at {field} stands {told}, and not {due!r}"
-            for other in every:
-                if other != field and any(one.startswith(due) for one in faults_at(page, other)):
+            for other in (one for _, one, _ in rows if one != field):
+                if any(one.startswith(due) for one in faults_at(page, other)):
                     yield f"{more}: the fault of {field} stands at {other}"
             for text in more.values():
-                if text not in html.unescape(page).replace(", ", ",") and text.split(", ")[-1] not in html.unescape(page):
+                if text.split(", ")[-1] not in html.unescape(page):
                     yield f"{more}: {text!r} isn't on the page any more"
             if reply.status != 303 and text_of(web, "x.case") != THREE:
                 yield f"{more}: a form that can't be written was written: {text_of(web, 'x.case')!r}"
@@ -329,8 +331,55 @@ def reckoned(program: str) -> Faults:
             yield "what another text came to is shown"
 
 
-TESTS = (unchanged, ticked, at_fields, as_text, meanwhile, names, copies, sizes, taken_over, reckoned)
+class Labels(html.parser.HTMLParser):
+    """The fields of a page, and what they are called."""
+
+    def __init__(self, page: str) -> None:
+        super().__init__()
+        self.ids: list[str] = []
+        self.called: set[str] = set()
+        self.fields: list[tuple[str, str, bool]] = []      # tag, id, and whether a label is around it
+        self.described: set[str] = set()
+        self.links: set[str] = set()
+        self._within = 0
+        self.feed(page)
+
+    def handle_starttag(self, tag: str, attrs: list[tuple[str, str | None]]) -> None:
+        """One element."""
+        of = {name: value or "" for name, value in attrs}
+        self.ids += [of["id"]] if "id" in of else []
+        self.described |= set(f"{of.get('aria-describedby', '')} {of.get('aria-labelledby', '')}".split())
+        self.links |= {of["href"][1:]} if of.get("href", "").startswith("#") else set()
+        if tag == "label":
+            self._within += 1
+            self.called |= {of["for"]} if "for" in of else set()
+        if tag in ("input", "select", "textarea") and of.get("type") != "hidden":
+            self.fields.append((tag, of.get("id", ""), self._within > 0))
+
+    def handle_endtag(self, tag: str) -> None:
+        """The end of one."""
+        self._within -= tag == "label"
+
+
+def labels(program: str) -> Faults:
+    """Each field has a label, each name on a page stands once, and what is spoken of is there."""
+    with Web(program, {"x.case": ROSTER, "bad.case": "hello\nthings: talk 1 .. 8\nthing a: 1 1\nalways: x on y\nknown: z\n", "empty.case": ""}) as web:
+        web.enter()
+        for path in ("/", "/case/x.case", "/case/bad.case", "/case/empty.case"):
+            found = Labels(web.get(path).text)
+            if twice := {one for one in found.ids if found.ids.count(one) > 1}:
+                yield f"{path}: the names {sorted(twice)} stand twice"
+            bare = [one for one in found.fields if not one[2] and one[1] not in found.called]
+            if bare or not found.fields:
+                yield f"{path}: fields without a label: {bare}"
+            if gone := (found.described | found.links) - set(found.ids):
+                yield f"{path}: what is spoken of isn't there: {sorted(gone)}"
+
+
+TESTS = (labels, unchanged, ticked, at_fields, as_text, meanwhile, names, copies, sizes, taken_over, reckoned)
 PLANTED = (
+    # a field that nobody can name
+    ("templates/fields.html", '<label for="{{ field }}">', "<label>", labels),
     # a word that is ticked isn't written
     ("forms.py", "new = [piece for piece in new if piece not in left]", "new = []", ticked),
     # a fault is shown at another field
