@@ -5,6 +5,7 @@ from __future__ import annotations
 import http.client
 import os
 import random
+import re
 import signal
 import socket
 import subprocess
@@ -262,7 +263,76 @@ def alive(program: str) -> Faults:
                     yield f"the solver goes on: {left}"
 
 
-TESTS = (once, one_writer, killed, ended, slept, quiet, alive)
+def contradicted(program: str) -> Faults:
+    """A rule that is said beforehand later on, against an answer, is told before anything is asked; both ways out go on."""
+    with Web(program, {"x.case": CASE}) as web:
+        web.enter()
+        page = web.begin("x.case")
+        page = web.does("x.case", "y", page.number)         # the first question has two that are the same
+        web.does("x.case", "q", page.number)
+        path = os.path.join(web.folder, "x.case")
+        with open(path, "w", encoding="utf-8") as file:
+            file.write(CASE + "always: different on all\n")
+        page = web.begin("x.case")
+        if "contradicts your answer to question 1" not in page.head or "breaks the rule" not in page.text:
+            yield f"the page is {page.head!r}"
+        page = web.does("x.case", "q", page.number)
+        if "Stopped" not in page.head or len(web.shows("x.case")) != 1:
+            yield f"after a stop the page is {page.head!r}"
+        page = web.begin("x.case")
+        page = web.does("x.case", "back to", page.number, place=0)
+        if "question" not in page.head or not web.shows("x.case")[0].endswith("no"):
+            yield f"after going back the page is {page.head!r}, with {web.shows('x.case')}"
+
+
+def back(program: str) -> Faults:
+    """Each answer can be gone back to, also from the page of all; what was said later counts again."""
+    with Web(program, {"x.case": SEATS.replace("always: different on all\n", "")}) as web:
+        web.enter()
+        page = web.begin("x.case")
+        draw = random.Random(3)
+        for _ in range(50):
+            page = web.does("x.case", "y" if draw.random() < 0.6 else "n", page.number)
+        stand = web.shows("x.case")
+        here = page
+        page = web.does("x.case", "answers", page.number)
+        if "All answers: 50" not in re.sub(r"\s+", " ", page.text) or page.text.count("back to this") != 50:
+            yield f"of 50 answers {page.text.count('back to this')} are shown"
+        page = web.does("x.case", "o", page.number)
+        if page.head != here.head or web.shows("x.case") != stand:
+            yield f"after looking at all answers the page is {page.head!r}"
+        page = web.does("x.case", "answers", page.number)
+        page = web.does("x.case", "back to", page.number, place=2)
+        if "question 3" not in page.head or web.shows("x.case") != stand[:2] or "is taken back" not in page.text:
+            yield f"after going back to the third answer the page is {page.head!r}, and {len(web.shows('x.case'))} answers stand"
+        page = web.does("x.case", "y" if stand[2].endswith("yes") else "n", page.number)
+        if web.shows("x.case") != stand or "47 " not in page.text and "Answered for you" not in page.text:
+            yield f"the later answers don't count again: {len(web.shows('x.case'))} of {len(stand)}"
+        page = web.does("x.case", "b", page.number)
+        if len(web.shows("x.case")) != 2:
+            yield f"after going back once more {len(web.shows('x.case'))} answers stand"
+
+
+def other_pythons(program: str) -> Faults:
+    """Begun by a Python without the libraries it goes on with one that has them, or says what to install."""
+    with tempfile.TemporaryDirectory() as folder:
+        words = [sys.executable, "-S", os.path.join(DESK, "desk"), "web", "--no-browser", folder]
+        environment = {**os.environ, "DESK_ACQUIRE": program}
+        ran = subprocess.run(words, env={**environment, "DESK_WEB_PYTHON": "none"}, capture_output=True, text=True, timeout=60, check=False)
+        if ran.returncode != 1 or "apt-get install python3-flask python3-waitress" not in ran.stderr or "Traceback" in ran.stderr:
+            yield f"without the libraries it ends with {ran.returncode} {ran.stderr!r}"
+        with subprocess.Popen(words, env=environment, stdout=subprocess.PIPE, text=True) as begun:
+            late = threading.Timer(60, begun.kill)
+            late.start()
+            assert begun.stdout
+            said = begun.stdout.readline()
+            late.cancel()
+            begun.terminate()
+            if "are shown on a page" not in said:
+                yield f"another Python says {said!r}"
+
+
+TESTS = (once, one_writer, killed, ended, slept, quiet, alive, contradicted, back, other_pythons)
 PLANTED = (
     ("sittings.py", "            if number != self._number or self._over:\n", "            if self._over:\n", once),
     ("sittings.py", "            if not self._waits or self._step is not None:\n", "            if self._over:\n", once),
@@ -270,5 +340,8 @@ PLANTED = (
     ("sittings.py", "            if owner is None or owner.state().over:\n", "            if True:\n", one_writer),
     ("serve.py", "(signal.SIGTERM, signal.SIGHUP)", "()", ended),
     ("server.py", "    quiet()\n", "", quiet),
+    ("questions.py", "            first = self._against()\n", "            first = 0\n", contradicted),
+    ("lines.py", "        if chosen(session, step):\n            return step.place\n", "", back),
+    ("serve.py", "                go_on_with(python)\n", "                pass\n", other_pythons),
     ("reporting.py", "owner.busy(text, 1 - made.left / seconds, True)", "None", alive),
 )

@@ -14,7 +14,7 @@ from ..sitting.answers import behind, last_own, may_go_back, odd_ones, open_line
 from ..sitting.judging import Plan
 from ..sitting.session import Session, said_by
 from . import reporting, sheets
-from .lines import given, latest, stopped
+from .lines import chosen, from_all, given, stopped
 from .sheets import Odd, Rule, Sheet
 from .sittings import Ended, Owner, Step
 from .tables import table_of
@@ -46,14 +46,6 @@ class Judging:
             return self._undecided(ending)
         raise Fault(said_by(self.session.journal, ending.status, ending.text))
 
-    def _chosen(self, step: Step) -> bool:
-        """Whether a step goes back to an answer that can be gone back to."""
-        return (
-            step.do == "back to"
-            and 0 <= step.place < len(self.session.answers)
-            and may_go_back(self.session, step.place)
-        )
-
     # ---- answers that clash
 
     def _clash(self, ending: Ending) -> int | Sheet:
@@ -63,7 +55,7 @@ class Judging:
         sheet = self._clashing(search)
         while True:
             step = self.owner.put(sheet)
-            if self._chosen(step):
+            if chosen(self.session, step):
                 return step.place
             if step.do == "b" and (last := last_own(self.session)) is not None:
                 return last
@@ -71,6 +63,8 @@ class Judging:
                 return stopped(self.session)
             if step.do == "report":
                 reporting.shown(self.session, ending, self.owner)
+            if step.do == "answers" and (place := from_all(self.session, self.owner)) is not None:
+                return place
 
     def _clashing(self, search: missing.Search) -> sheets.Clash:
         """The clash, the suspects, and the words that would explain it."""
@@ -96,7 +90,6 @@ class Judging:
             said,
             self._lacking(search),
             search.words,
-            tuple(latest(session, MOST_ANSWERS)),
         )
 
     def _lacking(self, search: missing.Search) -> tuple[str, ...]:
@@ -114,12 +107,14 @@ class Judging:
         odd = odd_ones(session, ending.learned)
         while True:
             step = self.owner.put(self._rules(ending, found, odd))
-            if self._chosen(step):
+            if chosen(self.session, step):
                 return step.place
             if step.do == "q":
                 return stopped(session)
             if step.do == "report":
                 reporting.shown(session, ending, self.owner)
+            if step.do == "answers" and (place := from_all(session, self.owner)) is not None:
+                return place
             if step.do == "plans" and (place := self._plans(found)) is not None:
                 return place
 
@@ -141,8 +136,6 @@ class Judging:
             solver.name() is not None,
             tuple(self._unsayable),
             self._judged,
-            tuple(latest(session, MOST_ANSWERS)),
-            count,
         )
 
     def _rule(self, said: Sentence) -> Rule:
@@ -237,7 +230,7 @@ class Judging:
                     tuple(given(session, place) for place in places),
                 )
             )
-            if self._chosen(step):
+            if chosen(self.session, step):
                 return "back to", step.place
             if step.do != "o":
                 return step.do, None

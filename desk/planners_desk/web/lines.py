@@ -6,10 +6,12 @@ from collections.abc import Iterator
 
 from ..sitting.answers import BY, may_go_back
 from ..sitting.session import Session
-from .sheets import Given, Stopped
+from .sheets import Answers, Given, Stopped
+from .sittings import Owner, Step
 from .tables import sentence_of
 
 MOST_VALUES = 6  # of an answer in a line
+A_PAGE = 200  # answers
 
 
 def given(session: Session, place: int, most: int | None = MOST_VALUES) -> Given:
@@ -28,11 +30,31 @@ def given(session: Session, place: int, most: int | None = MOST_VALUES) -> Given
     )
 
 
-def latest(session: Session, most: int) -> Iterator[Given]:
-    """The latest answers first, so many at most."""
-    count = len(session.answers)
-    for place in range(count - 1, max(count - most, 0) - 1, -1):
+def latest(session: Session, most: int, without: int = 0) -> Iterator[Given]:
+    """The latest answers first, so many at most, without those that are later still."""
+    last = len(session.answers) - 1 - without
+    for place in range(last, max(last - most, -1), -1):
         yield given(session, place)
+
+
+def chosen(session: Session, step: Step) -> bool:
+    """Whether a step goes back to an answer that can be gone back to."""
+    there = step.do == "back to" and 0 <= step.place < len(session.answers)
+    return there and may_go_back(session, step.place)
+
+
+def from_all(session: Session, owner: Owner) -> int | None:
+    """Shows all answers; the place of one to go back to, or None."""
+    first = 0
+    while True:
+        some = tuple(latest(session, A_PAGE, first))
+        step = owner.put(Answers("All answers", some, len(session.answers), first, A_PAGE))
+        if chosen(session, step):
+            return step.place
+        if step.do == "answers" and 0 <= step.place < len(session.answers):
+            first = step.place
+        elif step.do == "o":
+            return None
 
 
 def stopped(session: Session) -> Stopped:

@@ -2,6 +2,8 @@
 
 from __future__ import annotations
 
+import os
+
 from flask import (
     Blueprint,
     Response,
@@ -15,11 +17,12 @@ from flask import (
 from werkzeug.exceptions import BadRequest, NotFound
 from werkzeug.wrappers import Response as Answer
 
+from ..case import files
 from . import sheets
 from .folder import Folder
 from .sittings import Owner, Sittings, State, Step
 
-DOES = frozenset(("y", "n", "b", "q", "o", "back to", "plans", "report", "end"))
+DOES = frozenset(("y", "n", "b", "q", "o", "back to", "plans", "report", "answers", "end"))
 DIGITS = 9  # of a number in a form
 LATE = "That came too late: another answer stood already, perhaps from another tab. Nothing was changed by it."
 
@@ -50,9 +53,11 @@ def number(text: str) -> int:
 @blueprint.get("")
 def show(name: str) -> str:
     """What is shown now."""
-    owner = sittings().of(folder().path_of(name))
+    path = folder().path_of(name)
+    owner = sittings().of(path)
     if owner is None:
-        return render_template("begin.html", name=name)
+        begun = os.path.exists(files.journal_of(path))
+        return render_template("begin.html", name=name, begun=begun)
     return shown(name, owner.settled())
 
 

@@ -11,12 +11,11 @@ from collections.abc import Iterable
 from ..case.model import Constraint, Ending
 from ..case.picture import CHANGED, CLASH, LEFT_OUT
 from ..hints import sentences
-from ..sitting.answers import may_go_back
 from ..sitting.asking import Asking
 from ..sitting.session import Session
 from . import reporting, sheets
 from .judging import Judging
-from .lines import latest, stopped
+from .lines import chosen, from_all, latest, stopped
 from .sheets import Rule, Sheet, Shown
 from .sittings import Owner
 from .tables import sentence_of, table_of
@@ -68,8 +67,12 @@ class Questions:
             self.asking.answer(step.do == "y")
         elif step.do == "b":
             self.asking.back()
-        elif step.do == "back to" and self._may_go_back(step.place):
+        elif chosen(self.session, step):
             self.asking.back_to(step.place)
+        elif step.do == "answers":
+            place = from_all(self.session, self.owner)
+            if place is not None:
+                self.asking.back_to(place)
         elif step.do == "report":
             ending = Ending("suspended", len(self.session.answers))
             reporting.shown(self.session, ending, self.owner)
@@ -77,10 +80,6 @@ class Questions:
             self.asking.stop()
             return False
         return True
-
-    def _may_go_back(self, place: int) -> bool:
-        """Whether there is an answer at a place that can be gone back to."""
-        return 0 <= place < len(self.session.answers) and may_go_back(self.session, place)
 
     def sheet(self) -> sheets.Question:
         """The question as it is shown."""

@@ -12,11 +12,13 @@ import subprocess
 import sys
 from collections.abc import Iterator
 from types import FrameType
+from typing import NoReturn
 
 from ..case.model import Fault
 from ..program.talk import Program
 
 LIBRARIES = ("flask", "waitress")
+PACKAGES = "python3-flask python3-waitress"
 ANOTHER = "DESK_WEB_PYTHON"  # set where this Python was taken since another one lacks the libraries
 
 
@@ -33,27 +35,36 @@ def main(options: argparse.Namespace) -> int:
 
 
 def libraries() -> None:
-    """Sees to it that the libraries are there: goes on with another Python that has them, or says what to install."""
-    missing = [name for name in LIBRARIES if importlib.util.find_spec(name) is None]
-    if not missing:
+    """Sees to it that the libraries are there: goes on with another Python that has them, or says
+    what to install."""
+    if all(importlib.util.find_spec(name) is not None for name in LIBRARIES):
         return
-    for python in dict.fromkeys(filter(None, ("/usr/bin/python3", shutil.which("python3")))):
-        if os.environ.get(ANOTHER) or os.path.realpath(python) == os.path.realpath(sys.executable):
-            continue
-        if (
-            subprocess.run(
-                [python, "-c", f"import {', '.join(LIBRARIES)}"], capture_output=True, check=False
-            ).returncode
-            == 0
-        ):
-            os.environ[ANOTHER] = python
-            sys.stdout.flush()
-            package = os.path.dirname(os.path.dirname(os.path.realpath(__file__)))
-            start = f"import sys; sys.path.insert(0, {os.path.dirname(package)!r}); from planners_desk.__main__ import main; sys.exit(main())"
-            os.execv(python, [python, "-c", start, *sys.argv[1:]])
-    raise Fault(
-        "the libraries that serve pages aren't installed: `apt-get install python3-flask python3-waitress`"
+    if not os.environ.get(ANOTHER):
+        for python in dict.fromkeys(filter(None, ("/usr/bin/python3", shutil.which("python3")))):
+            if has_libraries(python):
+                go_on_with(python)
+    raise Fault(f"the libraries that serve pages aren't installed: `apt-get install {PACKAGES}`")
+
+
+def has_libraries(python: str) -> bool:
+    """Whether another Python has them."""
+    words = [python, "-c", f"import {', '.join(LIBRARIES)}"]
+    try:
+        return subprocess.run(words, capture_output=True, check=False).returncode == 0
+    except OSError:
+        return False
+
+
+def go_on_with(python: str) -> NoReturn:
+    """Begins the same command anew by another Python, in place of this one."""
+    os.environ[ANOTHER] = python
+    sys.stdout.flush()
+    package = os.path.dirname(os.path.dirname(os.path.realpath(__file__)))
+    start = (
+        f"import sys; sys.path.insert(0, {os.path.dirname(package)!r}); "
+        "from planners_desk.__main__ import main; sys.exit(main())"
     )
+    os.execv(python, [python, "-c", start, *sys.argv[1:]])
 
 
 @contextlib.contextmanager

@@ -100,6 +100,16 @@ class Against(Sheet):
 
 
 @dataclass(frozen=True)
+class Answers(Sheet):
+    """The answers that stand, the latest first, so many on a page."""
+
+    answers: tuple[Given, ...]
+    count: int  # of all
+    first: int  # how many later ones aren't shown
+    a_page: int
+
+
+@dataclass(frozen=True)
 class Clash(Sheet):
     """No rules agree with all answers."""
 
@@ -109,7 +119,6 @@ class Clash(Sheet):
     lifted: str  # that it may be no slip at all
     lacking: tuple[str, ...]  # which words would explain it
     words: tuple[str, ...]  # these, to be put into the case
-    answers: tuple[Given, ...]
 
 
 @dataclass(frozen=True)
@@ -129,8 +138,6 @@ class Done(Sheet):
     solver: bool  # whether plans can be looked for
     unsayable: tuple[str, ...]  # what the person said of plans, and the words can't
     judged: bool  # whether the plans were looked at
-    answers: tuple[Given, ...]
-    count: int
 
 
 @dataclass(frozen=True)
