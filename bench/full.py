@@ -37,11 +37,14 @@ def alldifferent(names):
     return [f"ne {one} {other}" for one, other in itertools.combinations(names, 2)]
 
 
-def league(teams, weeks):
-    """In each week each team has an opponent of its own, and each team another one each week."""
-    of_week = [[f"w{week}t{team}" for team in range(1, teams + 1)] for week in range(1, weeks + 1)]
-    network = [text for names in [*of_week, *zip(*of_week)] for text in alldifferent(names)]
-    return Task(f"league of {teams} teams, {weeks} weeks", vocabulary(sum(of_week, []), [1, teams], ORDERS), network)
+def league(teams, weeks, by="weeks"):
+    """In each week each team has a ground of its own, and each team another one each week. The variables stand by weeks, each of
+    which has all values, or by teams, which lack some."""
+    rows = [[f"w{week}t{team}" for team in range(1, teams + 1)] for week in range(1, weeks + 1)]
+    if by == "teams":
+        rows = [list(names) for names in zip(*rows)]
+    network = [text for names in [*rows, *zip(*rows)] for text in alldifferent(names)]
+    return Task(f"league of {teams} teams, {weeks} weeks, by {by}", vocabulary(sum(rows, []), [1, teams], ORDERS), network)
 
 
 def full_exams(count, slots):
@@ -75,9 +78,8 @@ def cases():
     yield lambda: with_orders(latin_square(6, ORDERS))
     yield lambda: with_orders(latin_square(8, ORDERS))
     yield sudoku
-    yield lambda: league(6, 5)
-    yield lambda: league(8, 7)
-    yield lambda: full_exams(48, 60)
+    yield lambda: league(8, 7, "weeks")
+    yield lambda: league(8, 7, "teams")
     yield lambda: full_exams(48, 48)
     yield lambda: shifts(7, 2, 12)
     yield lambda: job_shop(10, 5, 40, 3)

@@ -24,7 +24,7 @@ def cases():
     yield zebra
     yield lambda: latin_square(4)
     yield lambda: shifts(7, 2, 12)
-    yield lambda: league(6, 5)
+    yield lambda: league(6, 5, "weeks")
     yield lambda: job_shop(10, 5, 40, 3)
     yield lambda: exams(24, 10, 24)
 
