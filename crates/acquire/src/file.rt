@@ -87,6 +87,12 @@ impl<'a, R: Files<File = File>> NamedFile for SystemFile<'a, R> {
 
     ghost left_since = { λ f t c. Unit {0} };
 
+    ghost reads_fail = { λ f. Unit {0} };
+
+    ghost writes_fail = { λ f at n. Unit {0} };
+
+    ghost syncs_fail = { λ f. Unit {0} };
+
     ghost reads_true = { λ f x told. tt };
 
     ghost counts_now = { λ f t c le left. tt };

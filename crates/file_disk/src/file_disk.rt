@@ -1,8 +1,9 @@
 //! A named file as a disk.
 
-ghost use Rattle.std.specs.Prelude.{◌≡◌, ◌≤◌, ◌≢◌, ◌+◌, ◌-◌, ◌^◌, ◌++◌, min, max, Some, None, IfOk, OnOk, length, take, drop};
+ghost use Rattle.std.specs.Prelude.{◌≡◌, ◌≤◌, ◌≢◌, ◌⊎◌, ◌+◌, ◌-◌, ◌^◌, ◌++◌, min, max, Some, None, IsSome, IsNone, IsErr, IsSomeAnd, IfOk, OnOk, IfSome, length, take, drop};
 ghost use Rattle.std.specs.Option.{ForSome, ForNone};
 ghost use Rattle.disk_model.specs.Disk.{Torn, IsWritten, Follows, Only, AddsNothing, Elapses, AreCalls, Rose, HasCause};
+ghost use Rattle.file_disk.specs.Seen.{HasAnotherLength, IsLengthOf};
 
 use crate::NamedFile;
 use disk_model::{Disk, Failed};
@@ -32,8 +33,14 @@ impl<F: NamedFile> FileDisk<F> {
     }
 
     /// The file's length, where it tells one and none was seen before, or the same. Else None.
-    fn length_as_seen(&self) -> Option<u64> {
-        let length = self.file.length().ok()?;
+    fn length_as_seen(&self) -> Option<u64>
+        ensures told { ForSome (F.content self.now.file) (λ bytes. IfSome result (λ n. n ≡ length bytes)) }
+        ensures noticed { ForSome (F.content self.now.file) (λ bytes. IsSomeAnd self.now.seen (λ n. n ≢ length bytes) → IsNone result) }
+        ensures cause { IsNone result → F.reads_fail self.now.file ⊎ HasAnotherLength self.now.seen (F.content self.now.file) }
+    {
+        let Ok(length) = self.file.length() else {
+            return None;
+        };
         match self.seen {
             Some(seen) if seen != length => None,
             _ => Some(length),
@@ -45,6 +52,7 @@ impl<F: NamedFile> FileDisk<F> {
         ensures rose { Rose self.old.faults self.new.faults }
         ensures later { self.old.faults ≤ self.new.faults }
         ensures file { self.new.file ≡ self.old.file }
+        ensures seen { self.new.seen ≡ self.old.seen }
     {
         self.faults = self.faults.saturating_add(1);
         Failed
@@ -71,7 +79,18 @@ impl<F: NamedFile> Disk for FileDisk<F> {
 
     ghost only_now = { λ d. F.only_now d.file };
 
-    fn len(&mut self) -> Result<u64, Failed> {
+    fn len(&mut self) -> Result<u64, Failed>
+        ensures told { ForSome (F.content self.old.file) (λ bytes. IfOk result (λ n. n ≡ length bytes)) }
+        ensures same { F.content self.new.file ≡ F.content self.old.file }
+        ensures crash { AddsNothing (F.may_leave self.old.file) (F.may_leave self.new.file) }
+        ensures time { Elapses (F.moment self.old.file) (F.moment self.new.file) (F.left_since self.old.file) (F.left_since self.new.file) (F.may_leave self.new.file) }
+        ensures one_call { AreCalls 1 (2 ^ 64 - 1) (2 ^ 64 - 1) }
+        ensures cause { HasCause self.old.faults self.new.faults result }
+
+        // It fails only where the file does, and sees the length.
+        ensures failed { IsErr result → F.reads_fail self.old.file }
+        ensures seen { OnOk result (IsLengthOf self.new.seen (F.content self.new.file)) }
+    {
         match self.file.length() {
             Ok(length) => {
                 self.seen = Some(length);
@@ -81,14 +100,39 @@ impl<F: NamedFile> Disk for FileDisk<F> {
         }
     }
 
-    fn read(&mut self, at: u64, buf: &mut [u8]) -> Result<usize, Failed> {
+    fn read(&mut self, at: u64, buf: &mut [u8]) -> Result<usize, Failed>
+        ensures told { ForSome (F.content self.old.file) (λ bytes. IfOk result (λ n. (n ≡ min (length buf.old) (length bytes - at)) × (buf.new ≡ take n (drop at bytes) ++ drop n buf.old))) }
+        ensures fits { IfOk result (λ n. n ≤ length buf.old) }
+        ensures same { F.content self.new.file ≡ F.content self.old.file }
+        ensures crash { AddsNothing (F.may_leave self.old.file) (F.may_leave self.new.file) }
+        ensures time { Elapses (F.moment self.old.file) (F.moment self.new.file) (F.left_since self.old.file) (F.left_since self.new.file) (F.may_leave self.new.file) }
+        ensures one_call { AreCalls 1 (2 ^ 64 - 1) (2 ^ 64 - 1) }
+        ensures cause { HasCause self.old.faults self.new.faults result }
+
+        // It fails only where the file does, or where a place behind the last number of 64 bits is to be read.
+        ensures failed { IsErr result → F.reads_fail self.old.file ⊎ (2 ^ 64 ≤ at + length buf.old) }
+        ensures seen { self.new.seen ≡ self.old.seen }
+    {
         match read_whole(&self.file, at, buf) {
             Ok(count) => Ok(count),
             Err(Failed) => Err(self.fault()),
         }
     }
 
-    fn write_at(&mut self, at: u64, bytes: &[u8]) -> Result<(), Failed> {
+    fn write_at(&mut self, at: u64, bytes: &[u8]) -> Result<(), Failed>
+        requires { ForSome (F.content self.old.file) (λ old. at ≤ length old) }
+        ensures written { ForSome (F.content self.old.file) (λ old. IsWritten at bytes.now old (F.content self.new.file) result) }
+        ensures silent { ForNone (F.content self.old.file) (F.content self.new.file ≡ None) }
+        ensures crash { Follows (Torn at (length bytes.now)) (F.may_leave self.old.file) (F.may_leave self.new.file) }
+        ensures time { Elapses (F.moment self.old.file) (F.moment self.new.file) (F.left_since self.old.file) (F.left_since self.new.file) (F.may_leave self.new.file) }
+        ensures one_call { AreCalls 1 (2 ^ 64 - 1) (2 ^ 64 - 1) }
+        ensures cause { HasCause self.old.faults self.new.faults result }
+
+        // It fails where the file has another length than the one last seen, and else only where the file does.
+        ensures noticed { ForSome (F.content self.old.file) (λ bytes. IsSomeAnd self.old.seen (λ n. n ≢ length bytes) → IsErr result × (self.new.file ≡ self.old.file)) }
+        ensures failed { IsErr result → F.reads_fail self.old.file ⊎ F.writes_fail self.old.file at (length bytes.now) ⊎ HasAnotherLength self.old.seen (F.content self.old.file) }
+        ensures seen { OnOk result (IsLengthOf self.new.seen (F.content self.new.file)) }
+    {
         let Some(length) = self.length_as_seen() else {
             return Err(self.fault());
         };
@@ -101,7 +145,18 @@ impl<F: NamedFile> Disk for FileDisk<F> {
         }
     }
 
-    fn sync(&mut self) -> Result<(), Failed> {
+    fn sync(&mut self) -> Result<(), Failed>
+        ensures durable { ForSome (F.content self.old.file) (λ bytes. OnOk result (Only bytes (F.may_leave self.new.file))) }
+        ensures same { F.content self.new.file ≡ F.content self.old.file }
+        ensures crash { AddsNothing (F.may_leave self.old.file) (F.may_leave self.new.file) }
+        ensures time { Elapses (F.moment self.old.file) (F.moment self.new.file) (F.left_since self.old.file) (F.left_since self.new.file) (F.may_leave self.new.file) }
+        ensures one_call { AreCalls 1 (2 ^ 64 - 1) (2 ^ 64 - 1) }
+        ensures cause { HasCause self.old.faults self.new.faults result }
+
+        // It fails only where the file does.
+        ensures failed { IsErr result → F.syncs_fail self.old.file }
+        ensures seen { self.new.seen ≡ self.old.seen }
+    {
         match self.file.sync() {
             Ok(()) => Ok(()),
             Err(Failed) => Err(self.fault()),
@@ -113,6 +168,7 @@ impl<F: NamedFile> Disk for FileDisk<F> {
 fn read_whole<F: NamedFile>(file: &F, at: u64, buf: &mut [u8]) -> Result<usize, Failed>
     ensures told { ForSome (F.content file.now) (λ bytes. IfOk result (λ n. (n ≡ min (length buf.old) (length bytes - at)) × (buf.new ≡ take n (drop at bytes) ++ drop n buf.old))) }
     ensures fits { IfOk result (λ n. n ≤ length buf.old) }
+    ensures cause { IsErr result → F.reads_fail file.now ⊎ (2 ^ 64 ≤ at + length buf.old) }
 {
     let mut done = 0;
     while done < buf.len() {

@@ -1,9 +1,9 @@
 //! A file in memory, which tells everything.
 
-ghost use Rattle.std.specs.Prelude.{◌≡◌, ◌≤◌, ◌⊎◌, ◌-◌, ◌++◌, Some, None, length, take, drop, IfOk, OnOk};
+ghost use Rattle.std.specs.Prelude.{◌≡◌, ◌≤◌, ◌⊎◌, ◌-◌, ◌++◌, Some, None, length, take, drop, max, IsErr, IfOk, OnOk};
 ghost use Rattle.std.specs.Option.{ForSome, ForNone};
 ghost use Rattle.disk_model.specs.Disk.{Torn, IsWritten, Follows, Only, AddsNothing, Elapses};
-ghost use Rattle.disk_model.specs.MemDisk.{content_of, images_of, moment_of, left_of, tells_truth, counts, only};
+ghost use Rattle.disk_model.specs.MemDisk.{content_of, images_of, moment_of, left_of, FailsNext, Outgrows, IsWornOut, tells_truth, counts, only};
 
 use crate::NamedFile;
 use disk_model::{Disk, Failed, MemDisk};
@@ -20,7 +20,8 @@ pub struct MemFile {
 impl MemFile {
     /// The disk's file, of which a read gives so many bytes at most, and one at least.
     pub fn new(disk: MemDisk, most: usize) -> MemFile
-        ensures { result.disk ≡ disk }
+        ensures disk { result.disk ≡ disk }
+        ensures most { result.most ≡ max 1 most }
     {
         MemFile {
             disk,
@@ -45,6 +46,12 @@ impl NamedFile for MemFile {
     ghost moment = { λ file. moment_of file.disk };
 
     ghost left_since = { λ file. left_of file.disk };
+
+    ghost reads_fail = { λ file. ⊥ };
+
+    ghost writes_fail = { λ file at n. FailsNext file.disk ⊎ Outgrows file.disk at n ⊎ IsWornOut file.disk };
+
+    ghost syncs_fail = { λ file. FailsNext file.disk ⊎ IsWornOut file.disk };
 
     ghost reads_true = { λ file. tells_truth file.disk };
 

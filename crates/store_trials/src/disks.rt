@@ -5,6 +5,7 @@ ghost use Rattle.std.specs.Option.{ForSome};
 ghost use Rattle.disk_model.specs.MemDisk.{moment_of};
 
 use disk_model::{Disk, FuseDisk, MemDisk, Room};
+use file_disk::{FileDisk, MemFile};
 use rows::{bytes_in, number, push_bytes};
 use std::alloc::Global;
 use std::str::SplitWhitespace;
@@ -118,6 +119,40 @@ pub(crate) fn fuse(alloc: Global, over: &str, arguments: &str) -> Option<String>
     let mut text = String::new(alloc);
     push_fused(&mut text, &mut fuse, calls)?;
     push_disk(&mut text, &fuse.into_inner())?;
+    Some(text)
+}
+
+/// Makes these calls of a file.
+fn push_filed(text: &mut String, disk: &mut FileDisk<MemFile>, calls: &str) -> Option<()> {
+    for word in calls.split_whitespace() {
+        let (at, call) = call_in(word)?;
+        if at > disk.len().ok()? {
+            return None;
+        }
+        push_said(text, does_pass(disk, at, call))?;
+    }
+    Some(())
+}
+
+/// The bytes of a file, 16 at most, from this place on.
+fn push_read(text: &mut String, disk: &mut FileDisk<MemFile>, at: u64) -> Option<()> {
+    let mut buf = [0; 16];
+    let count = disk.read(at, &mut buf).ok()?;
+    push_bytes(text, &buf[..count])
+}
+
+/// What calls of a file come to that gives a few bytes a read at most, and what is read of it behind them, from a place on.
+pub(crate) fn named(alloc: Global, over: &str, arguments: &str) -> Option<String> {
+    let (front, calls) = arguments.split_once(" of ")?;
+    let (most, front) = front.split_once(' ')?;
+    let (from, front) = front.split_once(' ')?;
+    let most = most.parse().ok()?;
+    let from = from.parse().ok()?;
+    let disk = disk_of(alloc, over, front)?;
+    let mut disk = FileDisk::new(MemFile::new(disk, most));
+    let mut text = String::new(alloc);
+    push_filed(&mut text, &mut disk, calls)?;
+    push_read(&mut text, &mut disk, from)?;
     Some(text)
 }
 

@@ -24,6 +24,7 @@ fn below(alloc: Global, over: &str, call: &str, arguments: &str) -> Option<Strin
     match call {
         "disk" => disks::disk(alloc, over, arguments),
         "fuse" => disks::fuse(alloc, over, arguments),
+        "named" => disks::named(alloc, over, arguments),
         "left" => disks::left(alloc, over, arguments),
         "journal-makes" => making::makes(alloc, over, arguments),
         "journal-opens" => journals::opens(alloc, over, arguments),

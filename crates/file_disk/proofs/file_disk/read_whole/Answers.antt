@@ -1,4 +1,4 @@
-use Rattle.std.proofs.Common.{rules, ◌≡◌, ◌≤◌, ◌+◌, ◌-◌, ◌++◌, ◌∙◌, ap, length, take, drop, sym, arith}
+use Rattle.std.proofs.Common.{rules, ◌≡◌, ◌+◌, ◌-◌, ◌++◌, ◌∙◌, ap, length, take, drop, sym, arith}
 use Rattle.std.proofs.lemmas.List.{drop-drop, length-drop}
 use borrow.Rule.Slice.PartMut.{mid_of}
 use Rattle.file_disk.proofs.Reading.{filled_further}
