@@ -27,6 +27,7 @@ from concurrent.futures import ThreadPoolExecutor
 HERE = os.path.dirname(os.path.realpath(__file__))
 PARTS_FOLDER = os.path.join(HERE, "desk_parts")
 DESK = os.environ.get("DESK_FOLDER", os.path.join(os.path.dirname(HERE), "desk"))
+CLIENT = os.path.join(os.path.dirname(HERE), "python")     # through which desk talks to the program
 
 # those that take longest first
 PARTS = ("terminal", "kept", "captured", "pages", "changes", "refusals", "suspects", "known", "bounds", "sitting",
@@ -94,7 +95,8 @@ def planted(program: str, bugs: list[tuple[str, int]]) -> list[str]:
         name, (file, old, new) = bug
         with tempfile.TemporaryDirectory() as folder:
             copy = os.path.join(folder, "desk")
-            shutil.copytree(DESK, copy, ignore=shutil.ignore_patterns("__pycache__"))
+            for it in (DESK, CLIENT):
+                shutil.copytree(it, os.path.join(folder, os.path.basename(it)), ignore=shutil.ignore_patterns("__pycache__"))
             path = os.path.join(copy, "planners_desk", file)
             with open(path, encoding="utf-8") as source:
                 text = source.read()

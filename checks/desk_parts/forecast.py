@@ -76,16 +76,16 @@ PLANTED = [
         "return list(asked)",
     ),
     (
-        "program/talk.py",
-        "            self._clock.tick()\n            if self._clock.over:\n                raise Late\n"
+        "../../python/acquire/process.py",
+        '            deadline.tick()\n            if deadline.over:\n                raise TimeOver("")\n'
         "            if came:\n                return\n",
         "            if came:\n                return\n"
-        "            self._clock.tick()\n            if self._clock.over:\n                raise Late\n",
+        '            deadline.tick()\n            if deadline.over:\n                raise TimeOver("")\n',
     ),
     (
-        "program/talk.py",
-        "        if clock is not None:\n            clock.tick()\n",
-        "        if clock is not None and not came:\n            clock.tick()\n",
+        "../../python/acquire/process.py",
+        "        if deadline is not None:\n            deadline.tick()\n",
+        "        if deadline is not None and not came:\n            deadline.tick()\n",
     ),
     ("hints/offers.py", "if most + 1 in have or not some", "if not some"),
     ("hints/offers.py", "return min(found, key=", "return max(found, key="),
@@ -274,7 +274,7 @@ def deadlines(program: str) -> list[str]:
                 faults.append(
                     f"{what} without an end came to one after {time.monotonic() - began:.1f} s"
                 )
-            except talk.Late as late:
+            except talk.TimeOver as late:
                 if what == "play" and not late.lines:
                     faults.append("what had come until the time was over is lost")
             if len(told) < 3 or not told[0].startswith("trying it, at most 2 s more"):

@@ -30,8 +30,8 @@ PLANTED = [
     ("case/casefile.py", "            self._few(own, MOST_THINGS, \"things\")\n", ""),
     ("case/names.py", "if len(numbers) > MOST_FILLED:", "if False:"),
     ("case/files.py", "    if kind != stat.S_IFREG:\n", "    if False:\n"),
-    ("program/talk.py", "        raise something_else(\"bytes that are no text\") from None", "        return printed.decode(errors=\"replace\")"),
-    ("program/talk.py", "        if len(printed) > MOST_PRINTED:\n", "        if False:\n"),
+    ("program/talk.py", "    if NO_TEXT in printed:\n", "    if False:\n"),
+    ("../../python/acquire/process.py", "        if len(printed) > MOST_PRINTED:\n", "        if False:\n"),
     ("sitting/session.py", "if f\"answers {len(self.answers)}\" not in lines:", "if False:"),
     ("program/vocabulary.py", "if name not in self._place or not number.isdecimal() or not 1 <= int(number) <= self.coding.size:", "if False:"),
     ("hints/trials.py", "raise something_else(f\"{len(asked)} questions without an end\")", "pass"),
@@ -42,7 +42,7 @@ PLANTED = [
     ("commands/check.py", "    if importlib.util.find_spec(\"rich\") is None:\n", "    if False:\n"),
     ("../desk", "sys.path.insert(0, os.path.dirname(os.path.realpath(__file__)))", "pass"),
     ("hints/solver.py", "if re.fullmatch(\"[1-9][0-9]{0,8}\", word)}", "}"),
-    ("hints/solver.py", "except (Late, Endless, OSError):", "except Late:"),
+    ("hints/solver.py", "except (TimeOver, Unexpected, OSError):", "except TimeOver:"),
 ]
 
 

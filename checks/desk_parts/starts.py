@@ -56,7 +56,8 @@ PLANTED = [
 def repository(program: str) -> Iterator[str]:
     """A folder with desk, the script, and two programs that note which of them was called."""
     with tempfile.TemporaryDirectory() as top:
-        shutil.copytree(hands.DESK, os.path.join(top, "desk"), ignore=shutil.ignore_patterns("__pycache__"))
+        for it in (hands.DESK, os.path.join(os.path.dirname(hands.DESK), "python")):
+            shutil.copytree(it, os.path.join(top, os.path.basename(it)), ignore=shutil.ignore_patterns("__pycache__"))
         out = os.path.join(top, "crates", "acquire", "out")
         os.makedirs(out)
         os.makedirs(os.path.join(top, "tools"))

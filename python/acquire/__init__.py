@@ -19,20 +19,22 @@ its values break no rule by themselves. At the end there is the network of const
 `Session` asks: question by question, or a function until the end, in memory or over a journal that keeps the answers. `Converged`,
 `Collapsed`, `Undecided`, `Suspended` and `Full` say how it ended. `Constraint` and `Vocabulary` hand on what was learned, as
 predicates and as tables for other solvers. `check` confirms a certificate. What is refused, or fails, is raised as an
-`AcquireError`. `Program`, `Run` and `Reply` are for those who talk to the program line by line.
+`AcquireError`. `Program`, `Run` and `Reply` are for those who talk to the program line by line, with a `Deadline` where it may take
+too long. Whichever thread starts the program, it ends when the process does.
 
 Each question, ending and constraint comes from the program, of which it is proved that they are right; of this package nothing is
 proved. It needs the standard library alone. `docs/python.md` has sessions to try, and `docs/formats.md` each word of the program.
 """
 
-from .faults import (AcquireError, JournalRefused, NotFinished, ProgramEnded, ProgramMissing, Refusal, SystemFault,
+from .faults import (AcquireError, JournalRefused, NotFinished, ProgramEnded, ProgramMissing, Refusal, SystemFault, TimeOver, Unexpected,
                      VocabularyRefused)
+from .process import Deadline
 from .program import Program, Reply, Run
 from .session import (PLANS, Answer, Collapsed, Converged, Ending, Full, Oracle, Question, Session, Suspended, Undecided, check)
 from .vocabulary import Constraint, Vocabulary
 
 __all__ = [
-    "AcquireError", "Answer", "Collapsed", "Constraint", "Converged", "Ending", "Full", "JournalRefused", "NotFinished", "Oracle", "PLANS",
-    "Program", "ProgramEnded", "ProgramMissing", "Question", "Refusal", "Reply", "Run", "Session", "Suspended", "SystemFault", "Undecided",
-    "Vocabulary", "VocabularyRefused", "check",
+    "AcquireError", "Answer", "Collapsed", "Constraint", "Converged", "Deadline", "Ending", "Full", "JournalRefused", "NotFinished",
+    "Oracle", "PLANS", "Program", "ProgramEnded", "ProgramMissing", "Question", "Refusal", "Reply", "Run", "Session", "Suspended",
+    "SystemFault", "TimeOver", "Undecided", "Unexpected", "Vocabulary", "VocabularyRefused", "check",
 ]

@@ -50,6 +50,33 @@ class SystemFault(AcquireError):
         self.status = status
 
 
+class TimeOver(AcquireError):
+    """A deadline was over before the program was done, which is ended then. A journal keeps all answers to which a line came.
+
+    printed: what a call had printed until then.
+    """
+
+    def __init__(self, printed: str) -> None:
+        super().__init__("the time was over before the program was done")
+        self.printed = printed
+
+    @property
+    def lines(self) -> list[str]:
+        """The lines of it without their ends."""
+        return self.printed.splitlines()
+
+
+class Unexpected(AcquireError):
+    """The program printed what it can't have to say, as a line without an end: it may be another program.
+
+    what: what that was.
+    """
+
+    def __init__(self, what: str) -> None:
+        super().__init__(f"the program printed {what}")
+        self.what = what
+
+
 class ProgramEnded(AcquireError):
     """The program ended where it shouldn't have.
 

@@ -12,7 +12,8 @@ from types import TracebackType
 from typing import Any
 
 from . import solver as solvers
-from .faults import JournalRefused, NotFinished, ProgramEnded, Refusal, SystemFault, VocabularyRefused
+from .faults import JournalRefused, NotFinished, ProgramEnded, Refusal, SystemFault, TimeOver, Unexpected, VocabularyRefused
+from .process import Deadline
 from .program import Program, Reply, Run
 from .vocabulary import Constraint, Vocabulary
 
@@ -113,7 +114,7 @@ class Session:
 
     def __init__(self, vocabulary: Vocabulary | Mapping[str, Any] | str | bytes | None = None, *, plan: str | None = None,
                  journal: str | os.PathLike[str] | None = None, budget: int | None = None,
-                 program: Program | str | os.PathLike[str] | None = None) -> None:
+                 program: Program | str | os.PathLike[str] | None = None, patience: float | None = None) -> None:
         """Starts the program, and waits for the first question.
 
         vocabulary: the object that `docs/formats.md` describes, its JSON text, or a `Vocabulary`. Where the journal has a session it
@@ -122,6 +123,8 @@ class Session:
         journal: the file that keeps the answers; it is made where there is none. Without one nothing is kept.
         budget: how many steps the search for a question may take on each candidate, 1 to 1,000,000,000; else it is 100,000.
         program: a `Program` or its path; else `Program.found` says where it is looked for.
+        patience: how many seconds each question, and each other call, may take; else they are waited for. Where they are over, the
+            program is killed, the session is at its end, and `TimeOver` is raised; over a journal a new `Session` goes on.
 
         Raises `ValueError` where plan or budget is none, `VocabularyRefused`, `JournalRefused` (also where the journal has another
         vocabulary or plan), `ProgramMissing` and `SystemFault`.
@@ -133,6 +136,7 @@ class Session:
         self.program = program if isinstance(program, Program) else Program.found(program)
         self.journal = None if journal is None else os.fspath(journal)
         self._budget = [] if budget is None else [f"--budget={budget}"]
+        self._patience = patience
         self._answers: list[Answer] = []
         self._run: Run | None = None
         self._question: Question | None = None
@@ -274,7 +278,7 @@ class Session:
         self._run.write(vocabulary.line)
 
     def _begin_over(self, journal: str, vocabulary: Vocabulary | None, plan: str | None) -> None:
-        shown = self.program.call([journal, "show"])
+        shown = self.program.call([journal, "show"], deadline=self._deadline())
         if shown.text == "refused journal no session\n":
             if vocabulary is None:
                 raise JournalRefused("journal", "no session")
@@ -291,9 +295,13 @@ class Session:
         self._run = self.program.run([journal, "run", *self._budget])
 
     def _made(self, journal: str, vocabulary: Vocabulary, plan: str) -> None:
-        self._accepted(self.program.call([journal, "new", f"--plan={plan}"], vocabulary.bytes))
+        self._accepted(self.program.call([journal, "new", f"--plan={plan}"], vocabulary.bytes, self._deadline()))
 
     # ---- lines
+
+    def _deadline(self) -> Deadline | None:
+        """For what is waited for now."""
+        return None if self._patience is None else Deadline(self._patience)
 
     def _due(self) -> Question:
         if self._question is None:
@@ -307,12 +315,18 @@ class Session:
     def _next(self) -> Question | None:
         """Reads on: a question, or how it ended."""
         assert self._run is not None
-        line = self._run.line()
-        if line.startswith("q"):
-            self._question = self._question_of(line.split(" "))
-            return self._question
         self._question = None
-        lines = [line, *self._run.rest()]
+        try:
+            line = self._run.line(self._deadline())
+            if line.startswith("q"):
+                self._question = self._question_of(line.split(" "))
+                return self._question
+            lines = [line, *self._run.rest(self._deadline())]
+        except (TimeOver, Unexpected):
+            run, self._run = self._run, None
+            with contextlib.suppress(Unexpected):
+                run.kill()
+            raise
         status = self._run.close()
         self._run = None
         self._ending = self._ending_of(lines, status)
@@ -359,11 +373,12 @@ class Session:
         with tempfile.TemporaryDirectory() as folder:
             journal = os.path.join(folder, "journal")
             self._made(journal, self.vocabulary, self.plan)
-            self.program.call([journal, "run", *self._budget], b"".join(b"yes\n" if it.yes else b"no\n" for it in self._answers))
+            self.program.call([journal, "run", *self._budget], b"".join(b"yes\n" if it.yes else b"no\n" for it in self._answers),
+                              self._deadline())
             yield journal
 
     def _called(self, command: str, journal: str, *words: str, given: bytes = b"") -> Reply:
-        return self._accepted(self.program.call([journal, command, *words], given))
+        return self._accepted(self.program.call([journal, command, *words], given, self._deadline()))
 
     def _accepted(self, reply: Reply) -> Reply:
         """The reply, where the program has done what was asked. Else what it says is raised."""

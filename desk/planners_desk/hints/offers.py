@@ -16,7 +16,7 @@ from dataclasses import dataclass
 from ..case import catalogue, groups
 from ..case.model import Case, Fault, Group
 from ..program.coding import MOST_BY_ARITY
-from ..program.talk import Clock, Late, Program
+from ..program.talk import Clock, Program, TimeOver
 from ..program.vocabulary import MOST_SCOPES, Vocabulary
 from . import trials
 
@@ -99,5 +99,5 @@ def _beside(
         )
         clock.doing(f"reckoning what `{word}` costs")
         return trials.middle(words, program, clock)
-    except (Fault, Late):
+    except (Fault, TimeOver):
         return None

@@ -16,8 +16,11 @@ import tempfile
 from collections.abc import Iterable, Sequence
 from dataclasses import dataclass
 
+from acquire import Unexpected
+from acquire.process import called
+
 from ..case.model import Count, Rule, Values
-from ..program.talk import Clock, Endless, Late, Program, called, something_else
+from ..program.talk import Clock, Program, TimeOver, something_else
 from ..program.vocabulary import Vocabulary
 
 # the words behind a solver's name; minisat writes its model to a file, the others print it
@@ -56,8 +59,8 @@ class Clauses:
 def clauses_of(program: Program, vocabulary: Vocabulary, journal: str, clock: Clock | None = None) -> Clauses | None:
     """What `cnf` prints of a journal; None where it is refused, or isn't there in time."""
     try:
-        reply = program.call([journal, "cnf"], clock=clock)
-    except Late:
+        reply = program.call([journal, "cnf"], deadline=clock)
+    except TimeOver:
         return None
     if reply.status != 0:
         return None
@@ -90,11 +93,11 @@ def solved(count: int, clauses: Sequence[Clause], clock: Clock | None = None) ->
             file.writelines(" ".join(map(str, clause)) + " 0\n" for clause in clauses)
         words = [solver, *SOLVERS[solver], given, *([made] if solver == "minisat" else [])]
         try:
-            status, printed = called(words, clock=own)
+            status, printed = called(words, deadline=own, quiet=True)
             if solver == "minisat" and status in SATISFIABLE:
                 with open(made, "rb") as model:
                     printed = model.read()
-        except (Late, Endless, OSError):
+        except (TimeOver, Unexpected, OSError):
             return None
         return _true(printed) if status in SATISFIABLE else None
 
@@ -111,7 +114,7 @@ def checked(program: Program, vocabulary: Vocabulary, journal: str, clauses: Cla
     booleans = " ".join(str(boolean) for boolean in sorted(true) if boolean <= clauses.count)
     try:
         reply = program.call([journal, "model"], f"v {booleans} 0\n".encode(), clock)
-    except Late:
+    except TimeOver:
         return None
     if reply.status != 0 or not reply.lines or not reply.lines[0].startswith("solution"):
         return None

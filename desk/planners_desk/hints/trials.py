@@ -18,7 +18,7 @@ from collections.abc import Iterator, Sequence
 from dataclasses import dataclass, field
 
 from ..case.model import PLANS, Case, Fault, Rule, Values
-from ..program.talk import Clock, Late, Program, Run, is_question, something_else
+from ..program.talk import Clock, Program, Run, TimeOver, is_question, said, something_else
 from ..program.vocabulary import Vocabulary
 from .foreseen import Foreseen
 from .possible import Possible
@@ -243,16 +243,16 @@ def network_text(words: Vocabulary, network: Drawn) -> bytes:
 def played(
     words: Vocabulary, program: Program, plan: str, network: Drawn, clock: Clock | None = None
 ) -> list[str]:
-    """The lines of the questions that a plan asks where the network answers; `Late` has the lines
+    """The lines of the questions that a plan asks where the network answers; `TimeOver` has the lines
     so far."""
     with tempfile.TemporaryDirectory(dir=MEMORY if os.path.isdir(MEMORY) else None) as folder:
         journal = os.path.join(folder, "trial.journal")
         made = program.call([journal, "new", "--plan", plan], words.json.encode(), clock)
         if made.status:
-            raise Fault(f"{words.case.path}: acquire says: {made.said}")
+            raise Fault(f"{words.case.path}: acquire says: {said(made)}")
         reply = program.call([journal, "play"], network_text(words, network), clock)
     if reply.status not in (0, 5):
-        raise Fault(f"{words.case.path}: acquire says: {reply.said}")
+        raise Fault(f"{words.case.path}: acquire says: {said(reply)}")
     asked = [line for line in reply.lines if is_question(line.split(" ", 1)[0])]
     if reply.lines[len(asked) : len(asked) + 1] not in (
         [f"converged {len(asked)}"],
@@ -328,7 +328,7 @@ def figures(
         clock.doing(f"trying {WAYS[plan]}: made-up case {trial + 1} of {len(networks)}")
         try:
             own = own_of(words, played(words, program, plan, network, clock), foreseen)
-        except Late as stopped:
+        except TimeOver as stopped:
             late, beyond = True, sum(is_question(line.split(" ", 1)[0]) for line in stopped.lines)
             break
         tried.add(own)
@@ -345,7 +345,7 @@ def figures(
                 clock,
             )
             tried.slips += 1
-        except Late:
+        except TimeOver:
             late = trial + 1 < len(networks)
             break
     return Figures(
@@ -406,17 +406,17 @@ def prices(case: Case, program: Program, clock: Clock) -> Iterator[Price]:
         clock.doing(f"reckoning what `{word.text}` costs")
         try:
             yield Price(word.text, middle(words, program, clock))
-        except Late:
+        except TimeOver:
             yield Price(word.text, None)
 
 
 def middle(words: Vocabulary, program: Program, clock: Clock) -> int:
-    """Questions of the middle trial in plan `scopes`; `Late` where the time is over."""
+    """Questions of the middle trial in plan `scopes`; `TimeOver` where the time is over."""
     foreseen = Foreseen(words.case)
     counts = []
     for trial in range(trials_of(words)):
         if clock.over:
-            raise Late
+            raise TimeOver("")
         lines = played(words, program, "scopes", drawn(words, trial, trials_of(words)), clock)
         counts.append(len(own_of(words, lines, foreseen)) if words.case.always else len(lines))
     return sorted(counts)[len(counts) // 2]

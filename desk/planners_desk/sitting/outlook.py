@@ -15,7 +15,7 @@ from ..case.files import journal_of
 from ..case.model import MOST_RELATIONS, Fault, Values
 from ..hints import offers, solver, trials
 from ..hints.trials import Figures, Price
-from ..program.talk import Clock, Late, Program
+from ..program.talk import Clock, Program, TimeOver, said
 from ..program.vocabulary import Vocabulary
 from .session import head_of
 
@@ -211,10 +211,10 @@ def plans_of(
         ):
             try:
                 reply = program.call([made, *call], given, clock)
-            except Late:
+            except TimeOver:
                 return []
             if reply.status:
-                raise Fault(f"{words.case.path}: acquire says: {reply.said}")
+                raise Fault(f"{words.case.path}: acquire says: {said(reply)}")
         return solver.plans(program, words, made, most, clock)
 
 

@@ -24,7 +24,7 @@ from ..case.model import Answer, Case, Constraint, Ending, Fault, Question, Rule
 from ..hints import trials
 from ..hints.foreseen import AGAIN, ALWAYS, CARRIED, Foreseen, Old, old
 from ..hints.possible import Possible
-from ..program import vocabulary
+from ..program import talk, vocabulary
 from ..program.talk import Clock, Program, Reply, Run, is_question, something_else
 from . import handover
 
@@ -510,7 +510,7 @@ def said_by(journal: str, status: int, text: str) -> str:
     """What the program said, for people."""
     if status < 0:
         return f"{journal}: acquire was ended by signal {-status}; the answers are kept"
-    said = Reply(status, text).said
+    said = talk.said(Reply(status, text))
     return f"{journal}: acquire says: {said}{_remedy(journal, said)}"
 
 

@@ -1,8 +1,8 @@
 """Sittings that are shown in a browser: one thread owns each, and requests hand it steps.
 
-The program that asks dies with the thread that started it, and a session is one writer's: so one thread
-opens a session, holds its lock, talks with the program, and makes what pages show. A request waits until
-its step is done, so that a page which shows the next question stands for an answer that is kept.
+A session is one writer's: so one thread opens it, holds its lock, talks with the program, and makes
+what pages show. A request waits until its step is done, so that a page which shows the next question
+stands for an answer that is kept.
 """
 
 from __future__ import annotations
