@@ -1,7 +1,7 @@
 #!/bin/sh
 # Installs what the checks behind the gate use and the machine lacks, where this runs as root and the system has packages: a C
 # compiler (memory.py), strace (faults.py), a SAT solver (models.py), mypy (python.sh, rooms.sh), jsonschema (schema.py), the
-# libraries of desk's page (rooms.sh, web.py) and clang's runtime (threads.sh). It says so before, and NO_INSTALL=1 forbids it. It never fails:
+# libraries of desk (rooms.sh, web.py) and clang's runtime (threads.sh). It says so before, and NO_INSTALL=1 forbids it. It never fails:
 # each check says by itself what it passes over.
 #
 # usage: tools/needed.sh
@@ -14,7 +14,7 @@ command -v cadical >/dev/null || command -v kissat >/dev/null || command -v mini
     missing="$missing cadical"
 command -v mypy >/dev/null || missing="$missing mypy"
 python3 -c 'import jsonschema' 2>/dev/null || missing="$missing python3-jsonschema"
-/usr/bin/python3 -c 'import flask, waitress' 2>/dev/null || missing="$missing python3-flask python3-waitress"
+/usr/bin/python3 -c 'import flask, waitress, rich' 2>/dev/null || missing="$missing python3-flask python3-waitress python3-rich"
 find /usr/lib/llvm-* -name 'libclang_rt.tsan-*.a' 2>/dev/null | grep -q . || missing="$missing libclang-rt-14-dev"
 [ -n "$missing" ] || exit 0
 
