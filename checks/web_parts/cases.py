@@ -158,7 +158,7 @@ def as_text(program: str) -> Faults:
         lines = dict(re.findall(r'data-line="(\d+)">[^<]*</a>: (.*?)</li>', page))
         if text_of(web, "x.case") != wrong or f">\n{wrong}</textarea>" not in page:
             yield f"a text with a fault is {text_of(web, 'x.case')!r}"
-        if set(lines) != {"5"} or not lines["5"].startswith("a line is `key: text`"):
+        if set(lines) != {"4", "5"} or not lines["5"].startswith("a line is `key: text`") or not lines["4"].startswith("`alll` isn't a way"):
             yield f"the faults of the text are told at {lines}"
         if ("other", "whatever") not in fields(page):
             yield "a line that nobody understands isn't in the form"

@@ -159,7 +159,7 @@ class Forms(unittest.TestCase):
                 casefile.parse(text, NAME)
             except Fault as fault:
                 faulty += 1
-                self.assertEqual(len(judged.faults), len(fault.texts))
+                self.assertGreaterEqual(len(judged.faults), len(fault.texts))
                 for one in judged.faults:
                     self.assertIn(one.field, {*forms.ORDER, forms.OTHER}, (seed, one))
         self.assertGreater(written, DRAWN // 8)
@@ -200,6 +200,11 @@ class Faults(unittest.TestCase):
         for text, field, place, line in self.ROWS:
             first = faults.judged(text, NAME).faults[0]
             self.assertEqual((first.field, first.place, first.line), (field, place, line), text)
+
+    def test_a_strange_line_hides_no_other_fault(self) -> None:
+        """The reader ends at it, and the form tells the others as well, at their lines."""
+        found = faults.judged("hello\n" + self.CASE + "ask: all, alll\nwords: same, sam\n", NAME).faults
+        self.assertEqual([(one.field, one.place, one.line) for one in found], [("other", 0, 1), ("ask", 1, 4), ("words", 1, 5)])
 
     def test_none_where_there_is_none(self) -> None:
         """The cases to begin with."""

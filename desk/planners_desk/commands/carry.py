@@ -52,7 +52,8 @@ def main(old: str, new: str | None, options: argparse.Namespace) -> int:
     program = Program.found(options.acquire)
     case = casefile.read(new or old)
     streams.can_show(case)
-    print("\n".join(carried(old, case, program, options.budget)))
+    told = carried(old, case, program, options.budget)
+    print("\n".join(told) + f" Go on with: desk ask {case.path}")
     return 0
 
 
@@ -250,6 +251,5 @@ def came_of(session: Session, ended: str) -> str:
     )
     return (
         f"{given} question{'s were' if given != 1 else ' was'} answered for you from them and from "
-        f"your `always` lines, {left}. "
-        f"Go on with: desk ask {session.case.path}"
+        f"your `always` lines, {left}."
     )

@@ -307,5 +307,6 @@ def take_over(name: str) -> Answer | str:
     if store.load(path).mark != request.form.get("mark", ""):
         raise BadRequest("The case was changed since this page was shown. Nothing was taken over.")
     sittings().stop(path)
-    lines = carry.carried(path, casefile.read(path), program(), None)
+    told = carry.carried(path, casefile.read(path), program(), None)
+    lines = [line.replace(folder().path + os.sep, "") for line in told]
     return render_template("carried.html", name=name, lines=lines)

@@ -69,13 +69,25 @@ def judged(text: str, name: str) -> Judged:
     try:
         case = casefile.parse(text, name)
     except Fault as fault:
-        return Judged(text, form, faults=tuple(_placed(text, name, form, fault.texts)))
+        found = list(_placed(text, name, form, fault.texts))
+        return Judged(text, form, faults=(*found, *_behind(text, name, form, found)))
     try:
         return Judged(text, form, case, Vocabulary(case))
     except Fault as fault:
         told = fault.texts[0].removeprefix(f"{name}: ")
         field, place = _of_words(text, name, form, told)
         return Judged(text, form, case, faults=(At(field, place, 0, told),))
+
+
+def _behind(text: str, name: str, form: Form, found: Sequence[At]) -> Iterator[At]:
+    """The faults that the reader doesn't come to, since lines stand there that it doesn't know."""
+    if any(one.field != OTHER for one in found):
+        return
+    bare = "\n".join("" if line.field == OTHER else line.raw for line in forms.lines_of(text))
+    try:
+        casefile.parse(bare, name)
+    except Fault as fault:
+        yield from _placed(bare, name, form, fault.texts)
 
 
 def unwritable(form: Form) -> list[At]:
