@@ -273,8 +273,82 @@ def menu(program: str) -> Faults:
     yield from walk(program, "menu", MENU)
 
 
-TESTS = (seats, conference, holidays, store, duty, menu)
+THREE = """title: Three
+things: a b c
+values: 1 2 3
+ask: all
+words: different, before
+"""
+MOST_TABS = 150
+
+
+def by_keys(program: str) -> Faults:
+    """A case without a mouse: the tab key leads to each field, and stays where it was when the page is drawn anew."""
+    with at_form(program, "three") as (web, it):
+        it.browser.driver.execute_script("document.getElementById('main').focus()")
+        for name, value, keys in (("title", "", "Three"), ("things-text", "", "a b c"), ("values-text", "", "1 2 3"), ("ask", "all", " "),
+                                  ("words", "different", " "), ("words", "before", " "), ("do", "ask", "\n")):
+            if not reached(it, name, value):
+                yield f"no tab leads to {name} {value}"
+                return
+            if name == "title":
+                it.browser.driver.execute_script("document.activeElement.select()")
+            it.browser.key(keys)
+            if name != "do":
+                it.settled()
+        it.browser.wait(lambda: it.browser.text(".said"))
+        with open(os.path.join(web.folder, "three.case"), encoding="utf-8") as file:
+            if (made := file.read()) != THREE:
+                yield f"by keys alone the file says {made!r}"
+
+
+def reached(it: Typist, name: str, value: str) -> bool:
+    """Presses the tab key until it leads to a field; whether it does."""
+    for _ in range(MOST_TABS):
+        it.browser.key("\ue004")
+        now = it.browser.driver.execute_script("const at = document.activeElement; return [at.name || '', at.value || '']")
+        if now[0] == name and value in ("", now[1]):
+            return True
+    return False
+
+
+def without_scripts(program: str) -> Faults:
+    """A case in a browser that runs none: what fits stands there once it is saved."""
+    with at_form(program, "three") as (web, it):
+        driver = it.browser.driver
+        driver.execute_cdp_cmd("Emulation.setScriptExecutionDisabled", {"value": True})
+        driver.refresh()
+
+        def field(selector: str):  # type: ignore[no-untyped-def]
+            return it.browser.wait(lambda: driver.find_elements("css selector", selector))[0]
+
+        for name, text in (("title", "Three"), ("things-text", "a b c"), ("values-text", "1 2 3")):
+            field(f"[name='{name}']").clear()
+            field(f"[name='{name}']").send_keys(text)
+        if driver.find_elements("css selector", ".chips li"):
+            yield "scripts run all the same"
+        field("button[value='save']").send_keys("\n")
+        it.browser.wait(lambda: len(driver.find_elements("css selector", ".chips li")) == 6)
+        for name, text in (("ask", "all"), ("words", "different"), ("words", "before")):
+            field(f"input[name='{name}'][value='{text}']").send_keys(" ")
+        field("button[value='ask']").send_keys("\n")
+
+        def asked() -> bool:
+            if driver.find_elements("css selector", "#share"):
+                driver.refresh()
+            return bool(driver.find_elements("css selector", ".said"))
+        it.browser.wait(asked)
+        with open(os.path.join(web.folder, "three.case"), encoding="utf-8") as file:
+            if (made := file.read()) != THREE:
+                yield f"without scripts the file says {made!r}"
+
+
+TESTS = (seats, conference, holidays, store, duty, menu, by_keys, without_scripts)
 PLANTED = (
     # a word that is ticked isn't written
-    ("fields.py", 'several[builder.field].append(made)', 'several[builder.field] = [made]', duty),
+    ("fields.py", "several[builder.field].append(made)", "several[builder.field] = [made]", duty),
+    # where somebody was is forgotten when the page is drawn anew
+    ("static/case.js", "if (again) again.focus({preventScroll: true});", "", by_keys),
+    # what is ticked in the file isn't ticked on the page
+    ("templates/fields.html", "{% if on %} checked{% endif %}> <span>", "> <span>", without_scripts),
 )

@@ -72,7 +72,14 @@ function longer(target) {
   rows.append(next);
 }
 
+// a form that was saved stands where it stood
+const PLACE = "desk " + location.pathname;
+
 if (form) {
+  const place = sessionStorage.getItem(PLACE);
+  sessionStorage.removeItem(PLACE);
+  if (place !== null && !location.hash) scrollTo({top: Number(place), behavior: "instant"});
+  form.addEventListener("submit", () => sessionStorage.setItem(PLACE, String(scrollY)));
   form.addEventListener("input", event => {
     longer(event.target);
     if (!/^(checkbox|radio|select-one)$/.test(event.target.type)) soon(WAIT);
