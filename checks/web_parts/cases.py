@@ -3,6 +3,7 @@ the form, and answers that are taken over."""
 
 from __future__ import annotations
 
+import contextlib
 import html
 import html.parser
 import os
@@ -213,13 +214,16 @@ def _names(web: Web, outside: str) -> Faults:
     os.mkdir(os.path.join(web.folder, "folder.case"))
     before = sorted(os.listdir(web.folder)), sorted(os.listdir(os.path.dirname(outside)))
     name = os.path.basename(outside).removesuffix(".case")
-    for wrong in ("", "  ", "..", ".", ".hidden", "../" + name, "a/b", "/tmp/x", "a\\b", "x", "x.case", "a\x00b", "a\nb\x07", "a\u202eb", "z" * 101, "é" * 150):
+    new = outside.removesuffix(".case") + "-new"
+    for wrong in ("", "  ", "..", ".", ".hidden", "../" + name, "a/b", new, "a\\b", "x", "x.case", "a\x00b", "a\nb\x07", "a\u202eb", "z" * 101, "é" * 150):
         reply = web.post("/new", {"new": wrong, "from": ""})
         if reply.status != 422 or 'id="new-fault"' not in reply.text:
             yield f"the new name {wrong!r} has status {reply.status}"
     now = sorted(os.listdir(web.folder)), sorted(os.listdir(os.path.dirname(outside)))
     if now[0] != before[0] or any(one.endswith(".case") for one in set(now[1]) - set(before[1])):
-        yield f"wrong names have left {set(now[0]) - set(before[0])}"
+        yield f"wrong names have left {set(now[0]) - set(before[0])}, or files beside the folder"
+    with contextlib.suppress(FileNotFoundError):
+        os.unlink(new + ".case")
     for wrong in ("link.case", f"..%2F{name}.case", f"%2e%2e/{name}.case", "folder.case", "nothing.case", urllib.parse.quote(outside, "")):
         for path in (f"/case/{wrong}", f"/ask/{wrong}"):
             reply = web.get(path)
@@ -390,7 +394,7 @@ PLANTED = (
     ("store.py", "if now.mark != mark:", "if False:", meanwhile),
     # names that lead out of the folder, and names that are there
     ("store.py", 'if name.startswith(".") or any(sign in name', "if any(sign in name", names),
-    ("store.py", '"/\\\\:*?\\"<>|"', '"\\\\:*?\\"<>|"', names),
+    ("store.py", "any(sign in name for sign in '/\\\\:", "any(sign in name for sign in '\\\\:", names),
     ("store.py", "return os.path.dirname(os.path.realpath(path)) == os.path.realpath(folder)", "return True", names),
     ("store.py", "os.link(new, path)", "os.replace(new, path)", names),
     # comments are lost, lines that nobody understands are lost

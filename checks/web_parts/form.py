@@ -294,8 +294,12 @@ def by_keys(program: str) -> Faults:
             if name == "title":
                 it.browser.driver.execute_script("document.activeElement.select()")
             it.browser.key(keys)
-            if name != "do":
-                it.settled()
+            if name == "do":
+                break
+            it.settled()
+            at = it.browser.driver.execute_script("return document.activeElement.name || document.activeElement.tagName")
+            if at != name:
+                yield f"after {name} {value} the keys are at {at}"
         it.browser.wait(lambda: it.browser.text(".said"))
         with open(os.path.join(web.folder, "three.case"), encoding="utf-8") as file:
             if (made := file.read()) != THREE:
@@ -309,6 +313,16 @@ def reached(it: Typist, name: str, value: str) -> bool:
         now = it.browser.driver.execute_script("const at = document.activeElement; return [at.name || '', at.value || '']")
         if now[0] == name and value in ("", now[1]):
             return True
+    return False
+
+
+def gone(element: object) -> bool:
+    """Whether a page with this element is shown no more."""
+    from selenium.common.exceptions import StaleElementReferenceException
+    try:
+        element.is_displayed()  # type: ignore[attr-defined]
+    except StaleElementReferenceException:
+        return True
     return False
 
 
@@ -329,9 +343,11 @@ def without_scripts(program: str) -> Faults:
             yield "scripts run all the same"
         field("button[value='save']").send_keys("\n")
         it.browser.wait(lambda: len(driver.find_elements("css selector", ".chips li")) == 6)
-        for name, text in (("ask", "all"), ("words", "different"), ("words", "before")):
-            field(f"input[name='{name}'][value='{text}']").send_keys(" ")
-        field("button[value='ask']").send_keys("\n")
+        for name, text in (("ask", "all"), ("words", "different"), ("do", "save"), ("words", "before"), ("do", "ask")):
+            before = field("#fields")
+            field(f"[name='{name}'][value='{text}']").send_keys("\n" if name == "do" else " ")
+            if text == "save":
+                it.browser.wait(lambda before=before: gone(before))
 
         def asked() -> bool:
             if driver.find_elements("css selector", "#share"):

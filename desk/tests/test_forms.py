@@ -17,7 +17,21 @@ CASES = os.path.join(os.path.dirname(os.path.dirname(os.path.realpath(__file__))
 NAME = "it.case"
 DRAWN = 400
 NAMES = ("Ada", "Bo Li", "Cy", "Dürr", "x", "8", "a-b", "Mon early", "1 .. 4", "q(1)")
-TYPED = ("", "x", "# no", "a # b", "a:b", "a, b", "same on all", "nothing here", "Mon .. Sun", "=", '"x', "..", "p q")
+TYPED = (
+    "",
+    "x",
+    "# no",
+    "a # b",
+    "a:b",
+    "a, b",
+    "same on all",
+    "nothing here",
+    "Mon .. Sun",
+    "=",
+    '"x',
+    "..",
+    "p q",
+)
 SEATS = """title: Seats
 things: Ada Bo Cy Dürr Eve Fay Gus
 values: table left right x seat 1 2 3 4
@@ -63,22 +77,35 @@ def drawn(seed: int) -> Form:
 
     def listed() -> list[str]:
         grid = draw.random() < 0.4
-        return ["grid", "", "day", "Mon .. Wed", "shift", "early late"] if grid else ["list", ", ".join(some(NAMES, 6))]
+        return (
+            ["grid", "", "day", "Mon .. Wed", "shift", "early late"]
+            if grid
+            else ["list", ", ".join(some(NAMES, 6))]
+        )
 
-    sent = {"title": [draw.choice(("A title", *TYPED))], "plan": [draw.choice(("", "", "scopes", "fast"))]}
+    sent = {
+        "title": [draw.choice(("A title", *TYPED))],
+        "plan": [draw.choice(("", "", "scopes", "fast"))],
+    }
     for name in ("things", "values"):
         kind, text, *sides = listed()
         sent |= {f"{name}-kind": [kind], f"{name}-text": [text]} | {
-            f"{name}-side-{k // 2}-{('name', 'text')[k % 2]}": [side] for k, side in enumerate(sides)
+            f"{name}-side-{k // 2}-{('name', 'text')[k % 2]}": [side]
+            for k, side in enumerate(sides)
         }
     sent["ask"] = list(some(("all", "all", "each", "same day", "next day", "Ada - Cy", *TYPED), 3))
-    sent["words"] = list(some(("same", "different", "before", "never Ada", "all three different", *TYPED), 3))
+    sent["words"] = list(
+        some(("same", "different", "before", "never Ada", "all three different", *TYPED), 3)
+    )
     sent["always"] = list(some(("different on all", "same on Ada - Cy", *TYPED), 2))
     sent["known"] = list(some(("at most 2 alike", "at most 1 of them Cy", *TYPED), 2))
     sent["notes"] = ["\n".join(some(("a note", *TYPED), 2))]
     for k in range(draw.randint(0, 2)):
         sent |= {f"own-{k}-name": [draw.choice(TYPED)], f"own-{k}-text": [draw.choice(TYPED)]}
-        sent |= {f"only-{k}-name": [draw.choice((*NAMES, *TYPED))], f"only-{k}-text": [draw.choice((*NAMES, *TYPED))]}
+        sent |= {
+            f"only-{k}-name": [draw.choice((*NAMES, *TYPED))],
+            f"only-{k}-text": [draw.choice((*NAMES, *TYPED))],
+        }
     return fields.posted(sent)[0]
 
 
@@ -87,11 +114,17 @@ class Forms(unittest.TestCase):
 
     def assert_same(self, one: Case, other: Case) -> None:
         """Two cases are the same but for their texts."""
+
         def plain(case: Case) -> Case:
             return dataclasses.replace(case, text="", words=(), always=(), known=())
+
         self.assertEqual(plain(one), plain(other))
-        self.assertEqual([(w.text, w.things) for w in one.words], [(w.text, w.things) for w in other.words])
-        self.assertEqual([(r.text, r.things) for r in one.always], [(r.text, r.things) for r in other.always])
+        self.assertEqual(
+            [(w.text, w.things) for w in one.words], [(w.text, w.things) for w in other.words]
+        )
+        self.assertEqual(
+            [(r.text, r.things) for r in one.always], [(r.text, r.things) for r in other.always]
+        )
         self.assertEqual([k.text for k in one.known], [k.text for k in other.known])
 
     def test_a_form_that_nobody_changed_is_the_text(self) -> None:
@@ -107,7 +140,7 @@ class Forms(unittest.TestCase):
             form = forms.read(text)
             fresh = forms.written(form)
             self.assertEqual(forms.read(fresh), form)
-            if text.count("things:") == 1:      # else they stand in another order
+            if text.count("things:") == 1:  # else they stand in another order
                 self.assert_same(casefile.parse(text, NAME), casefile.parse(fresh, NAME))
 
     def test_nothing_of_a_faulty_text_is_lost(self) -> None:
@@ -123,25 +156,36 @@ class Forms(unittest.TestCase):
         """Comments, and lines that it isn't about."""
         for text in texts():
             old = forms.read(text)
-            new = dataclasses.replace(old, title="Another", words=(*old.words[1:], "not next to"), notes=("a note",))
+            new = dataclasses.replace(
+                old, title="Another", words=(*old.words[1:], "not next to"), notes=("a note",)
+            )
             made = forms.written(new, text)
             self.assertEqual(forms.read(made), new)
-            lines = [line for line in text.splitlines() if not line.startswith(("title", "words", "note"))]
+            lines = [
+                line
+                for line in text.splitlines()
+                if not line.startswith(("title", "words", "note"))
+            ]
             self.assertEqual([line for line in made.splitlines() if line in lines], lines)
             for line in text.splitlines():
                 if "#" in line:
-                    self.assertIn(line[line.index("#"):], made)
+                    self.assertIn(line[line.index("#") :], made)
 
     def test_rows_stay_in_their_place(self) -> None:
         """One is changed, one is taken out, one is new."""
         text = "thing a: 1 2 # first\nthing b: 3 4\n# of c\nthing c: 5 6\nask: all\nwords: same\n"
         rows = (Row("a", "1 2 9"), Row("c", "5 6"), Row("d", "7 8"))
         made = forms.written(dataclasses.replace(forms.read(text), own=rows), text)
-        self.assertEqual(made, "thing a: 1 2 9  # first\n# of c\nthing c: 5 6\nthing d: 7 8\nask: all\nwords: same\n")
+        self.assertEqual(
+            made,
+            "thing a: 1 2 9  # first\n# of c\nthing c: 5 6\nthing d: 7 8\nask: all\nwords: same\n",
+        )
 
     def test_a_word_that_is_added_stands_behind_the_others(self) -> None:
         """So that the order of those that are there stays."""
-        made = forms.written(dataclasses.replace(forms.read(SEATS), words=("next to", "never 1", "different")), SEATS)
+        made = forms.written(
+            dataclasses.replace(forms.read(SEATS), words=("next to", "never 1", "different")), SEATS
+        )
         self.assertIn("words: different, next to, never 1\n", made)
 
     def test_drawn_forms(self) -> None:
@@ -183,8 +227,18 @@ class Faults(unittest.TestCase):
         (CASE + "words: same\n", "ask", None, 0),
         (ASKED, "words", None, 0),
         (ASKED + "words: same, never 9, before\n", "words", 1, 4),
-        (ASKED + "words: same\nalways: same on all, same on x, same\nalways: same on y\n", "always", 1, 5),
-        (ASKED + "words: same, different\nalways: different on a - b, before on a - b\n", "always", 1, 0),
+        (
+            ASKED + "words: same\nalways: same on all, same on x, same\nalways: same on y\n",
+            "always",
+            1,
+            5,
+        ),
+        (
+            ASKED + "words: same, different\nalways: different on a - b, before on a - b\n",
+            "always",
+            1,
+            0,
+        ),
         (ASKED + "words: same\nknown: at most 2 of them 1, at most 2 of them 7\n", "known", 1, 5),
         (ASKED + "words: same\nonly a: 1\nonly d: 2\n", "only", 1, 6),
         ("thing a: 1 2\nthing b: 1 1\nask: all\nwords: same\n", "own", 1, 2),
@@ -203,8 +257,13 @@ class Faults(unittest.TestCase):
 
     def test_a_strange_line_hides_no_other_fault(self) -> None:
         """The reader ends at it, and the form tells the others as well, at their lines."""
-        found = faults.judged("hello\n" + self.CASE + "ask: all, alll\nwords: same, sam\n", NAME).faults
-        self.assertEqual([(one.field, one.place, one.line) for one in found], [("other", 0, 1), ("ask", 1, 4), ("words", 1, 5)])
+        found = faults.judged(
+            "hello\n" + self.CASE + "ask: all, alll\nwords: same, sam\n", NAME
+        ).faults
+        self.assertEqual(
+            [(one.field, one.place, one.line) for one in found],
+            [("other", 0, 1), ("ask", 1, 4), ("words", 1, 5)],
+        )
 
     def test_none_where_there_is_none(self) -> None:
         """The cases to begin with."""
@@ -217,7 +276,11 @@ class Faults(unittest.TestCase):
             (Form(title="Room # 3"), "title", None),
             (Form(things=Listed(sides=(Row("day", "Mon"),))), "things", None),
             (Form(values=Listed(sides=(Row("day", "Mon"), Row("", "a b")))), "values", None),
-            (Form(values=Listed(sides=(Row("day", "Mon"), Row("my shift", "a b")))), "values", None),
+            (
+                Form(values=Listed(sides=(Row("day", "Mon"), Row("my shift", "a b")))),
+                "values",
+                None,
+            ),
             (Form(values=Listed(sides=(Row("day", "Mon"), Row("shift", "")))), "values", None),
             (Form(own=(Row("a", "1"), Row("b:c", "2"))), "own", 1),
             (Form(only=(Row("", "1"),)), "only", 0),
@@ -235,32 +298,59 @@ class Fields(unittest.TestCase):
 
     def test_a_list_with_lines(self) -> None:
         """Each line is a name; one line has its names between blanks."""
-        for text, line in (("Mary Ann\r\nBob Lee\r\n", "Mary Ann, Bob Lee"), (" a  b\tc ", "a b c"), ("a,\nb,", "a, b"),
-                           ("w x y", 'w "x" y'), ("Mon .. Fri\nSun", "Mon .. Fri, Sun")):
+        for text, line in (
+            ("Mary Ann\r\nBob Lee\r\n", "Mary Ann, Bob Lee"),
+            (" a  b\tc ", "a b c"),
+            ("a,\nb,", "a, b"),
+            ("w x y", 'w "x" y'),
+            ("Mon .. Fri\nSun", "Mon .. Fri, Sun"),
+        ):
             form, _ = fields.posted({"things-kind": ["list"], "things-text": [text]})
             self.assertEqual(form.things, Listed(line))
 
     def test_what_is_put_together(self) -> None:
         """Of several fields, where all that is needed is chosen."""
-        form, halves = fields.posted({
-            "group-a": ["Mon early"], "group-b": ["Tue late"], "pair-form": ["no {1} after {0}"], "pair-v": ["p"], "pair-w": ["q"],
-            "either-v": ["p"], "either-w": ["q"], "count-form": ["at most two of three {0}"], "count-v": ["p"], "rule-word": ["same"],
-            "rule-on": ["all"], "number-how": ["at most"], "number-count": ["2"], "number-v": ["p"], "number-on": ["same day"],
-        })
+        form, halves = fields.posted(
+            {
+                "group-a": ["Mon early"],
+                "group-b": ["Tue late"],
+                "pair-form": ["no {1} after {0}"],
+                "pair-v": ["p"],
+                "pair-w": ["q"],
+                "either-v": ["p"],
+                "either-w": ["q"],
+                "count-form": ["at most two of three {0}"],
+                "count-v": ["p"],
+                "rule-word": ["same"],
+                "rule-on": ["all"],
+                "number-how": ["at most"],
+                "number-count": ["2"],
+                "number-v": ["p"],
+                "number-on": ["same day"],
+            }
+        )
         self.assertEqual(halves, [])
         self.assertEqual(form.ask, ("Mon early - Tue late",))
         self.assertEqual(form.words, ("no q after p", "only p or q", "at most two of three p"))
-        self.assertEqual((form.always, form.known), (("same on all",), ("at most 2 of them p on same day",)))
+        self.assertEqual(
+            (form.always, form.known), (("same on all",), ("at most 2 of them p on same day",))
+        )
 
     def test_what_is_chosen_by_half(self) -> None:
         """Is a fault, and stays as it was chosen."""
-        for sent, field in (({"group-a": ["x"]}, "ask"), ({"pair-v": ["p"], "pair-w": ["q"]}, "words"),
-                            ({"pair-form": ["{0.__class__}"], "pair-v": ["p"], "pair-w": ["q"]}, "words"),
-                            ({"rule-on": ["all"]}, "always"), ({"number-how": ["at most"], "number-v": ["p"]}, "known")):
+        for sent, field in (
+            ({"group-a": ["x"]}, "ask"),
+            ({"pair-v": ["p"], "pair-w": ["q"]}, "words"),
+            ({"pair-form": ["{0.__class__}"], "pair-v": ["p"], "pair-w": ["q"]}, "words"),
+            ({"rule-on": ["all"]}, "always"),
+            ({"number-how": ["at most"], "number-v": ["p"]}, "known"),
+        ):
             form, halves = fields.posted(sent)
             self.assertEqual([one.field for one in halves], [field])
             self.assertEqual(form, Form())
-            self.assertEqual({name: text for name, text in fields.left(sent, form).items() if name in sent}, sent)
+            self.assertEqual(
+                {name: text for name, text in fields.left(sent, form).items() if name in sent}, sent
+            )
 
 
 if __name__ == "__main__":

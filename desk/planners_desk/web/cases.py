@@ -96,8 +96,14 @@ def listed(fault: str = "", sent: Mapping[str, str] | None = None) -> str:
     """The page of the folder, with what is wrong with a new name."""
     entries = [_entry(name) for name in folder().names()[: store.MOST_CASES]]
     samples = sorted(name for name in os.listdir(handout.CASES) if name.endswith(store.ENDING))
-    return render_template("cases.html", entries=entries, samples=samples, path=folder().path,
-                           fault=fault, sent=sent or {})
+    return render_template(
+        "cases.html",
+        entries=entries,
+        samples=samples,
+        path=folder().path,
+        fault=fault,
+        sent=sent or {},
+    )
 
 
 def _entry(name: str) -> Entry:
@@ -107,7 +113,12 @@ def _entry(name: str) -> Entry:
         judged = faults.judged(store.load(path).text, name)
         now = standing(path, judged.case, judged.words)
     except (Fault, NotFound) as error:
-        return Entry(name, "", "", f"can't be shown: {error.description if isinstance(error, NotFound) else error}")
+        return Entry(
+            name,
+            "",
+            "",
+            f"can't be shown: {error.description if isinstance(error, NotFound) else error}",
+        )
     if judged.words is None:
         count = len(judged.faults)
         state = f"{count} thing{'s' if count != 1 else ''} to mend"
@@ -122,7 +133,7 @@ def _entry(name: str) -> Entry:
 
 @blueprint.post("/new")
 def new() -> Answer | tuple[str, int]:
-    """Makes a case: an empty one, or a copy of one of the folder or of those that come with desk."""
+    """Makes a case: an empty one, a copy of one of the folder, or of one that comes with desk."""
     wanted, source = request.form.get("new", ""), request.form.get("from", "")
     try:
         text = _source(source) or f"title: {forms.plain(wanted).removesuffix(store.ENDING)}\n"
@@ -165,11 +176,15 @@ def show(name: str) -> str:
     stored = store.load(path_of(name))
     judged = faults.judged(stored.text, name)
     form = judged.form
-    add = tuple(word for word in map(forms.plain, request.args.getlist("add")) if word not in form.words)
+    add = tuple(
+        word for word in map(forms.plain, request.args.getlist("add")) if word not in form.words
+    )
     shown = dataclasses.replace(form, words=(*form.words, *add))
     if add:
         judged = dataclasses.replace(judged, form=shown)
-    return rendered(Page(name, stored, judged, fields.sent_of(shown), saved="saved" in request.args))
+    return rendered(
+        Page(name, stored, judged, fields.sent_of(shown), saved="saved" in request.args)
+    )
 
 
 def rendered(page: Page) -> str:
@@ -179,13 +194,29 @@ def rendered(page: Page) -> str:
     written = judged.text == page.stored.text
     now = standing(path, judged.case, judged.words) if written else Standing()
     return render_template(
-        "case.html", name=page.name, page=page, form=judged.form, found=_Faults(judged, page.unwritten),
-        offered=offered, sent=_Sent(page.sent), mark=page.stored.mark, text=page.stored.text, written=written,
-        standing=now, carried=_carried(path, judged.case, now), forecast=forecasts().of(path, page.stored.mark),
+        "case.html",
+        name=page.name,
+        page=page,
+        form=judged.form,
+        found=_Faults(judged, page.unwritten),
+        offered=offered,
+        sent=_Sent(page.sent),
+        mark=page.stored.mark,
+        text=page.stored.text,
+        written=written,
+        standing=now,
+        carried=_carried(path, judged.case, now),
+        forecast=forecasts().of(path, page.stored.mark),
         overview=comes.overview(judged.words) if judged.words else [],
         cant=comes.cannot_say(judged.words) if judged.words else [],
-        heads=HEADS, ways=trials.WAYS, seconds=SECONDS, down=comes.down,
-        sides=forms.MOST_SIDES, builders={one.name: one for one in fields.BUILDERS}, how_many=fields.HOW_MANY)
+        heads=HEADS,
+        ways=trials.WAYS,
+        seconds=SECONDS,
+        down=comes.down,
+        sides=forms.MOST_SIDES,
+        builders={one.name: one for one in fields.BUILDERS},
+        how_many=fields.HOW_MANY,
+    )
 
 
 class _Faults:
@@ -214,7 +245,9 @@ class _Sent:
         count = 0
         while f"{name}-{count}-name" in self._sent:
             count += 1
-        filled = [k for k in range(count) if self.one(f"{name}-{k}-name") or self.one(f"{name}-{k}-text")]
+        filled = [
+            k for k in range(count) if self.one(f"{name}-{k}-name") or self.one(f"{name}-{k}-text")
+        ]
         return max(filled, default=-1) + 1 + spare
 
 
@@ -296,8 +329,13 @@ def reckon(name: str) -> Answer:
 def forecast(name: str) -> str:
     """How far that is, or what came of it, as a piece of the page."""
     path = path_of(name)
-    return render_template("forecast.html", name=name, seconds=SECONDS, ways=trials.WAYS,
-                           forecast=forecasts().of(path, store.load(path).mark))
+    return render_template(
+        "forecast.html",
+        name=name,
+        seconds=SECONDS,
+        ways=trials.WAYS,
+        forecast=forecasts().of(path, store.load(path).mark),
+    )
 
 
 @blueprint.post("/case/<name>/carry")

@@ -18,8 +18,18 @@ MOST_TRIED = 400  # choices of values, in the search for an example
 MOST_MEMBERS = 6  # of a side, up to which each way from one to another is offered
 SIZED = {2: "", 3: " triples", 4: " fours"}
 COUNTED = {1: "one", 2: "two", 3: "three", 4: "four"}
-TWO = ("same", "different", "before", "after", "not before", "not after", "next to", "not next to",
-       "right before", "right after")
+TWO = (
+    "same",
+    "different",
+    "before",
+    "after",
+    "not before",
+    "not after",
+    "next to",
+    "not next to",
+    "right before",
+    "right after",
+)
 OF_PART = ("same", "different", "earlier", "later")
 OF_ONE = ("never {}", "{} or earlier", "{} or later")
 OF_TWO = ("not both {}", "one of them {}", "both {} or neither")
@@ -28,8 +38,12 @@ PAIRED = ("{0} not with {1}", "no {1} after {0}", "if {0} then {1}")
 CHOSEN = ("{0} not with {1}", "if {0} then {1}")
 EITHER = ("only {0} or {1}",)
 COUNTS = (
-    *(f"at {side} {COUNTED[k]} of {COUNTED[size]} {{0}}"
-      for size in (3, 4) for side in ("most", "least") for k in range(1, size)),
+    *(
+        f"at {side} {COUNTED[k]} of {COUNTED[size]} {{0}}"
+        for size in (3, 4)
+        for side in ("most", "least")
+        for k in range(1, size)
+    ),
     *(f"at most {COUNTED[k]} of them {{0}}" for k in (1, 2, 3)),
     *(f"at least all but {COUNTED[k]} of them {{0}}" for k in (1, 2, 3)),
 )
@@ -74,9 +88,15 @@ def choices(form: Form, name: str) -> Choices:
     """What is offered beside the fields of a form."""
     case = shaped(form, name)
     if case is None:
-        bare = [Tick("all", "all", "each two of them"), Tick("all triples", "all triples", "each three"),
-                Tick("each", "each", "each by itself")]
-        return Choices(ask=(Family("", tuple(bare)),), words=(Family("", tuple(Tick(word, word) for word in TWO)),))
+        bare = [
+            Tick("all", "all", "each two of them"),
+            Tick("all triples", "all triples", "each three"),
+            Tick("each", "each", "each by itself"),
+        ]
+        return Choices(
+            ask=(Family("", tuple(bare)),),
+            words=(Family("", tuple(Tick(word, word) for word in TWO)),),
+        )
     asked = list(_asked(case, form.ask))
     sizes = {len(things) for things in asked}
     setting = Setting(case.things, case.values, case.value_parts)
@@ -95,10 +115,16 @@ def choices(form: Form, name: str) -> Choices:
 
 
 def shaped(form: Form, name: str) -> Case | None:
-    """The things and values of a form, without what it says of them; None where they have a fault."""
+    """The things and values of a form, and nothing else; None where they have a fault."""
     for only in (form.only, ()):
-        shape = Form(things=form.things, own=form.own, values=form.values, only=only, ask=("each",),
-                     words=("same",))
+        shape = Form(
+            things=form.things,
+            own=form.own,
+            values=form.values,
+            only=only,
+            ask=("each",),
+            words=("same",),
+        )
         try:
             return casefile.parse(forms.written(shape), name)
         except Fault:
@@ -117,22 +143,38 @@ def phrases(case: Case) -> tuple[str, ...]:
 
 def ask_families(case: Case) -> Iterator[Family]:
     """The ways to put things together that come of the grid's shape."""
-    yield Family("", tuple(_ticks(case, [
-        ("all", "each two of them"),
-        ("all triples", "each three of them"),
-        ("all fours", "each four of them"),
-        ("each", "each by itself"),
-    ])))
+    yield Family(
+        "",
+        tuple(
+            _ticks(
+                case,
+                [
+                    ("all", "each two of them"),
+                    ("all triples", "each three of them"),
+                    ("all fours", "each four of them"),
+                    ("each", "each by itself"),
+                ],
+            )
+        ),
+    )
     for part in case.thing_parts:
         name = part.name
-        yield Family(f"By {name}", tuple(_ticks(case, [
-            (f"same {name}", f"two of one {name}"),
-            (f"same {name} triples", f"three of one {name}"),
-            (f"same {name} fours", f"four of one {name}"),
-            (f"next {name}", f"one and the same on the next {name}"),
-            (f"3 {name} in a row", f"the same on three {name}s running"),
-            (f"4 {name} in a row", f"the same on four {name}s running"),
-        ])))
+        yield Family(
+            f"By {name}",
+            tuple(
+                _ticks(
+                    case,
+                    [
+                        (f"same {name}", f"two of one {name}"),
+                        (f"same {name} triples", f"three of one {name}"),
+                        (f"same {name} fours", f"four of one {name}"),
+                        (f"next {name}", f"one and the same on the next {name}"),
+                        (f"3 {name} in a row", f"the same on three {name}s running"),
+                        (f"4 {name} in a row", f"the same on four {name}s running"),
+                    ],
+                )
+            ),
+        )
     yield from _step_families(case)
 
 
@@ -143,10 +185,14 @@ def _step_families(case: Case) -> Iterator[Family]:
     for part, other in (case.thing_parts, case.thing_parts[::-1]):
         if len(other.members) > MOST_MEMBERS or len(part.members) < 2:
             continue
-        steps = [(f"{a} to next {part.name} {b}", f"{a}, and {b} on the next {part.name}")
-                 for a, b in itertools.permutations(other.members, 2)]
-        steps += [(f"{a} to same {part.name} {b}", f"{a} and {b} of one {part.name}")
-                  for a, b in itertools.combinations(other.members, 2)]
+        steps = [
+            (f"{a} to next {part.name} {b}", f"{a}, and {b} on the next {part.name}")
+            for a, b in itertools.permutations(other.members, 2)
+        ]
+        steps += [
+            (f"{a} to same {part.name} {b}", f"{a} and {b} of one {part.name}")
+            for a, b in itertools.combinations(other.members, 2)
+        ]
         yield Family(f"From one {other.name} to another", tuple(_ticks(case, steps)), apart=True)
 
 
@@ -201,15 +247,19 @@ class _Seen:
             wrong, right = self._examples(word, scope)
             if wrong and right:
                 names = tuple(self.case.things[thing].name for thing in scope)
-                return Tick(text, label or text, word.said_of(names), self._said(wrong), self._said(right))
+                return Tick(
+                    text, label or text, word.said_of(names), self._said(wrong), self._said(right)
+                )
         return None
 
     def _said(self, values: Sequence[int]) -> str:
         """Values in the order of the things."""
         return " and ".join(self.case.values[value] for value in values)
 
-    def _examples(self, word: Word, scope: tuple[int, ...]) -> tuple[tuple[int, ...], tuple[int, ...]]:
-        """Values that the word refuses and that it allows, others for each thing where that can be."""
+    def _examples(
+        self, word: Word, scope: tuple[int, ...]
+    ) -> tuple[tuple[int, ...], tuple[int, ...]]:
+        """Values that the word refuses and that it allows, no two the same where that can be."""
         found: dict[bool, tuple[int, ...]] = {}
         best: dict[bool, int] = {}
         ranges = [self.case.things[thing].allowed for thing in scope]
@@ -253,13 +303,20 @@ def word_families(seen: _Seen, largest: int) -> Iterator[Family]:
         yield from _some("About two of them", seen.ticks([*TWO, *apart]))
         for part in case.value_parts:
             texts = [f"{form} {part.name}" for form in OF_PART]
-            yield from _some(f"About the {part.name} of two", seen.ticks([*texts, *_apart(len(part.members), part.name)]))
+            yield from _some(
+                f"About the {part.name} of two",
+                seen.ticks([*texts, *_apart(len(part.members), part.name)]),
+            )
     if largest > 2:
         for size in range(3, largest + 1):
-            yield from _some(f"About {COUNTED[size]} of them", seen.ticks(_of_many(case, size)), apart=size > 3)
+            yield from _some(
+                f"About {COUNTED[size]} of them", seen.ticks(_of_many(case, size)), apart=size > 3
+            )
     forms_of = [*OF_ONE, *(OF_TWO if largest > 1 else ())]
     for form in forms_of:
-        family = seen.valued(form, case.values if "earlier" in form or "later" in form else seen.labels)
+        family = seen.valued(
+            form, case.values if "earlier" in form or "later" in form else seen.labels
+        )
         if family is not None:
             yield family
 
@@ -273,13 +330,24 @@ def _some(head: str, ticks: tuple[Tick, ...], apart: bool = False) -> Iterator[F
 def _apart(size: int, part: str) -> list[str]:
     """Distances between two of so many values."""
     of = f" {part}" if part else ""
-    return [f"at {side} {k}{of} apart" for side, first in (("least", 2), ("most", 1))
-            for k in range(first, min(size - 1, MOST_STEPS + 1))]
+    return [
+        f"at {side} {k}{of} apart"
+        for side, first in (("least", 2), ("most", 1))
+        for k in range(first, min(size - 1, MOST_STEPS + 1))
+    ]
 
 
 def _of_many(case: Case, size: int) -> list[str]:
     """Words about three or four things that name no value."""
     count = COUNTED[size]
     parts = ["", *(f" {part.name}" for part in case.value_parts)]
-    texts = [form + part for part in parts for form in (f"all {count} different", f"not all {count} the same")]
-    return [*texts, f"{count} in order", *(f"at most {COUNTED[size - 1]} of them the same{part}" for part in parts)]
+    texts = [
+        form + part
+        for part in parts
+        for form in (f"all {count} different", f"not all {count} the same")
+    ]
+    return [
+        *texts,
+        f"{count} in order",
+        *(f"at most {COUNTED[size - 1]} of them the same{part}" for part in parts),
+    ]

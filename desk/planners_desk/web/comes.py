@@ -29,11 +29,17 @@ def overview(words: Vocabulary) -> list[str]:
     case, made = words.case, outlook.combined(words)
     groups = and_list([f"{one.groups} {SIZES[one.arity]}" for one in made])
     beforehand = f" {len(case.always)} rules are said beforehand." if case.always else ""
-    said = [f"{len(case.things)} things, {len(case.values)} values, {len(case.words)} words. You are asked about {groups}.{beforehand}"]
+    said = [
+        f"{len(case.things)} things, {len(case.values)} values, {len(case.words)} words. "
+        f"You are asked about {groups}.{beforehand}"
+    ]
     for one in made:
         if one.without:
             without = and_list([f"{rules} without {text}" for text, rules in one.without])
-            said.append(f"On {SIZES[one.arity]} these words make {one.rules} rules, and {MOST_RELATIONS} is the most: {without}.")
+            said.append(
+                f"On {SIZES[one.arity]} these words make {one.rules} rules, and "
+                f"{MOST_RELATIONS} is the most: {without}."
+            )
     return said
 
 
@@ -41,16 +47,29 @@ def cannot_say(words: Vocabulary) -> list[Unsaid]:
     """What no answers can bring about."""
     unsaid = outlook.unsaid(words)
     counts = f" It does say: {', '.join(unsaid.counts)}." if unsaid.counts else ""
-    found = [Unsaid(f"Counts above three, as \u201cat most five shifts each\u201d, and sums: no rule is about more than four things.{counts}")]
+    found = [
+        Unsaid(
+            "Counts above three, as \u201cat most five shifts each\u201d, and sums: no rule is "
+            f"about more than four things.{counts}"
+        )
+    ]
     if unsaid.alone:
-        found.append(Unsaid(f"Nothing is learned of {_some(unsaid.alone)}, which no tick puts together with anything."))
+        who = _some(unsaid.alone)
+        found.append(Unsaid(f"Nothing is learned of {who}: no tick puts that with anything."))
     if unsaid.apart is not None:
-        found.append(Unsaid(f"Rules between things that don't go together: {unsaid.apart.pairs} of {unsaid.apart.of} pairs, "
-                            f"as {' and '.join(unsaid.apart.example)}."))
+        found.append(
+            Unsaid(
+                f"Rules between things that don't go together: {unsaid.apart.pairs} of "
+                f"{unsaid.apart.of} pairs, as {' and '.join(unsaid.apart.example)}."
+            )
+        )
     for weak in unsaid.weak:
         found += _weak(words.case, weak)
-    return [*found, Unsaid("At the end nothing is left open of the rules that these words can say. What they can't say was never "
-                           "asked: look at the sample plans.")]
+    end = (
+        "At the end nothing is left open of the rules that these words can say. What they can't "
+        "say was never asked: look at the sample plans."
+    )
+    return [*found, Unsaid(end)]
 
 
 def _some(texts: Sequence[str]) -> str:
@@ -66,18 +85,24 @@ def _weak(case: Case, weak: outlook.Weak) -> list[Unsaid]:
         return [Unsaid(f"Anything of {who}: no word forbids anything there.")]
     found = []
     if weak.example is not None:
-        found.append(Unsaid(f"On {SIZES[len(weak.things)]} as {who}, {weak.never} of {weak.choices} choices can never be forbidden by these "
-                            "words. Is this one always all right? Else a word is missing:", _drawn(case, weak.example)))
+        found.append(
+            Unsaid(
+                f"On {SIZES[len(weak.things)]} as {who}, {weak.never} of {weak.choices} choices "
+                "can never be forbidden by these words. Is this one always all right? Else a word "
+                "is missing:",
+                table_of(case, weak.example),
+            )
+        )
     if weak.coarse is not None:
         others = weak.coarse.others
-        found.append(Unsaid(f"{_said(case, weak.coarse.values)} alone: what forbids that forbids {others} other "
-                            f"choice{'s' if others > 1 else ''} too, at the least; as {_said(case, weak.coarse.example)}."))
+        found.append(
+            Unsaid(
+                f"{_said(case, weak.coarse.values)} alone: what forbids that forbids {others} "
+                f"other choice{'s' if others > 1 else ''} too, at the least; as "
+                f"{_said(case, weak.coarse.example)}."
+            )
+        )
     return found
-
-
-def _drawn(case: Case, values: Values) -> Table:
-    """A choice as a table."""
-    return table_of(case, values)
 
 
 def _said(case: Case, values: Values) -> str:

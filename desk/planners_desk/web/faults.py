@@ -16,8 +16,8 @@ from .forms import OTHER, PIECES, Form, Line, Row
 WHOLE = "case"  # the field of a fault that no other field has
 MOST_LOOKS = 100  # at a piece by itself, to find the one that has the fault
 
-# what the reader says that is of no one line: the field that it is about, and what is said there, ""
-# where the same
+# what the reader says that is of no one line: the field that it is about, and what is said there;
+# "" where that is the same
 MISSING = (
     (r"there are no things", "things", "nothing is named yet that gets a value"),
     (r"there are no values|`.*` has no values", "values", "no values are named yet"),
@@ -58,9 +58,7 @@ class Judged:
 
     def of(self, field: str, place: int | None = None) -> list[At]:
         """The faults at a field, or at one of what it has several of."""
-        return [
-            one for one in self.faults if one.field == field and place in (None, one.place)
-        ]
+        return [one for one in self.faults if one.field == field and place in (None, one.place)]
 
 
 def judged(text: str, name: str) -> Judged:

@@ -25,7 +25,9 @@ class Builder:
     name: str  # with which the names of its fields begin
     field: str
     parts: tuple[str, ...]
-    templates: tuple[str, ...]  # among which the first of its fields chooses; of one there is no field
+    templates: tuple[
+        str, ...
+    ]  # among which the first of its fields chooses; of one there is no field
     least: int  # parts that have to be filled in
 
     def name_of(self, part: str) -> str:
@@ -35,7 +37,9 @@ class Builder:
     def made(self, sent: Sent) -> str | None:
         """What it makes; "" where nothing is filled in, and None where something is missing."""
         given = [_one(sent, self.name_of(part)) for part in self.parts]
-        template = self.templates[0] if len(self.templates) == 1 else _one(sent, self.name_of("form"))
+        template = (
+            self.templates[0] if len(self.templates) == 1 else _one(sent, self.name_of("form"))
+        )
         if not any(given):
             return ""
         filled = [part for part in given if part]
@@ -58,14 +62,25 @@ BUILDERS = (
 def posted(sent: Sent) -> tuple[Form, list[At]]:
     """The form that a browser has sent, and the faults of what is filled in by half."""
     several: dict[str, list[str]] = {
-        name: [piece for text in _all(sent, name, f"{name}-other") for piece in pieces_of(_joined(text))]
+        name: [
+            piece
+            for text in _all(sent, name, f"{name}-other")
+            for piece in pieces_of(_joined(text))
+        ]
         for name in ("ask", "words", "always", "known")
     }
     faults = []
     for builder in BUILDERS:
         made = builder.made(sent)
         if made is None:
-            faults.append(At(builder.field, None, 0, "something is chosen by half: choose the rest of it as well, or nothing"))
+            faults.append(
+                At(
+                    builder.field,
+                    None,
+                    0,
+                    "something is chosen by half: choose the rest of it as well, or nothing",
+                )
+            )
         elif made:
             several[builder.field].append(made)
     form = Form(
@@ -121,14 +136,24 @@ def _quoted(text: str) -> str:
 
 def _rows(sent: Sent, name: str, most: int) -> tuple[Row, ...]:
     """Rows of a name and a text, those that are filled in."""
-    rows = (Row(plain(_one(sent, f"{name}-{place}-name")), plain(_joined(_one(sent, f"{name}-{place}-text"))))
-            for place in range(most))
+    rows = (
+        Row(
+            plain(_one(sent, f"{name}-{place}-name")),
+            plain(_joined(_one(sent, f"{name}-{place}-text"))),
+        )
+        for place in range(most)
+    )
     return tuple(row for row in rows if row.name or row.text)
 
 
 def sent_of(form: Form) -> dict[str, list[str]]:
     """What a browser sends of a form in which nothing was changed."""
-    sent = {"title": [form.title], "plan": [form.plan], "notes": ["\n".join(form.notes)], OTHER: ["\n".join(form.other)]}
+    sent = {
+        "title": [form.title],
+        "plan": [form.plan],
+        "notes": ["\n".join(form.notes)],
+        OTHER: ["\n".join(form.other)],
+    }
     for name, listed in (("things", form.things), ("values", form.values)):
         sent[f"{name}-kind"] = ["grid" if listed.sides else "list"]
         sent[f"{name}-text"] = [listed.text]
@@ -151,5 +176,8 @@ def left(sent: Sent, form: Form) -> dict[str, list[str]]:
 
 def _sent_rows(name: str, rows: Sequence[Row]) -> dict[str, list[str]]:
     """The fields of some rows."""
-    return {f"{name}-{place}-{part}": [text] for place, row in enumerate(rows)
-            for part, text in (("name", row.name), ("text", row.text))}
+    return {
+        f"{name}-{place}-{part}": [text]
+        for place, row in enumerate(rows)
+        for part, text in (("name", row.name), ("text", row.text))
+    }

@@ -99,7 +99,10 @@ def _clocks(owner: Owner) -> Callable[[str], Clock]:
     before = dict(zip(SECONDS, (sum(list(SECONDS.values())[:k]) for k in range(len(SECONDS)))))
 
     def clock(step: str) -> Clock:
-        made = Clock(SECONDS[step], lambda text: owner.busy(text, (before[step] + SECONDS[step] - made.left) / whole))
+        made = Clock(
+            SECONDS[step],
+            lambda text: owner.busy(text, (before[step] + SECONDS[step] - made.left) / whole),
+        )
         return made
 
     return clock

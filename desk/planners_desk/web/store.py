@@ -1,5 +1,5 @@
-"""The files of cases in the folder: read, made and written, and none replaced that has changed since
-it was shown."""
+"""The files of cases in the folder: read, made and written, and none replaced that has changed
+since it was shown."""
 
 from __future__ import annotations
 
@@ -97,8 +97,11 @@ def file_of(name: str) -> str:
         raise Fault("the case has no name yet")
     if len(name) > MOST_NAME or len(name.encode()) > 2 * MOST_NAME:
         raise Fault(f"the name of a case has at most {MOST_NAME} letters")
-    if name.startswith(".") or any(sign in name for sign in "/\\:*?\"<>|"):
-        raise Fault(f"{name}: the name of a case doesn't begin with a dot, and has none of / \\ : * ? \" < > | in it")
+    if name.startswith(".") or any(sign in name for sign in '/\\:*?"<>|'):
+        raise Fault(
+            f"{name}: the name of a case doesn't begin with a dot, and has none of "
+            '/ \\ : * ? " < > | in it'
+        )
     wrong = letters.unseen(name)
     if wrong:
         raise Fault(f"the name of the case: {wrong}")
