@@ -7,7 +7,8 @@ import resource
 import tempfile
 import unittest
 
-from planners_desk.program.talk import Program, Run, called
+from planners_desk.program.talk import Program, Run  # (first: it finds the client)
+from acquire.process import called
 
 SAYS_ITS_STACK = "#!/bin/sh\nulimit -S -s\n"
 
