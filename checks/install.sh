@@ -89,7 +89,7 @@ if has zsh "it isn't asked for the completion of desk"; then
     report "zsh finds the words of desk" "_desk" "$(cd "$room" && zsh -f -c 'fpath=("$1/share/zsh/site-functions" $fpath); autoload -Uz compinit; compinit -u -D; print $_comps[desk]' zsh "$room/to")"
 fi
 report "uninstall with desk" "0 " "$(install uninstall PREFIX="$room/to"; echo $?) $(files "$room/to")"
-rm -r desk && cp -r "$top/desk" .
+rm -r desk python && cp -r "$top/desk" "$top/python" .
 report "with desk as it is" 0 "$(install install PREFIX="$room/to"; echo $?)"
 report "the version of desk" "$(./acquire --version | sed -n '1s/^acquire/desk/p')" "$("$room/to/bin/desk" --version)"
 report "where the cases are" "$(realpath "$room/to")/lib/acquire/desk/cases." "$("$room/to/bin/desk" --help | sed -n 's/^A case is a text; four to begin with are in //p')"
