@@ -32,7 +32,7 @@ QUARREL = """title: Seats
 things: Ada Bo Cy Eve
 values: table left right x seat 1 2
 ask: all
-words: different, same table, next to
+words: different
 plan: quacq
 """
 WIDTHS = (360, 800, 1600)
@@ -282,7 +282,7 @@ def looked_at(browser: Browser, what: str) -> Faults:
 
 def read(program: str) -> Faults:
     """Each page of a sitting can be read at three widths, light and dark, by its headings and labels, and with contrast."""
-    for text, answers in ((GRID, "YYYN"), (LIST, "YN"), (QUARREL, "N")):
+    for text, answers, ends in ((GRID, "YYYN", "Done"), (LIST, "YN", "Done"), (QUARREL, "NYYYYYYYYYYY", "clash")):
         with opened(program, {"x.case": text}, "x.case") as (_, browser):
             yield from looked_at(browser, "the first question")
             turn = 0
@@ -292,6 +292,8 @@ def read(program: str) -> Faults:
                 browser.does("Yes" if answers[turn % len(answers)] == "Y" else "No")
                 turn += 1
             yield from looked_at(browser, browser.head())
+            if ends not in browser.head():
+                yield f"the questions end with {browser.head()!r}, and {ends} is due"
             if "Done" in browser.head():
                 yield from judged(browser)
             if errors := browser.errors():
@@ -324,7 +326,7 @@ PLANTED = (
     ("static/page.js", "location.replace(body.dataset.page);", "", tabs),
     ("security.py", 'if request.headers.get("Origin") != known.origin or site != "same-origin":', "if False:", foreign),
     ("entrance.py", "path=self._known.path, ", "", foreign),
-    ("templates/sitting.html", "{% block title %}{{ sheet.head }}", "{% block title %}{{ sheet.head|safe }}", names),
+    ("templates/question.html", '<h1 id="head">{{ sheet.head }}</h1>', '<h1 id="head">{{ sheet.head|safe }}</h1>', names),
     ("static/style.css", ":focus-visible { outline: 3px solid var(--link); outline-offset: 2px; }", ":focus-visible { outline: none; }", keyboard),
     ("static/style.css", "--dim: #566072", "--dim: #9aa3b0", read),
     ("templates/question.html", "<label for=\"bar\">", "<label>", read),
