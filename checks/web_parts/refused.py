@@ -5,6 +5,7 @@ from __future__ import annotations
 import html.parser
 import os
 import re
+import socket
 import stat
 import subprocess
 import tempfile
@@ -251,6 +252,10 @@ def by_form(program: str) -> Faults:
         reply = web.ask("POST", web.path + "/ask/x.case/step", b"sheet=" + b"1" * 5_000_000, Origin=f"http://{web.host}", Content_Type="application/x-www-form-urlencoded")
         if reply.status != 413:
             yield f"a form of five million bytes has status {reply.status}"
+        with socket.create_connection(("127.0.0.1", web.port), timeout=30) as connection:      # of somebody who mustn't come in
+            connection.sendall(f"POST /x HTTP/1.1\r\nHost: {web.host}\r\nContent-Length: 900000000\r\n\r\n".encode())
+            if b" 413 " not in (said := connection.recv(200)):
+                yield f"a body of 900 million bytes is read: {said!r}"
         if web.shows("x.case"):
             yield "a wrong form has answered"
         web.end()
@@ -278,5 +283,6 @@ PLANTED = (
     ("templates/question.html", '<h1 id="head">{{ sheet.head }}</h1>', '<h1 id="head">{{ sheet.head|safe }}</h1>', by_names),
     ("pages.py", "    if not (text.isascii() and text.isdecimal() and len(text) <= DIGITS + 1):\n", "    if False:\n", by_form),
     ("questions.py", "return 0 <= place < len(self.session.answers) and may_go_back(self.session, place)", "return True", by_form),
+    ("server.py", "            max_request_body_size=2 * MOST_SENT,  # what is larger isn't even read\n", "", by_form),
     ("app.py", '    app.config["MAX_CONTENT_LENGTH"] = MOST_SENT\n', "", by_form),
 )

@@ -13,7 +13,7 @@ from waitress.server import create_server  # type: ignore[import]
 from ..case.model import Fault
 from ..program.talk import Program
 from . import opening
-from .app import application
+from .app import MOST_SENT, application
 from .entrance import Entrance
 from .folder import Folder
 from .forecast import Forecasts
@@ -45,6 +45,7 @@ def serve(place: str, port: int, browser: bool, program: Program, budget: int | 
             host=LOOPBACK,
             port=port,
             threads=THREADS,
+            max_request_body_size=2 * MOST_SENT,  # what is larger isn't even read
             ident=None,
             clear_untrusted_proxy_headers=True,
         )
