@@ -370,7 +370,7 @@ def main() -> int:
     for name, why in sorted(faults.items()):
         print(f"wrong_bodies: {name}: {why}")
     spent = sum(os.times()[:4])
-    checks = spent - sum(bench.used.values())
+    checks = max(0.0, spent - sum(bench.used.values()))
     print(f"wrong_bodies: {count} bodies, {before} of them passed before with all as it is now; "
           f"{time.monotonic() - begun:.0f} s, {spent:.0f} s of a processor: compiling "
           f"{bench.used['compile']:.0f}, tables {bench.used['tables']:.0f}, checks {checks:.0f}")
