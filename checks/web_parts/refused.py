@@ -282,7 +282,7 @@ PLANTED = (
     ("security.py", "    app.after_request(with_headers)\n", "", by_headers),
     ("templates/question.html", '<h1 id="head">{{ sheet.head }}</h1>', '<h1 id="head">{{ sheet.head|safe }}</h1>', by_names),
     ("pages.py", "    if not (text.isascii() and text.isdecimal() and len(text) <= DIGITS + 1):\n", "    if False:\n", by_form),
-    ("questions.py", "return 0 <= place < len(self.session.answers) and may_go_back(self.session, place)", "return True", by_form),
+    ("lines.py", "0 <= step.place < len(session.answers)\n", "True\n", by_form),
     ("server.py", "            max_request_body_size=2 * MOST_SENT,  # what is larger isn't even read\n", "", by_form),
     ("app.py", '    app.config["MAX_CONTENT_LENGTH"] = MOST_SENT\n', "", by_form),
 )
