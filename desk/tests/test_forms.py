@@ -181,6 +181,15 @@ class Forms(unittest.TestCase):
             "thing a: 1 2 9  # first\n# of c\nthing c: 5 6\nthing d: 7 8\nask: all\nwords: same\n",
         )
 
+    def test_many_rows(self) -> None:
+        """As many as a case has bytes for don't take for ever."""
+        text = "note: a\n" * 40_000 + SEATS
+        old = forms.read(text)
+        new = dataclasses.replace(
+            old, notes=("b", *old.notes[1:], "c"), words=tuple(f"never {k}" for k in range(40_000))
+        )
+        self.assertEqual(forms.read(forms.written(new, text)), new)
+
     def test_a_word_that_is_added_stands_behind_the_others(self) -> None:
         """So that the order of those that are there stays."""
         made = forms.written(

@@ -15,6 +15,7 @@ from dataclasses import dataclass
 from ..case import letters, names
 from ..case.model import Fault
 
+MOST_MATCHED = 1000  # rows: with more, each is written anew
 WIDE = 100  # columns of a line, up to which pieces are added to it
 
 # the fields in the order in which a new text has them, each with the key of its lines
@@ -143,12 +144,12 @@ def _line(raw: str) -> Line:
 def _has_room(line: Line, before: Sequence[Line]) -> bool:
     """Whether the form has room for a line beside those that stand above it: a title stands once,
     and a grid alone."""
+    if line.field not in (*ONCE, "things", "values"):
+        return True
     same = [one for one in before if one.field == line.field]
     if line.field in ONCE:
         return bool(line.text) and not same
-    if line.field in ("things", "values"):
-        return not (same and any(names.sides(one.text) for one in (*same, line)))
-    return True
+    return not (same and any(names.sides(one.text) for one in (*same, line)))
 
 
 def _form_of(lines: Sequence[Line]) -> Form:
@@ -237,8 +238,7 @@ def _with_rows(lines: list[Line], name: str, rows: Sequence[Row]) -> list[Line]:
     instead = {place: [lines[place]] for place in at}
     front: list[Line] = []
     have = [lines[place].row for place in at]
-    matcher = difflib.SequenceMatcher(None, have, list(rows), False)
-    for tag, first, last, begin, end in matcher.get_opcodes():
+    for tag, first, last, begin, end in _steps(have, rows):
         new = [_made(name, row) for row in rows[begin:end]] if tag != "equal" else []
         for place in at[first:last] if tag != "equal" else ():
             comment = lines[place].comment
@@ -252,18 +252,26 @@ def _with_rows(lines: list[Line], name: str, rows: Sequence[Row]) -> list[Line]:
     ]
 
 
+def _steps(have: Sequence[Row], rows: Sequence[Row]) -> list[tuple[str, int, int, int, int]]:
+    """Which rows stay, and which are put in place of which, as difflib says it."""
+    if max(len(have), len(rows)) > MOST_MATCHED:
+        return [("replace", 0, len(have), 0, len(rows))]
+    matcher = difflib.SequenceMatcher(None, have, rows, False)
+    return [(tag, i, j, m, n) for tag, i, j, m, n in matcher.get_opcodes()]
+
+
 def _with_pieces(lines: list[Line], name: str, pieces: Sequence[str]) -> list[Line]:
     """The lines, with these pieces as those of a field: the old ones among them stay where they
     stand, and new ones come behind."""
-    new = list(pieces)
+    new, wanted = list(pieces), set(pieces)
     kept: list[Line] = []
     for line in lines:
         if line.field != name:
             kept.append(line)
             continue
-        left = [piece for piece in line.pieces if piece in pieces]
+        left = dict.fromkeys(piece for piece in line.pieces if piece in wanted)
         new = [piece for piece in new if piece not in left]
-        if left == list(line.pieces) and left:
+        if left and wanted.issuperset(line.pieces):
             kept.append(line)
         else:
             kept += (
