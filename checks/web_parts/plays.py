@@ -65,10 +65,12 @@ def tried(do: Callable[[], None]) -> None:
 
 def filled(browser: Browser, field: str, text: str) -> None:
     """Types a text into a field, whose part of the form is opened where it is folded."""
-    element = browser.wait(lambda: browser.driver.find_element("id", field))
-    unfolded(browser, element)
-    element.clear()
-    element.send_keys(text)
+    def fill() -> None:
+        element = browser.wait(lambda: browser.driver.find_element("id", field))
+        unfolded(browser, element)
+        element.clear()
+        element.send_keys(text)
+    tried(fill)
 
 
 def unfolded(browser: Browser, element: object) -> None:
@@ -119,9 +121,12 @@ def made(browser: Browser, person: Person) -> None:
     for field in ("always", "known"):
         if person.of(field):
             filled(browser, f"{field}-other", person.of(field))
-    choice = browser.driver.find_element("id", "plan-choice")
-    unfolded(browser, choice)
-    choice.find_element("css selector", f"option[value={person.of('plan')}]").click()
+
+    def choose() -> None:
+        choice = browser.driver.find_element("id", "plan-choice")
+        unfolded(browser, choice)
+        choice.find_element("css selector", f"option[value={person.of('plan')}]").click()
+    tried(choose)
 
 
 def pictured(browser: Browser, name: str) -> None:
