@@ -34,7 +34,7 @@ PLANTED = [
     ("commands/carry.py", "if known is None or known.yes != yes:", "if True:"),
     # a refused example that names what isn't there any more counts with what is left of it
     (
-        "sitting/session.py",
+        "sitting/kept.py",
         "if values and (one[\"yes\"] or len(values) == len(one[\"values\"])):",
         "if values:",
     ),

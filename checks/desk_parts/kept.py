@@ -26,6 +26,7 @@ from contextlib import contextmanager
 import hands  # desk's folder is on the path now
 from planners_desk.case import casefile
 from planners_desk.report import page
+from planners_desk.sitting import lock
 from planners_desk.sitting import session
 from planners_desk.program import talk
 from hands import DESK, journal
@@ -102,7 +103,7 @@ PLANTED = [
         "        os.rmdir(folder)",
     ),
     # nobody finishes what was broken off
-    ("sitting/session.py", "            handover.finished(journal)\n", ""),
+    ("sitting/lock.py", "            handover.finished(journal)\n", ""),
     # the old session isn't kept
     ("commands/carry.py", "        if to_itself:\n            put_aside(journal, aside)\n", ""),
     # what was made in vain stays behind
@@ -111,7 +112,7 @@ PLANTED = [
     ("commands/carry.py", "    if len(there) < len(before):", "    if False:"),
     # the second fault is told, not the first
     (
-        "sitting/session.py",
+        "sitting/lock.py",
         "            with contextlib.suppress(OSError):\n                return files.only_file(",
         "            if True:\n                return files.only_file(",
     ),
@@ -581,7 +582,7 @@ def first_fault(program: str) -> list[str]:
             try:
                 if os.geteuid() == 0:
                     os.setuid(65534)
-                session.locked(os.path.join(folder, "w.journal"))
+                lock.locked(os.path.join(folder, "w.journal"))
             except BaseException as error:
                 os.write(write, repr(error).encode())
             os._exit(0)

@@ -16,7 +16,8 @@ from planners_desk.case import casefile
 import drawn
 from drawn import Owner
 from planners_desk.case.model import PLANS, Fault, Rule, Values
-from planners_desk.sitting.session import Named, Session
+from planners_desk.sitting.kept import Named
+from planners_desk.sitting.session import Session
 from planners_desk.program.talk import Program
 from planners_desk.program.vocabulary import Vocabulary
 

@@ -28,17 +28,17 @@ ask: same day, late to next day early, next day
 words: different, before
 """
 PLANTED = [
-    ("sitting/session.py", "fcntl.flock(file, fcntl.LOCK_EX | fcntl.LOCK_NB)", "pass"),
+    ("sitting/lock.py", "fcntl.flock(file, fcntl.LOCK_EX | fcntl.LOCK_NB)", "pass"),
     ("sitting/session.py", '            self._run.say("back")\n            if not self._next():', '            self._run.say("back")\n            self._run.say("back")\n            if not self._next():'),
-    ("sitting/session.py", '("its values are others", before.values, now.values)', '("its values are others", 0, 0)'),
+    ("sitting/kept.py", '("its values are others", before.values, now.values)', '("its values are others", 0, 0)'),
     # a line that contradicts an answer is taken into the session's text, so that it can't be taken out again
     ("sitting/session.py", "if began != self.case.text and not self.against():", "if began != self.case.text:"),
     # an empty journal stays behind
-    ("sitting/session.py", "    if os.fstat(lock).st_size == 0 and _is_there(lock, journal):", "    if False:"),
+    ("sitting/lock.py", "    if os.fstat(lock).st_size == 0 and _is_there(lock, journal):", "    if False:"),
     # what was moved away is worked on
-    ("sitting/session.py", "            if _is_there(file, journal):\n                return file\n", "            return file\n"),
+    ("sitting/lock.py", "            if _is_there(file, journal):\n                return file\n", "            return file\n"),
     # a line that is gone doesn't change a session
-    ("sitting/session.py", "if any((rule.word.text, rule.things) not in said for rule in before.always):", "if False:"),
+    ("sitting/kept.py", "if any((rule.word.text, rule.things) not in said for rule in before.always):", "if False:"),
     # one byte more is cut off than is damaged
     ("sitting/session.py", "place, file = int(damaged[1]), shlex.quote(journal)", "place, file = int(damaged[1]) - 1, shlex.quote(journal)"),
 ]

@@ -33,7 +33,7 @@ PLANTED = [
     ("case/casefile.py", "if wrong := letters.unseen(raw):", 'if wrong := letters.unseen(raw.split("#")[0]):'),
     ("case/model.py", 'letters.shown("; ".join(text.split("\\n")))', '"; ".join(text.split("\\n"))'),
     ("program/talk.py", "return letters.shown(reply.text", "return (reply.text"),
-    ("sitting/session.py", "thing_of.get(letters.composed(name))", "thing_of.get(name)"),
+    ("sitting/kept.py", "thing_of.get(letters.composed(name))", "thing_of.get(name)"),
     ("commands/streams.py", "if wrong := letters.unseen(word):", "if wrong := None:"),
 ]
 

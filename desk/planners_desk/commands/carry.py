@@ -24,19 +24,9 @@ from ..hints.foreseen import CARRIED, Foreseen
 from ..program.talk import Program
 from ..program.vocabulary import Vocabulary
 from ..sitting import handover
-from ..sitting.session import (
-    Kept,
-    Named,
-    Session,
-    case_in,
-    given_back,
-    head_of,
-    locked,
-    named,
-    old_answers,
-    read_kept,
-    said_by,
-)
+from ..sitting.kept import Kept, Named, case_in, head_of, named, old_answers, read_kept
+from ..sitting.lock import given_back, locked
+from ..sitting.session import Session, said_by
 from . import streams
 
 FOUND = (

@@ -17,7 +17,7 @@ from ..hints import offers, solver, trials
 from ..hints.trials import Figures, Price
 from ..program.talk import Clock, Program, TimeOver, said
 from ..program.vocabulary import Vocabulary
-from .session import head_of
+from .kept import head_of
 
 PLANS_SHOWN = 3
 SECONDS_FOR_PLANS = 3.0  # for those that are shown

@@ -11,7 +11,7 @@ from ..commands import carry
 from ..hints.foreseen import Foreseen
 from ..program.talk import Program
 from ..program.vocabulary import Vocabulary
-from ..sitting.session import case_in, changed, head_of, old_answers, read_kept
+from ..sitting.kept import case_in, changed, head_of, old_answers, read_kept
 
 
 @dataclass(frozen=True)
