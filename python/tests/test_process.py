@@ -23,10 +23,13 @@ import os, sys, threading, time
 sys.path.insert(0, {PYTHON!r})
 from acquire import Program
 made = []
-one = threading.Thread(target=lambda: made.append(Program(sys.argv[1]).run([])))
+def starts():
+    run = Program(sys.argv[1]).run([])
+    made.extend((run, run.line()))  # it has asked for the signal by then
+one = threading.Thread(target=starts)
 one.start()
 one.join()
-print(made[0].pid, made[0].line(), flush=True)
+print(made[0].pid, made[1], flush=True)
 time.sleep(60)
 """
 
