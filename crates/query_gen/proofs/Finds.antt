@@ -1,5 +1,5 @@
 -- Finds that are kept: that they are true, and what they say of a longer network.
-use Rattle.query_gen.proofs.Prelude.{◌≡◌, ℕ, ◌+◌, ◌-◌, ◌<◌, ◌≤◌, Bool, true, false, not, ◌&&◌, cond, List, [], ◌∷◌, ◌++◌, length, take, drop, get_or, set, Option, Some, None, refl, sym, ◌∙◌, ap, subst, arith, All, All-set, All-take, take-append-drop, take_all, and_parts, not-true, Assignment, Candidate, Language, IsLanguage, IsCandidate, IsQuestion, IsNetwork, accepts, number_of, Outcome, outcome_of_candidate, found_is_lawful, found_stays, Query, Ask, is_among, query_of, query_in, query_then, is_ask, is_looked_at, byte_for, IsSearched, Find, IsFindOf, Remembered, MarksHold, AreMarksFor}
+use Rattle.query_gen.proofs.Prelude.{◌≡◌, ℕ, ◌+◌, ◌-◌, ◌<◌, ◌≤◌, Bool, true, false, not, cond, List, [], ◌∷◌, ◌++◌, length, take, drop, get_or, set, Some, refl, sym, ◌∙◌, ap, subst, arith, All-set, All-take, take-append-drop, take_all, and_parts, not-true, Assignment, Candidate, Language, IsLanguage, IsCandidate, IsQuestion, IsNetwork, accepts, number_of, Outcome, outcome_of_candidate, found_is_lawful, found_stays, Ask, is_among, query_of, query_in, query_then, is_ask, is_looked_at, byte_for, IsSearched, Find, IsFindOf, Remembered, MarksHold}
 use Rattle.std.specs.Option.{ForSome}
 use Rattle.fd_solver.specs.declared.outcome.Outcome.TheVariants as outcomes
 use Rattle.query_gen.proofs.Parts.{parts_are_joined, says_more_of_kept, then_found}

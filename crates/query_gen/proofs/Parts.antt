@@ -1,5 +1,5 @@
 -- Parts of the candidates: what they say, and how their marks are found and taken over.
-use Rattle.query_gen.proofs.Prelude.{◌≡◌, ℕ, ◌+◌, ◌-◌, ◌<◌, ◌≤◌, Bool, true, false, not, ◌&&◌, ◌||◌, cond, List, [], ◌∷◌, ◌++◌, length, map, take, drop, get_or, set, refl, sym, ◌∙◌, ap, subst, arith, inl, inr, ◌⊎◌, append_assoc, get_or-set_same, get_or-set_other, ◌==◌, ◌≢◌, slice_range, filter, filter_map, list_any, drop_more, take_all, map-append, append_cancel_right, length-set, length-map, get_or_read, get_or-take, get_or-drop, filter-append, filter_map-append, list_any-append, drop_split, cases_eq, cases_lt, and_from, eq-eqb, both_ways, Assignment, Candidate, Language, IsCandidate, candidates, number_of, numbered, Outcome, outcome_of_candidate, Query, Ask, AllImplied, Undecided, All, IsFindOf, Mark, Blank, Implied, is_among, is_spent, found_in, query_from, query_of, next_query, Remembered, AreMarksFor, MarksHold, mark_of, is_mark_spent, is_open, remembered_begun, without_spent, IsBegun, PartsAreJoined, WholeIsNext, query_in, query_then, is_ask, is_looked_at, byte_for, IsSearched, IsSearchedTo, AreTrue, mark_taken, AreTaken, HasTaken, number_below}
+use Rattle.query_gen.proofs.Prelude.{◌≡◌, ℕ, ◌+◌, ◌-◌, ◌<◌, ◌≤◌, Bool, true, false, not, ◌&&◌, ◌||◌, cond, List, [], ◌∷◌, ◌++◌, length, map, take, drop, get_or, set, refl, sym, ◌∙◌, ap, subst, arith, inl, inr, ◌⊎◌, append_assoc, get_or-set_same, get_or-set_other, ◌==◌, ◌≢◌, slice_range, filter, filter_map, list_any, drop_more, take_all, map-append, append_cancel_right, length-set, get_or_read, get_or-take, get_or-drop, filter-append, filter_map-append, list_any-append, drop_split, cases_eq, cases_lt, and_from, eq-eqb, both_ways, Assignment, Candidate, Language, IsCandidate, candidates, number_of, numbered, Outcome, outcome_of_candidate, Query, Ask, AllImplied, Undecided, All, IsFindOf, Mark, Blank, Implied, is_among, is_spent, found_in, query_from, query_of, next_query, Remembered, AreMarksFor, MarksHold, mark_of, is_mark_spent, is_open, remembered_begun, without_spent, IsBegun, PartsAreJoined, WholeIsNext, query_in, query_then, is_ask, is_looked_at, byte_for, IsSearched, IsSearchedTo, AreTrue, mark_taken, AreTaken, HasTaken, number_below}
 use Rattle.std.specs.Option.{ForSome}
 use Rattle.propagators.specs.Indexes.{IsIndexOf}
 use Rattle.fd_solver.specs.declared.outcome.Outcome.TheVariants as outcomes

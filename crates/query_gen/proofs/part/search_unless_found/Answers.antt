@@ -1,4 +1,4 @@
-use Rattle.query_gen.proofs.Prelude.{◌≤◌, ℕ, List, length, drop, subst, sym, ◌∙◌, ap, All-drop, Candidate, IsCandidate, IsNetwork, accepts, outcome_of_candidate, byte_for}
+use Rattle.query_gen.proofs.Prelude.{◌≤◌, List, length, drop, subst, sym, ◌∙◌, ap, All-drop, Candidate, IsCandidate, IsNetwork, accepts, outcome_of_candidate, byte_for}
 use Rattle.query_gen.proofs.Parts.{found_next}
 use Rattle.query_gen.proofs.Finds.{find_question, found_again}
 use Rattle.query_gen.proofs.part.search_unless_found.Goals as goal

@@ -1,4 +1,4 @@
-use Rattle.query_gen.proofs.Prelude.{ℕ, List, length, subst, sym, arith, Find, Query, MarksHold, IsSearched, IsFindOf, seen}
+use Rattle.query_gen.proofs.Prelude.{ℕ, subst, sym, arith, Query, MarksHold, IsSearched, IsFindOf, seen}
 use Rattle.query_gen.proofs.Finds.{is_find, find_kept}
 use Rattle.query_gen.proofs.screen.Screen.keep_find.Goals as goal
 
