@@ -203,6 +203,10 @@ whole_has_family l lawful list against e long complete ranged plain =
 
 -- ---- fewer constraints
 
+pub front_all : (P : Candidate → Type 0) (xs ys : List Candidate) → All P (xs ++ ys) → All P xs
+front_all P [] ys h = All-nil P
+front_all P (x ∷ xs) ys h = All-cons P x xs (All-head P x (xs ++ ys) h) (front_all P xs ys (All-tail P x (xs ++ ys) h))
+
 pub family_of_fewer : (l : Language) (network more : List Candidate) (c : Candidate) (e : Assignment) → has_family l (network ++ more) (Some c) e ≡ true → has_family l network (Some c) e ≡ true
 family_of_fewer l network more c e h =
     let old = largest_is (arcs_of l (network ++ more) (Some c)) (left_by l e) in
@@ -213,10 +217,6 @@ family_of_fewer l network more c e h =
     ((largest_is (arcs_of l network (Some c)) (left_by l e)).greatest (largest (arcs_of l (network ++ more) (Some c)) (left_by l e)) old.within
     (arcs_from l network (Some c) (largest (arcs_of l (network ++ more) (Some c)) (left_by l e)) (front_all (λ b. is_consistent (largest (arcs_of l (network ++ more) (Some c)) (left_by l e)) (scope_of l b) (arc_of l b true).accepted ≡ true) network more parts.0) parts.1))
     (sym (largest_tells l (network ++ more) (Some c) e) ∙ h)
-  where
-    front_all : (P : Candidate → Type 0) (xs ys : List Candidate) → All P (xs ++ ys) → All P xs
-    front_all P [] ys h = All-nil P
-    front_all P (x ∷ xs) ys h = All-cons P x xs (All-head P x (xs ++ ys) h) (front_all P xs ys (All-tail P x (xs ++ ys) h))
 
 -- ---- fronts
 

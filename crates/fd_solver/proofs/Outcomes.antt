@@ -1,10 +1,10 @@
 -- What outcomes say of a network and a candidate.
-use Rattle.fd_solver.proofs.Prelude.{◌≡◌, ℕ, ◌<◌, ◌≤◌, Bool, true, false, ◌&&◌, not, List, ◌++◌, length, take, Option, Some, None, refl, sym, ◌∙◌, ap, subst, arith, ◌==◌, All, find, nat_le, list_any, filter, take_all, All-filter, All-take, filter_passes, length-map-range_with_len, and_parts, and_from, both_ways, eq-eqb, eqb-true, leb-true, leb-false, le-leb, false_from_ne_true, Assignment, assigned, value_beside, tuple_on, is_complete, Candidate, Language, IsLanguage, IsCandidate, IsImplied, IsQuestion, variable_count, scope_of, violates, accepts, order_of, prefixes, assignment_of, satisfies, are_ranged, is_plain, any-filter, find_none, find_some, tuple_fits, find_all, any_weaker, find_nothing, fewer_pass, prefixes_small, question_there, order_small, whole_prefix, covers_all, Found, Absent, Spent, outcome_from, outcome_by, is_alive, alive_walk, outcome_of_candidate, AreConstraints, has_family}
+use Rattle.fd_solver.proofs.Prelude.{◌≡◌, ℕ, zero, suc, ◌<◌, ◌≤◌, Bool, true, false, cond, ◌&&◌, not, List, [], ◌∷◌, ◌++◌, length, take, Option, Some, None, refl, sym, ◌∙◌, ap, subst, arith, ◌==◌, All, list_all-append, find, nat_le, list_any, filter, take_all, All-filter, All-take, filter_passes, length-map-range_with_len, and_parts, and_from, both_ways, eq-eqb, eqb-true, leb-true, leb-false, le-leb, false_from_ne_true, Assignment, assigned, value_beside, tuple_on, is_complete, Candidate, Language, IsLanguage, IsCandidate, IsImplied, IsQuestion, variable_count, scope_of, violates, accepts, order_of, prefixes, assignment_of, satisfies, are_ranged, is_plain, any-filter, find_none, find_some, tuple_fits, find_all, any_weaker, find_nothing, fewer_pass, prefixes_small, question_there, order_small, whole_prefix, covers_all, Found, Absent, Spent, outcome_from, outcome_by, is_alive, alive_walk, outcome_of_candidate, AreConstraints, has_family}
 use Rattle.language.specs.Answers.{IsNetwork}
 use Rattle.language.proofs.Plain.{any_prefix, length-tuple_on, scope_small, long_order, lets_plain, complete_there, violated_there}
 use Rattle.language.proofs.Plain as plain
-use Rattle.fd_solver.specs.Laws.{AbsentIsImplied, SpentIsLong, PlainIsLess, IsQuestionAgainst, FoundIsLawful, AbsentStays, AliveIsPlain, AliveIsAllowed, WholeIsAlive}
-use Rattle.fd_solver.proofs.Alive.{family_is_plain, family_is_ranged, whole_has_family, family_of_fewer}
+use Rattle.fd_solver.specs.Laws.{AbsentIsImplied, SpentIsLong, PlainIsLess, IsQuestionAgainst, FoundIsLawful, AbsentStays, FoundStays, AliveIsPlain, AliveIsAllowed, WholeIsAlive}
+use Rattle.fd_solver.proofs.Alive.{front_all, family_is_plain, family_is_ranged, whole_has_family, family_of_fewer}
 
 -- ---- outcomes by their members
 
@@ -48,6 +48,42 @@ absent_fewer n assign budget p q prefixes fewer absent =
     (sym (any-filter (λ x. length x == n) q prefixes) ∙ some))))
     (let less = fewer_pass q p prefixes fewer in let short = parts.1 in omega arith)
 
+-- more members show what fewer show
+found_further : {X : Type 0} (test : X → Bool) (xs : List X) (budget : ℕ) (x : X) → find test (take budget xs) ≡ Some x → find test (take (suc budget) xs) ≡ Some x
+found_further test [] zero x h = h
+found_further test [] (suc budget) x h = h
+found_further test (y ∷ xs) zero x h = absurd (let no : ⊥ = cc in no)
+found_further test (y ∷ xs) (suc budget) x h = go (test y) (found_further test xs budget x) h
+  where
+    go : (b : Bool) → (find test (take budget xs) ≡ Some x → find test (take (suc budget) xs) ≡ Some x) →
+        cond b (Some y) (find test (take budget xs)) ≡ Some x → cond b (Some y) (find test (take (suc budget) xs)) ≡ Some x
+    go true next h = h
+    go false next h = next h
+
+-- where fewer pass, and the first that was found among them is one of these, it is found as soon
+found_fewer : {X : Type 0} (test p q : X → Bool) (xs : List X) (budget : ℕ) (x : X) → ((y : X) → q y ≡ true → p y ≡ true) → q x ≡ true →
+    find test (take budget (filter p xs)) ≡ Some x → find test (take budget (filter q xs)) ≡ Some x
+found_fewer test p q [] budget x fewer stays h = h
+found_fewer test p q (y ∷ xs) zero x fewer stays h = absurd (let no : ⊥ = cc in no)
+found_fewer test p q (y ∷ xs) (suc budget) x fewer stays h =
+    go (p y) (q y) (test y) refl refl (fewer y) (found_fewer test p q xs budget x fewer stays) (found_fewer test p q xs (suc budget) x fewer stays) h
+  where
+    go : (a b t : Bool) → q y ≡ b → test y ≡ t → (b ≡ true → a ≡ true) →
+        (find test (take budget (filter p xs)) ≡ Some x → find test (take budget (filter q xs)) ≡ Some x) →
+        (find test (take (suc budget) (filter p xs)) ≡ Some x → find test (take (suc budget) (filter q xs)) ≡ Some x) →
+        find test (take (suc budget) (cond a (y ∷ filter p xs) (filter p xs))) ≡ Some x → find test (take (suc budget) (cond b (y ∷ filter q xs) (filter q xs))) ≡ Some x
+    go false false t is on fewer less same h = same h
+    go false true t is on fewer less same h = absurd (both_ways _ refl (fewer refl))
+    go true true true is on fewer less same h = ap (λ b. cond b (Some y) (find test (take budget (filter q xs)))) on ∙ sym (ap (λ b. cond b (Some y) (find test (take budget (filter p xs)))) on) ∙ h
+    go true true false is on fewer less same h =
+        ap (λ b. cond b (Some y) (find test (take budget (filter q xs)))) on ∙ less (sym (ap (λ b. cond b (Some y) (find test (take budget (filter p xs)))) on) ∙ h)
+    go true false true is on fewer less same h =
+        let e : Some y ≡ Some x = sym (ap (λ b. cond b (Some y) (find test (take budget (filter p xs)))) on) ∙ h in
+        let one : y ≡ x = cc in
+        absurd (both_ways _ is (ap q one ∙ stays))
+    go true false false is on fewer less same h =
+        found_further test (filter q xs) budget x (less (sym (ap (λ b. cond b (Some y) (find test (take budget (filter p xs)))) on) ∙ h))
+
 -- a longer network lets fewer prefixes pass
 longer_is_stricter_alive : (l : Language) (network more : List Candidate) (c : Candidate) (p : List ℕ) → is_alive l (network ++ more) c p ≡ true → is_alive l network c p ≡ true
 longer_is_stricter_alive l network more c p h = family_of_fewer l network more c (assignment_of l c p) h
@@ -90,13 +126,24 @@ module _ (l : Language) (lawful : IsLanguage l) (network : List Candidate) (c : 
       (covers_all e (order_of l c) complete (λ k d low. (let at = order_small l c small k d low in let size = question.size in omega arith))))
       (and_from _ _ (lets_alive e question complete accepted bad) (eq-eqb _ _ long))))
 
+  -- the prefix that gave a question
+  prefix_where_found : (budget : ℕ) (e : Assignment) → outcome_of_candidate l network c budget ≡ Found e →
+      (p : List ℕ) × (find (λ q. length q == variable_count l) (take budget (alive_walk l network c)) ≡ Some p) × (assignment_of l c p ≡ e) × (length p ≡ variable_count l) × (is_alive l network c p ≡ true)
+  prefix_where_found budget e h =
+      let was = found_was (assignment_of l c) (find (λ p. length p == variable_count l) (take budget (alive_walk l network c))) (nat_le (length (alive_walk l network c)) budget) e h in (
+        was.0,
+        was.1,
+        was.2,
+        eqb-true _ _ (find_some (λ p. length p == variable_count l) (take budget (alive_walk l network c)) was.0 was.1),
+        find_all (λ p. is_alive l network c p ≡ true) (λ p. length p == variable_count l) (take budget (alive_walk l network c)) was.0
+            (All-take (λ p. is_alive l network c p ≡ true) budget (alive_walk l network c) (filter_passes (is_alive l network c) (prefixes l.value_count (variable_count l)))) was.1,
+      )
+
   question_where_found : IsNetwork l network → (budget : ℕ) (e : Assignment) → outcome_of_candidate l network c budget ≡ Found e → IsQuestionAgainst l network c e
   question_where_found legal budget e h =
-      let walk : List (List ℕ) = alive_walk l network c in
-      let was = found_was (assignment_of l c) (find (λ p. length p == variable_count l) (take budget (alive_walk l network c))) (nat_le (length (alive_walk l network c)) budget) e h in
-      let long : length was.0 ≡ variable_count l = eqb-true _ _ (find_some (λ p. length p == variable_count l) (take budget (alive_walk l network c)) was.0 was.1) in
-      let passes : is_alive l network c was.0 ≡ true = find_all (λ p. is_alive l network c p ≡ true) (λ p. length p == variable_count l) (take budget (alive_walk l network c)) was.0
-      (All-take (λ p. is_alive l network c p ≡ true) budget (alive_walk l network c) (filter_passes (is_alive l network c) (prefixes l.value_count (variable_count l)))) was.1 in
+      let was = prefix_where_found budget e h in
+      let long = was.3 in
+      let passes = was.4 in
       let fits = find_all (All (λ x. x < l.value_count)) (λ p. length p == variable_count l) (take budget (alive_walk l network c)) was.0
       (All-take (All (λ x. x < l.value_count)) budget (alive_walk l network c) (All-filter (is_alive l network c) (All (λ x. x < l.value_count)) (prefixes l.value_count (variable_count l)) (prefixes_small l.value_count (variable_count l)))) was.1 in
       let plain : is_plain l network c was.0 ≡ true = alive_is_plain l network c was.0 lawful legal is passes in
@@ -140,3 +187,22 @@ whole_is_alive l network c prefix lawful legal is long = go (is_plain l network 
         whole_has_family l lawful network (Some c) (assignment_of l c prefix)
         (length-map-range_with_len (value_beside (order_of l c) prefix) 0 (variable_count l)) (complete_there l lawful c is prefix long) parts.0 parts.1 ∙ sym plain
     go false plain = false_from_ne_true _ (λ h. both_ways _ plain (alive_is_plain l network c prefix lawful legal is h)) ∙ sym plain
+
+-- a plain prefix is plain under a longer network too, where what was added accepts it
+plain_further : (l : Language) (network more : List Candidate) (c : Candidate) (p : List ℕ) → accepts l more (assignment_of l c p) ≡ true → is_plain l network c p ≡ true → is_plain l (network ++ more) c p ≡ true
+plain_further l network more c p accepted plain =
+    let ranged = and_parts (are_ranged l (assignment_of l c p)) _ plain in
+    let parts = and_parts (accepts l network (assignment_of l c p)) (not (satisfies l c (assignment_of l c p))) ranged.1 in
+    and_from _ _ ranged.0 (and_from _ _ (list_all-append (λ d. not (violates l d (assignment_of l c p))) network more ∙ and_from _ _ parts.0 accepted) parts.1)
+
+pub found_stays : FoundStays
+found_stays l network more c budget e lawful legal is accepted found =
+    let was = prefix_where_found l lawful network c is budget e found in
+    let before : IsNetwork l network = front_all (IsCandidate l) network more legal in
+    let plain : is_plain l network c was.0 ≡ true = alive_is_plain l network c was.0 lawful before is was.4 in
+    let stays : is_alive l (network ++ more) c was.0 ≡ true =
+    whole_is_alive l (network ++ more) c was.0 lawful legal is was.3
+    ∙ plain_further l network more c was.0 (subst (λ (x : Assignment). accepts l more x ≡ true) (sym was.2) accepted) plain in
+    let there = found_fewer (λ p. length p == variable_count l) (is_alive l network c) (is_alive l (network ++ more) c) (prefixes l.value_count (variable_count l)) budget was.0
+    (longer_is_stricter_alive l network more c) stays was.1 in
+    ap (λ o. outcome_from (assignment_of l c) o (nat_le (length (alive_walk l (network ++ more) c)) budget)) there ∙ ap Found was.2

@@ -48,6 +48,13 @@ AbsentStays =
     (l : Language) (network more : List Candidate) (c : Candidate) (budget : ℕ) →
     outcome_of_candidate l network c budget ≡ Absent → outcome_of_candidate l (network ++ more) c budget ≡ Absent
 
+-- What a search finds is found too when the network has grown by candidates that accept it, under the same budget.
+abbrev pub FoundStays : Type 0
+FoundStays =
+    (l : Language) (network more : List Candidate) (c : Candidate) (budget : ℕ) (e : Assignment) →
+    IsLanguage l → IsNetwork l (network ++ more) → IsCandidate l c → IsTrue (accepts l more e) →
+    outcome_of_candidate l network c budget ≡ Found e → outcome_of_candidate l (network ++ more) c budget ≡ Found e
+
 -- An alive prefix is plain.
 abbrev pub AliveIsPlain : Type 0
 AliveIsPlain =

@@ -1,6 +1,6 @@
 //! Laws of outcomes and of the order of a candidate. They are claims alone: these functions do nothing.
 
-ghost use Rattle.fd_solver.specs.Laws.{OrdersAreKnown, AbsentIsImplied, SpentIsLong, PlainIsLess, FoundIsLawful, AbsentStays, AliveIsPlain, AliveIsAllowed, WholeIsAlive};
+ghost use Rattle.fd_solver.specs.Laws.{OrdersAreKnown, AbsentIsImplied, SpentIsLong, PlainIsLess, FoundIsLawful, AbsentStays, FoundStays, AliveIsPlain, AliveIsAllowed, WholeIsAlive};
 
 /// A candidate's scope and then the other variables have each variable once.
 pub fn orders_are_known()
@@ -30,6 +30,11 @@ pub fn found_is_lawful()
 /// A search that ends with nothing does so too when the network has grown, under the same budget.
 pub fn absent_stays()
     ensures { AbsentStays }
+{}
+
+/// What a search finds is found too when the network has grown by candidates that accept it, under the same budget.
+pub fn found_stays()
+    ensures { FoundStays }
 {}
 
 /// An alive prefix is plain: its values are their variables', it violates nothing of the network and doesn't satisfy the

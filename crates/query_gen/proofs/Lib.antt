@@ -5,4 +5,5 @@ pub mod Marking
 pub mod Asking
 pub mod Told
 pub mod Parts
+pub mod Finds
 pub mod Scopes

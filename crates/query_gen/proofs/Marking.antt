@@ -1,5 +1,5 @@
 -- How marks change, and stay true.
-use Rattle.query_gen.proofs.Prelude.{◌≡◌, ℕ, ◌+◌, ◌<◌, ◌≤◌, Bool, true, false, ◌&&◌, cond, List, [], ◌∷◌, ◌++◌, length, map, refl, sym, ◌∙◌, ap, arith, inl, inr, ◌⊎◌, ◌==◌, length-map, length-append, get_or-map, get_or_past, append-nil, cases_lt, eqb-true, and_parts, Candidate, Language, IsCandidate, number_of, outcome_of_candidate, AbsentStays, Mark, Blank, Implied, Remembered, AreMarksFor, MarksHold, mark_of, remembered_begun, without_spent, IsBegun, NoMarksHold, MarksStay, number_below}
+use Rattle.query_gen.proofs.Prelude.{◌≡◌, ℕ, ◌+◌, ◌<◌, ◌≤◌, Bool, true, false, ◌&&◌, cond, List, [], ◌∷◌, ◌++◌, length, map, Option, None, Some, take-append-le, refl, sym, ◌∙◌, ap, arith, inl, inr, ◌⊎◌, ◌==◌, length-map, length-append, get_or-map, get_or_past, append-nil, cases_lt, eqb-true, and_parts, Candidate, Language, IsCandidate, number_of, outcome_of_candidate, AbsentStays, Find, IsFindOf, Mark, Blank, Implied, Remembered, AreMarksFor, MarksHold, mark_of, remembered_begun, without_spent, IsBegun, NoMarksHold, MarksStay, number_below}
 use Rattle.fd_solver.specs.declared.outcome.Outcome.TheVariants as outcomes
 use Rattle.query_gen.specs.declared.screen.Mark.TheVariants.{Spent}
 
@@ -19,7 +19,7 @@ never_spent Spent h = cc
 
 module _ (l : Language) (network : List Candidate) (budget : ℕ) (s : Remembered) (learned : ℕ) (made : AreMarksFor l s) (holds : MarksHold l network budget s) (is : learned ≡ length network) where
   abbrev forgotten : Remembered
-  forgotten = record { first = s.first; marks = map without_spent s.marks; learned = learned; budget = budget; index = s.index }
+  forgotten = record { first = s.first; marks = map without_spent s.marks; learned = learned; budget = budget; index = s.index; finds = s.finds }
 
   mark_forgotten : (c : Candidate) → IsCandidate l c → mark_of l forgotten c ≡ without_spent (mark_of l s c)
   mark_forgotten c known = let low = number_below l c known in let size = made.marks in get_or-map without_spent s.marks (number_of l c) Blank Blank (omega arith)
@@ -29,6 +29,7 @@ module _ (l : Language) (network : List Candidate) (budget : ℕ) (s : Remembere
     implied = λ c known h. holds.implied c known (still_implied (mark_of l s c) (sym (mark_forgotten c known) ∙ h));
     spent = λ c known h e f. absurd (never_spent (mark_of l s c) (sym (mark_forgotten c known) ∙ h));
     earlier = λ c known h. omega arith;
+    finds = holds.finds;
   }
 
   forgotten_made : AreMarksFor l forgotten
@@ -48,18 +49,26 @@ module _ (l : Language) (network : List Candidate) (budget : ℕ) (s : Remembere
 
 -- ---- Laws
 
+-- a longer network begins with what the shorter one begins with
+find_stays : (l : Language) (network more : List Candidate) (budget : ℕ) (f : Find) → IsFindOf l network budget f → IsFindOf l (network ++ more) budget f
+find_stays l network more budget f before = record {
+  learned = (let low = before.learned in let long = length-append network more in omega arith);
+  found = λ c is at. ap (λ ns. outcome_of_candidate l ns c budget) (take-append-le f.learned network more before.learned) ∙ before.found c is at;
+}
+
 pub no_marks_hold : NoMarksHold
 no_marks_hold l network budget s none = record {
   implied = λ c is h. absurd (not_implied (blank c) h);
   spent = λ c is h e f. absurd (not_spent (blank c) h);
   earlier = λ c is h. absurd (not_spent (blank c) h);
+  finds = λ k d low f kept. absurd (not_kept (none.finds k d low) kept);
 }
   where
     blank : (c : Candidate) → mark_of l s c ≡ Blank
     blank c = go (cases_lt (number_of l c) (length s.marks))
       where
         go : (number_of l c < length s.marks) ⊎ (length s.marks ≤ number_of l c) → mark_of l s c ≡ Blank
-        go (inl low) = none (number_of l c) Blank low
+        go (inl low) = none.marks (number_of l c) Blank low
         go (inr past) = get_or_past s.marks (number_of l c) Blank past
 
     not_implied : {m : Mark} → m ≡ Blank → m ≡ Implied → ⊥
@@ -68,11 +77,15 @@ no_marks_hold l network budget s none = record {
     not_spent : {m : Mark} → m ≡ Blank → m ≡ Spent → ⊥
     not_spent h k = cc
 
+    not_kept : {o : Option Find} {f : Find} → o ≡ None → o ≡ Some f → ⊥
+    not_kept h k = cc
+
 pub marks_stay : AbsentStays → MarksStay
 marks_stay absent_stays l network more budget s holds = record {
   implied = λ c is h. absent_stays l network more c budget (holds.implied c is h);
   spent = λ c is h e f. spent c is h e f more refl;
   earlier = λ c is h. let before = holds.earlier c is h in let long = length-append network more in omega arith;
+  finds = λ k d low f kept. find_stays l network more budget f (holds.finds k d low f kept);
 }
   where
     spent : (c : Candidate) → IsCandidate l c → mark_of l s c ≡ Spent → s.learned ≡ length (network ++ more) → s.budget ≡ budget → (rest : List Candidate) → more ≡ rest → outcome_of_candidate l (network ++ more) c budget ≡ outcomes.Spent

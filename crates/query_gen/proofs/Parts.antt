@@ -1,5 +1,6 @@
 -- Parts of the candidates: what they say, and how their marks are found and taken over.
-use Rattle.query_gen.proofs.Prelude.{◌≡◌, ℕ, ◌+◌, ◌-◌, ◌<◌, ◌≤◌, Bool, true, false, not, ◌&&◌, ◌||◌, cond, List, [], ◌∷◌, ◌++◌, length, map, take, drop, get_or, set, refl, sym, ◌∙◌, ap, subst, arith, inl, inr, ◌⊎◌, append_assoc, get_or-set_same, get_or-set_other, ◌==◌, ◌≢◌, slice_range, filter, filter_map, list_any, drop_more, take_all, map-append, append_cancel_right, length-set, length-map, get_or_read, get_or-take, get_or-drop, filter-append, filter_map-append, list_any-append, drop_split, cases_eq, cases_lt, and_from, eq-eqb, both_ways, Assignment, Candidate, Language, IsCandidate, candidates, number_of, numbered, Outcome, outcome_of_candidate, Query, Ask, AllImplied, Undecided, Mark, Blank, Implied, is_among, is_spent, found_in, query_from, query_of, next_query, Remembered, AreMarksFor, MarksHold, mark_of, is_mark_spent, is_open, remembered_begun, without_spent, IsBegun, PartsAreJoined, WholeIsNext, query_in, query_then, is_ask, is_looked_at, byte_for, IsSearched, IsSearchedTo, AreTrue, mark_taken, AreTaken, HasTaken, number_below}
+use Rattle.query_gen.proofs.Prelude.{◌≡◌, ℕ, ◌+◌, ◌-◌, ◌<◌, ◌≤◌, Bool, true, false, not, ◌&&◌, ◌||◌, cond, List, [], ◌∷◌, ◌++◌, length, map, take, drop, get_or, set, refl, sym, ◌∙◌, ap, subst, arith, inl, inr, ◌⊎◌, append_assoc, get_or-set_same, get_or-set_other, ◌==◌, ◌≢◌, slice_range, filter, filter_map, list_any, drop_more, take_all, map-append, append_cancel_right, length-set, get_or_read, get_or-take, get_or-drop, filter-append, filter_map-append, list_any-append, drop_split, cases_eq, cases_lt, and_from, eq-eqb, both_ways, Assignment, Candidate, Language, IsCandidate, candidates, number_of, numbered, Outcome, outcome_of_candidate, Query, Ask, AllImplied, Undecided, All, IsFindOf, Mark, Blank, Implied, is_among, is_spent, found_in, query_from, query_of, next_query, Remembered, AreMarksFor, MarksHold, mark_of, is_mark_spent, is_open, remembered_begun, without_spent, IsBegun, PartsAreJoined, WholeIsNext, query_in, query_then, is_ask, is_looked_at, byte_for, IsSearched, IsSearchedTo, AreTrue, mark_taken, AreTaken, HasTaken, number_below}
+use Rattle.std.specs.Option.{ForSome}
 use Rattle.propagators.specs.Indexes.{IsIndexOf}
 use Rattle.fd_solver.specs.declared.outcome.Outcome.TheVariants as outcomes
 use Rattle.query_gen.specs.declared.screen.Mark.TheVariants as marks
@@ -68,7 +69,7 @@ then_nothing (Ask e) = refl
 then_nothing AllImplied = refl
 then_nothing Undecided = refl
 
-then_found : (q : Query) (e : Assignment) → is_ask q ≡ false → query_then q (Ask e) ≡ Ask e
+pub then_found : (q : Query) (e : Assignment) → is_ask q ≡ false → query_then q (Ask e) ≡ Ask e
 then_found (Ask x) e h = cc
 then_found AllImplied e h = refl
 then_found Undecided e h = refl
@@ -271,8 +272,8 @@ taken_more bytes first i old now m low is before = record {
     inside n after below (inr other) = get_or-set_other now (first + i) n m Blank other ∙ before.inside n after (omega arith)
 
 -- a screen whose marks have taken the bytes over
-pub has_taken : (bytes : List ℕ) (first end : ℕ) (old new : Remembered) → new.first ≡ old.first → new.learned ≡ old.learned → new.budget ≡ old.budget → new.index ≡ old.index → AreTaken bytes first end old.marks new.marks → HasTaken bytes first end old new
-has_taken bytes first end old new numbers learned budgeted index taken = record { numbers = numbers; size = taken.size; learned = learned; budgeted = budgeted; index = index; inside = taken.inside; outside = taken.outside }
+pub has_taken : (bytes : List ℕ) (first end : ℕ) (old new : Remembered) → new.first ≡ old.first → new.learned ≡ old.learned → new.budget ≡ old.budget → new.index ≡ old.index → new.finds ≡ old.finds → AreTaken bytes first end old.marks new.marks → HasTaken bytes first end old new
+has_taken bytes first end old new numbers learned budgeted index finds taken = record { numbers = numbers; size = taken.size; learned = learned; budgeted = budgeted; index = index; finds = finds; inside = taken.inside; outside = taken.outside }
 
 -- ---- What was taken over is true
 
@@ -346,6 +347,7 @@ module _ (l : Language) (network : List Candidate) (budget first end : ℕ) (byt
     implied = λ c is h. implied c is h (cases_lt (number_of l c) first) (cases_lt (number_of l c) end);
     spent = λ c is h e f. spent c is h (cases_lt (number_of l c) first) (cases_lt (number_of l c) end);
     earlier = λ c is h. (let same = taken.learned in let here = remembered_begun.learned in omega arith);
+    finds = subst (All (λ f. ForSome f (IsFindOf l network budget))) (sym taken.finds) remembered_begun.holds.finds;
   }
     where
       mark_inside : (c : Candidate) → IsCandidate l c → (from : first ≤ number_of l c) → (below : number_of l c < end) → (b : Bool) × (mark_of l new c ≡ mark_taken (mark_of l old c) (cond b (byte_for (inner c)) 0))
@@ -386,7 +388,7 @@ module _ (l : Language) (network : List Candidate) (budget first end : ℕ) (byt
 -- a search under the same network and budget forgets nothing
 begun_same : (s : Remembered) (learned budget : ℕ) → s.learned ≡ learned → s.budget ≡ budget → remembered_begun s learned budget ≡ s
 begun_same s learned budget e f =
-    ap (λ b. cond b s (record { first = s.first; marks = map without_spent s.marks; learned = learned; budget = budget; index = s.index }))
+    ap (λ b. cond b s (record { first = s.first; marks = map without_spent s.marks; learned = learned; budget = budget; index = s.index; finds = s.finds }))
     (and_from (s.learned == learned) (s.budget == budget) (eq-eqb s.learned learned e) (eq-eqb s.budget budget f))
 
 -- one part more

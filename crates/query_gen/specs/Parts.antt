@@ -41,9 +41,9 @@ is_ask Undecided = false
 abbrev pub is_looked_at : Language → List Candidate → List Candidate → ℕ → ℕ → Candidate → Bool
 is_looked_at l network kept budget first c = is_among kept c && not (is_ask (query_in l network kept budget first (number_of l c)))
 
--- the byte for an outcome: 1 says that nothing is left to ask, 2 that the budget was spent, and 0 nothing
+-- the byte for an outcome: 1 says that nothing is left to ask, 2 that the budget was spent, and 3 that a question was found
 abbrev pub byte_for : Outcome → ℕ
-byte_for (outcomes.Found e) = 0
+byte_for (outcomes.Found e) = 3
 byte_for outcomes.Absent = 1
 byte_for outcomes.Spent = 2
 
@@ -108,5 +108,6 @@ pub record HasTaken (bytes : List ℕ) (first end : ℕ) (old new : Remembered) 
   pub learned : new.learned ≡ old.learned
   pub budgeted : new.budget ≡ old.budget
   pub index : new.index ≡ old.index
+  pub finds : new.finds ≡ old.finds
   pub inside : (n : ℕ) → first ≤ n → n < end → slice_index_or new.marks n Blank ≡ mark_taken (slice_index_or old.marks n Blank) (slice_index_or bytes (n - first) 0)
   pub outside : (n : ℕ) → (n < first) ⊎ (end ≤ n) → slice_index_or new.marks n Blank ≡ slice_index_or old.marks n Blank

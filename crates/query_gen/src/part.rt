@@ -25,6 +25,9 @@ pub(crate) const IMPLIED: u8 = 1;
 /// The byte of a candidate on which the budget was spent.
 pub(crate) const SPENT: u8 = 2;
 
+/// The byte of a candidate whose search found a question.
+pub(crate) const FOUND: u8 = 3;
+
 /// The outcome of a candidate's search.
 fn outcome_of(
     work: &mut Work,
@@ -71,7 +74,7 @@ fn search_candidate(
     match outcome_of(work, index, lang, net, budget, c) {
         Outcome::Found(e) => {
             *answer = Query::Ask(e);
-            0
+            FOUND
         }
         Outcome::Absent => IMPLIED,
         Outcome::Spent => {
@@ -81,19 +84,51 @@ fn search_candidate(
     }
 }
 
+/// The same, without a search where the last find of the candidate stands: what was learned since accepts it.
+fn search_unless_found(
+    work: &mut Work,
+    answer: &mut Query,
+    screen: &Screen,
+    lang: &Language,
+    net: &Network,
+    budget: u32,
+    number: u32,
+    c: Candidate,
+) -> u8
+    requires screen { AreMarksFor lang.now screen.now }
+    requires marks { MarksHold lang.now net.now.list budget screen.now }
+    requires candidate { IsCandidate lang.now c × (number_of lang.now c ≡ number) }
+    requires network { IsNetwork lang.now net.now.list }
+    requires budget { 1 ≤ budget }
+    requires none { is_ask answer.old ≡ false }
+    ensures byte { result ≡ byte_for (outcome_of_candidate lang.now net.now.list c budget) }
+    ensures answer { answer.new ≡ query_then answer.old (query_of (outcome_of_candidate lang.now net.now.list c budget ∷ [])) }
+{
+    let _variables = lang.n();
+    if let Some(find) = screen.find_of(number)
+        && find.is_accepted(lang, find.learned_since(net.list()))
+    {
+        *answer = Query::Ask(find.question);
+        return FOUND;
+    }
+    search_candidate(work, answer, screen.index(), lang, net, budget, c)
+}
+
 /// The same, with a search only where the candidate's mark doesn't say the outcome.
 fn byte_of(
     work: &mut Work,
     answer: &mut Query,
-    index: &Index,
+    screen: &Screen,
     mark: Mark,
     lang: &Language,
     net: &Network,
     budget: u32,
+    number: u32,
     c: Candidate,
 ) -> u8
-    requires index { IsIndexOf lang.now index.now }
-    requires candidate { IsCandidate lang.now c }
+    requires screen { AreMarksFor lang.now screen.now }
+    requires marks { MarksHold lang.now net.now.list budget screen.now }
+    requires candidate { IsCandidate lang.now c × (number_of lang.now c ≡ number) }
     requires network { IsNetwork lang.now net.now.list }
     requires implied { mark ≡ Mark.Implied → outcome_of_candidate lang.now net.now.list c budget ≡ Outcome.Absent }
     requires spent { mark ≡ Mark.Spent → outcome_of_candidate lang.now net.now.list c budget ≡ Outcome.Spent }
@@ -108,7 +143,7 @@ fn byte_of(
             *answer = Query::Undecided;
             SPENT
         }
-        Mark::Blank => search_candidate(work, answer, index, lang, net, budget, c),
+        Mark::Blank => search_unless_found(work, answer, screen, lang, net, budget, number, c),
     }
 }
 
@@ -147,7 +182,7 @@ fn look_at(
     if let Mark::Blank = mark {
         searched.reach(number);
     }
-    let byte = byte_of(work, answer, screen.index(), mark, lang, net, budget, c);
+    let byte = byte_of(work, answer, screen, mark, lang, net, budget, number, c);
     marks[(number - first) as usize] = byte;
 }
 

@@ -23,7 +23,7 @@ pub struct Place {
     /// The room of a search.
     pub work: Work,
     /// A byte for each candidate of the part, in candidate order: 1 where the search said that nothing is left to ask, 2
-    /// where the budget was spent, and else 0.
+    /// where the budget was spent, 3 where it found a question, and else 0.
     pub marks: Vec<u8>,
     /// What the kept candidates of the part say.
     pub answer: Query,
@@ -55,9 +55,9 @@ impl Place {
     /// budget finds a question.
     ///
     /// The budget is how many members of its walk the search for one candidate may look at. Afterwards `answer` is what
-    /// these candidates say, and `marks` holds a byte for each of them. A candidate whose mark on the screen tells the
-    /// outcome isn't searched again. The cost without any search is a step for each scope of the part, for each candidate on those that have a
-    /// kept one, and the setting of a byte for each candidate of the part.
+    /// these candidates say, and `marks` holds a byte for each of them. A candidate whose mark or find on the screen tells
+    /// the outcome isn't searched again. The cost without any search is a step for each scope of the part, for each
+    /// candidate on those that have a kept one, and the setting of a byte for each candidate of the part.
     pub fn search(
         &mut self,
         screen: &Screen,

@@ -46,8 +46,8 @@ impl Query {
 
 /// The next question: that of the first kept candidate, in candidate order, whose search under the budget finds one.
 ///
-/// The budget is how many members of its walk the search for one candidate may look at. A candidate whose mark tells
-/// the outcome isn't searched again. The cost without any search is that of `Place::search` over all candidates.
+/// The budget is how many members of its walk the search for one candidate may look at. A candidate whose mark or find
+/// tells the outcome isn't searched again. The cost without any search is that of `Place::search` over all candidates.
 pub fn next_query(
     work: &mut Work,
     screen: &mut Screen,
@@ -92,6 +92,7 @@ pub fn next_query(
         screen.take_part(&marks, first, end, net, budget);
         answer = answer.then(next);
         if let Query::Ask(_) = answer {
+            screen.keep_find(&marks, first, end, searched, &next, net);
             return answer;
         }
         first = end;

@@ -1,21 +1,26 @@
 //! What is remembered of searches.
 
-ghost use Rattle.std.specs.Prelude.{◌≡◌, ◌<◌, ◌≤◌, ◌+◌, ◌-◌, ℕ, IfOk, List, length, map, slice_index_or, slice_range, vec_len};
+ghost use Rattle.std.specs.Prelude.{◌≡◌, ◌<◌, ◌≤◌, ◌+◌, ◌-◌, ℕ, IfOk, IfSome, List, length, map, slice_index_or, slice_range, vec_len};
 ghost use Rattle.assign.specs.Sets.{numbers};
 ghost use Rattle.language.specs.Language.{Language, IsCandidate, number_of};
 ghost use Rattle.language.specs.Answers.{IsNetwork};
-ghost use Rattle.query_gen.specs.Marks.{AreMarksFor, HasNoMarks, MarksHold, is_mark_spent, is_open};
+ghost use Rattle.query_gen.specs.Marks.{AreMarksFor, HasNoMarks, IsFindOf, MarksHold, is_mark_spent, is_open};
 ghost use Rattle.query_gen.specs.Inside.{remembered_begun, without_spent};
 ghost use Rattle.query_gen.specs.Parts.{mark_taken, searched_from, searched_end, AreTaken, AreTrue, IsSearched, HasTaken};
 
-use crate::part::{IMPLIED, SPENT};
+use crate::find::Find;
+use crate::part::{FOUND, IMPLIED, SPENT};
 use crate::place::Place;
 use crate::query::Query;
+use crate::span::Span;
 use language::{Candidate, Language, Memory, ScopeId};
 use network::Network;
 use propagators::Index;
 use std::alloc::{AllocError, Global};
 use std::marker::Model;
+
+/// How many finds are kept.
+const EIGHTHS: usize = 8;
 
 /// What the last search of a candidate said.
 #[derive(Clone, Copy, Debug, PartialEq, Eq)]
@@ -57,7 +62,7 @@ impl Mark {
     }
 }
 
-/// Marks of candidates, so that a search whose outcome is known isn't made again.
+/// Marks of candidates and what was found of them, so that a search whose outcome is known isn't made again.
 #[derive(Drop)]
 pub struct Screen {
     /// For each scope the number of its first candidate.
@@ -70,6 +75,9 @@ pub struct Screen {
     budget: u32,
     /// What is known before searches, of the network that was followed last.
     index: Index,
+    /// For each eighth of the candidates the last question that a search found there. The next search of its candidate finds it
+    /// again, while all that is learned since accepts it.
+    finds: [Option<Find>; EIGHTHS],
 }
 
 impl Model for Screen {
@@ -114,7 +122,7 @@ fn take_bytes(marks: &mut [Mark], first: usize, bytes: &[u8], count: usize)
 }
 
 impl Screen {
-    /// No marks, a byte for each candidate, and some 36 bytes for each scope. `Memory` where there is none for them.
+    /// No marks and no finds, a byte for each candidate, and some 36 bytes for each scope. `Memory` where there is none for them.
     pub fn new(alloc: Global, lang: &Language) -> Result<Screen, Memory>
         ensures made { IfOk result (AreMarksFor lang.now) }
         ensures unmarked { IfOk result HasNoMarks }
@@ -130,17 +138,19 @@ impl Screen {
                 learned: 0,
                 budget: 0,
                 index,
+                finds: [None; EIGHTHS],
             }),
             Err(_) => Err(Memory),
         }
     }
 
-    /// Takes all marks away, as when answers were taken back.
+    /// Takes all marks and finds away, as when answers were taken back.
     pub fn clear(&mut self)
         ensures made { (l : Language) → AreMarksFor l self.old → AreMarksFor l self.new }
         ensures unmarked { HasNoMarks self.new }
     {
         self.marks.fill(Mark::Blank);
+        self.finds.fill(None);
     }
 
     /// Whether the last search of a candidate was spent. A scope that the language lacks has no such candidate.
@@ -197,6 +207,55 @@ impl Screen {
         }
     }
 
+    /// In which eighth of the candidates this number is.
+    fn eighth_of(&self, number: u32) -> usize
+        ensures { result < 8 }
+    {
+        let size = self.marks.len().div_ceil(EIGHTHS).max(1);
+        (number as usize / size).min(EIGHTHS - 1)
+    }
+
+    /// The last find of the candidate of this number, where no later one in its eighth took its place.
+    pub(crate) fn find_of(&self, number: u32) -> Option<&Find>
+        ensures number { IfSome result (λ f. f.now.number ≡ number) }
+        ensures is { (l : Language) (network : List Candidate) (budget : ℕ) → MarksHold l network budget self.now → IfSome result (λ f. IsFindOf l network budget f.now) }
+    {
+        match &self.finds[self.eighth_of(number)] {
+            Some(find) if find.number == number => Some(find),
+            _ => None,
+        }
+    }
+
+    /// Keeps the question that the search of these candidates found, if it found one, in place of the last one in its eighth.
+    pub(crate) fn keep_find(
+        &mut self,
+        bytes: &[u8],
+        first: u32,
+        end: u32,
+        searched: Span,
+        answer: &Query,
+        net: &Network,
+    )
+        requires part { first ≤ end }
+        requires room { end - first ≤ length bytes.now }
+        ensures same { self.new ≡ record self.old { finds = self.new.finds } }
+        ensures holds { (l : Language) (kept : List Candidate) (budget : ℕ) → MarksHold l net.now.list budget self.old → IsSearched l net.now.list kept budget first end bytes.now answer.now → MarksHold l net.now.list budget self.new }
+    {
+        let number = searched.greatest;
+        let Query::Ask(question) = answer else {
+            return;
+        };
+        if number < first || end <= number || bytes[(number - first) as usize] != FOUND {
+            return;
+        }
+        let eighth = self.eighth_of(number);
+        self.finds[eighth] = Some(Find {
+            number,
+            learned: net.len(),
+            question: *question,
+        });
+    }
+
     /// Takes over what the search of a part found, for the candidates with numbers from `first` to below `end`.
     ///
     /// The marks "spent" of these go, and those of the place are put in. The other candidates keep the marks that count:
@@ -213,14 +272,14 @@ impl Screen {
     }
 
     /// Takes over what the search of a part found, as far as it searched: for the candidates of the part from the least to the
-    /// greatest that was searched for.
+    /// greatest that was searched for. The question, if it found one, is kept for the next search.
     ///
     /// That is all that it found out. What else `take_marks` does matters only where no question was found: there the candidates
     /// that are open have to be those of the last search.
     pub fn take_searched(&mut self, place: &Place, first: u32, end: u32, net: &Network, budget: u32)
         requires part { (first ≤ end) × (end ≤ length self.old.marks) }
         requires room { end - first ≤ vec_len place.now.marks }
-        ensures taken { searched_from place.now first < searched_end place.now end → HasTaken (slice_range place.now.marks.items (searched_from place.now first - first) (searched_end place.now end - first)) (searched_from place.now first) (searched_end place.now end) (remembered_begun self.old (length net.now.list) budget) self.new }
+        ensures taken { searched_from place.now first < searched_end place.now end → HasTaken (slice_range place.now.marks.items (searched_from place.now first - first) (searched_end place.now end - first)) (searched_from place.now first) (searched_end place.now end) (remembered_begun self.old (length net.now.list) budget) (record self.new { finds = (remembered_begun self.old (length net.now.list) budget).finds }) }
         ensures same { searched_end place.now end ≤ searched_from place.now first → self.new ≡ self.old }
         ensures made { (l : Language) → AreMarksFor l self.old → AreMarksFor l self.new }
         ensures holds { (l : Language) (kept : List Candidate) → AreMarksFor l self.old → MarksHold l net.now.list budget self.old → IsSearched l net.now.list kept budget first end place.now.marks.items place.now.answer → MarksHold l net.now.list budget self.new }
@@ -232,6 +291,7 @@ impl Screen {
         }
         let bytes = &place.marks[(from - first) as usize..(to - first) as usize];
         self.take_part(bytes, from, to, net, budget);
+        self.keep_find(&place.marks, first, end, place.searched, &place.answer, net);
     }
 
     /// Takes over the bytes that the search of these candidates set.

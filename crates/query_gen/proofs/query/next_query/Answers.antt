@@ -1,7 +1,22 @@
-use Rattle.query_gen.proofs.Prelude.{◌+◌, ◌<◌, ◌≤◌, length, sym, ◌∙◌, ap, ap₂, arith, candidates, number_of, query_then, is_ask, number_below}
-use Rattle.query_gen.proofs.Parts.{parts_are_joined, says_early, searched_true, taken_further}
+use Rattle.query_gen.proofs.Prelude.{◌+◌, ◌<◌, ◌≤◌, length, refl, sym, ◌∙◌, ap, ap₂, arith, candidates, number_of, query_then, is_ask, number_below}
+use Rattle.query_gen.proofs.Parts.{parts_are_joined, says_early, says_nothing, searched_true, taken_further}
 use Rattle.query_gen.proofs.Scopes.{no_ask}
 use Rattle.query_gen.proofs.query.next_query.Goals as goal
+
+pub loop-first-init : goal.loop-first-init
+loop-first-init c = record {
+  taken = record {
+    made = c.follow.ensures.made;
+    holds = c.follow.ensures.holds c.args.net.now.list c.args.budget c.requires.marks;
+    learned = λ some. absurd (omega arith);
+    budgeted = λ some. absurd (omega arith);
+    opened = λ none d known below. absurd (omega arith);
+  };
+  said = sym (says_nothing c.args.lang.now c.args.net.now.list c.args.kept.now.members c.args.budget 0);
+  none = refl;
+  within = omega arith;
+  room = refl;
+}
 
 pub returns-in-Ask-clause-is : goal.returns-in-Ask-clause-is
 returns-in-Ask-clause-is c =
@@ -17,8 +32,10 @@ returns-in-Ask-clause-is c =
 pub returns-in-Ask-clause-marks : goal.returns-in-Ask-clause-marks
 returns-in-Ask-clause-marks c =
     let before = c.loop-first.invariant.taken in
-    c.take_part.ensures.holds c.args.lang.now before.made before.holds
-    (searched_true c.args.lang.now c.args.net.now.list c.args.kept.now.members c.args.budget c.loop-first.first _ c.search_part-next.new.marks c.search_part-next.result c.search_part-next.ensures.is)
+    c.keep_find.ensures.holds c.args.lang.now c.args.kept.now.members c.args.budget
+    (c.take_part.ensures.holds c.args.lang.now before.made before.holds
+    (searched_true c.args.lang.now c.args.net.now.list c.args.kept.now.members c.args.budget c.loop-first.first _ c.search_part-next.new.marks c.search_part-next.result c.search_part-next.ensures.is))
+    c.search_part-next.ensures.is
 
 pub loop-first-preserved : goal.loop-first-preserved
 loop-first-preserved c =

@@ -10,5 +10,5 @@ returns-in-Err-clause-written g c bytes told =
 pub returns-in-Ok-clause-seen : goal.returns-in-Ok-clause-seen
 returns-in-Ok-clause-seen g c now told =
     let long = length_told c.args.at c.args.bytes.now now c.in-Some.length tt (g.F.NamedFile.content c.args.self.now.file) (g.F.NamedFile.content c.write_all.new.self)
-        c.in-Ok.ensures.silent c.in-Some.ensures.told c.requires c.in-Ok.ensures.written told in
+    c.in-Ok.ensures.silent c.in-Some.ensures.told c.requires c.in-Ok.ensures.written told in
     ap Some (omega arith)

@@ -15,9 +15,9 @@ returns-clause-taken c =
     let state : seen c.self.inside ≡ remembered_begun c.args.self.now (length c.args.net.now.list) c.args.budget = c.self.view_is ∙ c.begin.ensures ∙ ap (λ n. remembered_begun c.args.self.now n c.args.budget) c.len.ensures.is in
     let marks : (with_items c.self.inside.marks c.take_bytes.new.marks).items ≡ c.take_bytes.new.marks =
     with_items_is c.self.inside.marks c.take_bytes.new.marks (c.take_bytes.ensures.size ∙ ap length c.deref_mut.ensures.value ∙ sym c.self.inside.marks.ok.0) in
-    let new : Remembered = record { first = c.self.inside.first.items; marks = (with_items c.self.inside.marks c.take_bytes.new.marks).items; learned = c.self.inside.learned; budget = c.self.inside.budget; index = c.self.inside.index } in
+    let new : Remembered = record { first = c.self.inside.first.items; marks = (with_items c.self.inside.marks c.take_bytes.new.marks).items; learned = c.self.inside.learned; budget = c.self.inside.budget; index = c.self.inside.index; finds = c.self.inside.finds } in
     subst (λ (old : Remembered). HasTaken c.args.bytes.now c.args.first c.args.end old new) state
-    (has_taken c.args.bytes.now c.args.first c.args.end (seen c.self.inside) new refl refl refl refl
+    (has_taken c.args.bytes.now c.args.first c.args.end (seen c.self.inside) new refl refl refl refl refl
     (subst (AreTaken c.args.bytes.now c.args.first c.args.end c.self.inside.marks.items) (sym marks) (marks_taken c)))
 
 pub returns-clause-holds : goal.returns-clause-holds
