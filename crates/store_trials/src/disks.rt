@@ -122,14 +122,22 @@ pub(crate) fn fuse(alloc: Global, over: &str, arguments: &str) -> Option<String>
     Some(text)
 }
 
+/// Whether a call passes, where the file goes up to its place. Else None.
+fn does_pass_there(disk: &mut FileDisk<MemFile>, at: u64, call: Call<'_>) -> Option<bool> {
+    let Ok(length) = disk.len() else {
+        return None;
+    };
+    if at > length {
+        return None;
+    }
+    Some(does_pass(disk, at, call))
+}
+
 /// Makes these calls of a file.
 fn push_filed(text: &mut String, disk: &mut FileDisk<MemFile>, calls: &str) -> Option<()> {
     for word in calls.split_whitespace() {
         let (at, call) = call_in(word)?;
-        if at > disk.len().ok()? {
-            return None;
-        }
-        push_said(text, does_pass(disk, at, call))?;
+        push_said(text, does_pass_there(disk, at, call)?)?;
     }
     Some(())
 }
