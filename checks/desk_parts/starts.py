@@ -259,7 +259,7 @@ def zsh_lists(words: dict[str, list[str]]) -> list[str]:
     """The lists in the text of the completion for zsh."""
     with open(os.path.join(hands.TOP, "completions", "_desk"), encoding="utf-8") as file:
         text = file.read()
-    options = dict(re.findall(r"(?m)^    local ([a-z]+)='(--[a-z]+)=?\[", text))
+    options = dict(re.findall(r"(?m)^    local ([a-z]+)='(--[a-z-]+)=?\[", text))
     listed = {name: [options[it] for it in re.findall(r"\$([a-z]+)", line) if it in options]
               for name, line in re.findall(r"(?m)^    ([a-z]+)\) wanted=\((.*)\) ;;$", text)}
     described = re.findall(r"(?m)^            '([a-z]+):", text)
