@@ -30,7 +30,12 @@ PLANTED = [
     ("case/casefile.py", "self.line_number = number\n", "self.line_number = number - 1\n"),
     ("case/names.py", 'return f"; the nearest is `{found[0]}`" if found else ""', 'return ""'),
     ("case/casefile.py", "allowed.update(range(low, high))", "allowed.update(range(low, high - 1))"),
-    ("case/casefile.py", 'self._once((member for part in parts for member in part.members), "`{}` stands in two sides of the grid")', "pass"),
+    ("case/casefile.py",
+     "self._once(\n"
+     "            (member for part in parts for member in part.members),\n"
+     '            "`{}` stands in two sides of the grid",\n'
+     "        )",
+     "pass"),
     ("case/names.py", "if len(numbers) > MOST_FILLED:", "if len(numbers) > 2 * MOST_FILLED:"),
 ]
 

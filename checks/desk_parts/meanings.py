@@ -25,7 +25,7 @@ LIST = ["p", "q", "r", "s", "t"]
 GRID = [(day, hour) for day in ("Mon", "Tue", "Wed") for hour in ("1", "2")]
 DAY = {"Mon": 0, "Tue": 1, "Wed": 2}
 PLANTED = [
-    ("case/catalogue.py", "(lambda *x: any(one not in v for one in x)) if most", "(lambda *x: any(one in v for one in x)) if most"),
+    ("case/catalogue.py", "(lambda *x: any(one not in v for one in x))", "(lambda *x: any(one in v for one in x))"),
     ("case/catalogue.py", "NUMBERS[m[2]] + 1", "NUMBERS[m[2]] + 2"),
     ("case/catalogue.py", "holds, said = (lambda *x: len({seen(one) for one in x}) > 1), m[3]", "holds, said = (lambda *x: len({seen(one) for one in x}) == len(x)), m[3]"),
     ("case/catalogue.py", '"before": (lambda x, y: x < y,', '"before": (lambda x, y: x <= y,'),

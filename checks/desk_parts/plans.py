@@ -52,10 +52,15 @@ PLANTED = [
     ("hints/solver.py", "    wanted = None if clauses is None else with_known(clauses, vocabulary)", "    wanted = clauses"),
     ("hints/solver.py", "at_least(literals, len(literals) - count.most, last)", "at_least(literals, len(literals) - count.most - 1, last)"),
     ("hints/solver.py", "at_least([-literal for literal in literals], count.least, last)", "at_least(literals, count.least, last)"),
-    ("hints/solver.py", "    wanted = with_known(dataclasses.replace(clauses, clauses=clauses.clauses[:clauses.own]), vocabulary)",
-     "    wanted = dataclasses.replace(clauses, clauses=clauses.clauses[:clauses.own])"),
+    ("hints/solver.py",
+     "wanted = with_known(\n"
+     "        dataclasses.replace(clauses, clauses=clauses.clauses[: clauses.own]), vocabulary\n"
+     "    )",
+     "wanted = dataclasses.replace(clauses, clauses=clauses.clauses[: clauses.own])"),
     ("hints/solver.py", "clock.within(SECONDS)", "Clock(SECONDS)"),
-    ("report/page.py", "*beside(session.case), ", ""),
+    ("report/page.py",
+     "            *beside(session.case),\n",
+     ""),
     ("case/counts.py", "0 if found[1] == \"at most\" else number,", "0 if found[1] != \"at least\" else number,"),
     ("case/counts.py", "thing.place for thing in things if thing.at[k] == member)", "thing.place for thing in things if thing.at[k] >= member)"),
     # what a solver prints is shown unchecked

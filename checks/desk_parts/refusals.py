@@ -33,7 +33,13 @@ PLANTED = [
     ("program/talk.py", "    if NO_TEXT in printed:\n", "    if False:\n"),
     ("../../python/acquire/process.py", "        if len(printed) > MOST_PRINTED:\n", "        if False:\n"),
     ("sitting/session.py", "if f\"answers {len(self.answers)}\" not in lines:", "if False:"),
-    ("program/vocabulary.py", "if name not in self._place or not number.isdecimal() or not 1 <= int(number) <= self.coding.size:", "if False:"),
+    ("program/vocabulary.py",
+     "if (\n"
+     "                name not in self._place\n"
+     "                or not number.isdecimal()\n"
+     "                or not 1 <= int(number) <= self.coding.size\n"
+     "            ):",
+     "if False:"),
     ("hints/trials.py", "raise something_else(f\"{len(asked)} questions without an end\")", "pass"),
     ("commands/streams.py", "            name.encode(encoding)\n", "            name.encode()\n"),
     ("commands/streams.py", "        if sys.stdout is not None and fails(sys.stdout):\n", "        if False:\n"),

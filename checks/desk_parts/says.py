@@ -56,7 +56,7 @@ CASES = (hands.WARD, hands.SCHOOL, hands.BICYCLE, hands.TEAM, HALL, TRIOS, NIGHT
 
 PLANTED = [
     # an exception isn't named
-    ("hints/sentences.py", "out = [part.members[member] for member in one.might\n", "out = [part.members[member] for member in one.might[1:]\n"),
+    ("hints/sentences.py", "for member in one.might", "for member in one.might[1:]"),
     # a yes that has nothing to do with it is said to be behind an odd one
     ("hints/patterns.py", "        if answer.yes and breaks:", "        if answer.yes:"),
     # patterns are said together that hold at other places

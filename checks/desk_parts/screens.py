@@ -30,7 +30,9 @@ NAMES = ("Ann", "Bär", "Çelik", "Łukasz Nowak", "李小龍", "Ōno", "a-very-
 
 PLANTED = [
     # a cell is dropped where a list stands in
-    ("faces/drawing.py", "in_columns(entries[at:at + a_page], columns, wide) for at", "in_columns(entries[at:at + a_page - 1], columns, wide) for at"),
+    ("faces/drawing.py",
+     "in_columns(entries[at : at + a_page], columns, wide)",
+     "in_columns(entries[at : at + a_page - 1], columns, wide)"),
     # a table that is too wide isn't turned or listed, but cut off
     ("faces/drawing.py", "first + sum(widths) + 3 * len(widths) + 4", "first + sum(widths)"),
     # what has stayed is marked, and what has changed isn't
@@ -39,10 +41,18 @@ PLANTED = [
     ("faces/screen.py", "            if room < (LEAST_BODY if count > 1 else 1):\n                return []\n", ""),
     ("faces/screen.py", "            elif count:\n                taken", "            else:\n                taken"),
     # what stands around a page never gives way, or the last line, which says what is asked, does
-    ("faces/screen.py", "for gone in range(max(1, len(under)))]", "for gone in range(1)]"),
-    ("faces/screen.py", "for gone in range(max(1, len(under)))]", "for gone in range(1 + len(under))]"),
+    ("faces/screen.py",
+     "for first, below in [(foot or least, 0)] + [\n"
+     "            (least, gone) for gone in range(max(1, len(under)))\n"
+     "        ]:",
+     "for first, below in [(foot or least, 0)] + [(least, gone) for gone in range(1)]:"),
+    ("faces/screen.py",
+     "(least, gone) for gone in range(max(1, len(under)))",
+     "(least, gone) for gone in range(1 + len(under))"),
     # a message takes room of its own, so that what was looked at isn't what is counted
-    ("faces/screen.py", "said = self._text(message, \"bold\")[:len(layout.foot)] if message else layout.foot", "said = self._text(message, \"bold\") + layout.foot if message else layout.foot"),
+    ("faces/screen.py",
+     'said = self._text(message, "bold")[: len(layout.foot)] if message else layout.foot',
+     'said = self._text(message, "bold") + layout.foot if message else layout.foot'),
     # after another size of the window the old pages count
     ("faces/screen.py", "                layout, seen = self._layout(sheet), set()\n", "                layout = self._layout(sheet)\n"),
     ("faces/screen.py", "            page = min(page, max(count - 1, 0))\n", ""),

@@ -34,8 +34,9 @@ PLANTED = [
     # an answer is turned round
     ("faces/questions.py", "asking.answer(key == \"y\")", "asking.answer(key == \"n\")"),
     # another answer is gone back to than the one that was chosen
-    ("faces/goback.py", "super().__init__([place for place in places if may_go_back(session, place)], keys,",
-     "super().__init__([place - 1 for place in places if may_go_back(session, place) and place], keys,"),
+    ("faces/goback.py",
+     "[place for place in places if may_go_back(session, place)],",
+     "[place - 1 for place in places if may_go_back(session, place) and place],"),
     # behind a broken plan only a single answer that explains it is shown
     ("sitting/judging.py", "    if places or plan.rule is None:\n        return places", "    return places"),
     # a second step back forgets what the first one took
@@ -57,7 +58,7 @@ PLANTED = [
     # one cell is enough to go on from
     ("faces/point.py", "while len(chosen) < most:", "while len(chosen) < 1:"),
     # a thing isn't printed
-    ("faces/plain.py", "for thing in sorted(picture.values)]", "for thing in sorted(picture.values)[1:]]"),
+    ("faces/plain.py", "for thing in sorted(picture.values)", "for thing in sorted(picture.values)[1:]"),
 ]
 
 

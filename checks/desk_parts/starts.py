@@ -48,7 +48,13 @@ PLANTED = [
     ("__main__.py", "    if options.unproved:\n", "    if False:\n"),
     ("__main__.py", 'for name in ("version", "VERSION"):', 'for name in ("VERSION",):'),
     ("commands/handout.py", "if os.path.lexists(path)]:", "if os.path.lexists(path) and False]:"),
-    ("commands/handout.py", 'if name.endswith(".case")}', "}"),
+    ("commands/handout.py",
+     "copies = {\n"
+     "        os.path.join(folder, name): _content(name)\n"
+     "        for name in sorted(os.listdir(CASES))\n"
+     '        if name.endswith(".case")\n'
+     "    }",
+     "copies = {os.path.join(folder, name): _content(name) for name in sorted(os.listdir(CASES))}"),
 ]
 
 

@@ -38,7 +38,13 @@ PLANTED = [
     # a rule that was known before is said again
     ("hints/possible.py", "and not _says(left, needed)", ""),
     # what was said beforehand is said as if it were taught
-    ("sitting/session.py", " if (rule.word.text, rule.things) not in self.beforehand)", ")"),
+    ("sitting/session.py",
+     "yield from (\n"
+     "                    rule\n"
+     "                    for rule in self.vocabulary.fewest(scope, table)\n"
+     "                    if (rule.word.text, rule.things) not in self.beforehand\n"
+     "                )",
+     "yield from (rule for rule in self.vocabulary.fewest(scope, table))"),
     # answers that are given for the person teach as well
     (
         "sitting/session.py",

@@ -30,10 +30,15 @@ class Faults(unittest.TestCase):
 
     def test_a_word_that_is_none(self) -> None:
         """The catalogue is looked at, where no form is near."""
-        fault = fault_of("things: maths sport\nvalues: 8 9\nask: all\nwords: different\nknown: nobody works on Sunday\n")
+        fault = fault_of(
+            "things: maths sport\nvalues: 8 9\nask: all\nwords: different\nknown: nobody works on "
+            "Sunday\n"
+        )
         self.assertEqual(fault.ways, (Way.WORDS,))
         self.assertNotIn("desk", str(fault))
-        self.assertTrue(ways.lines(fault)[0].endswith("; `desk words` lists all"), ways.lines(fault))
+        self.assertTrue(
+            ways.lines(fault)[0].endswith("; `desk words` lists all"), ways.lines(fault)
+        )
 
     def test_each_text_has_its_own(self) -> None:
         """Faults that are told together keep what is behind each."""

@@ -40,18 +40,30 @@ words: different, same table, next to
 """
 OTHERS = (
     SEATS,
-    "title: Conference\nthings: opening maths bees rivers\nvalues: room A B C x hour 9 10 11 12\nask: all\n"
-    "words: different, different hour, earlier hour, same room\nalways: different on all\n",
-    "title: Holidays\nthings: Ana Ben Cleo Dan\nvalues: week1 .. week5\nask: all triples\n"
-    "words: different, not all three the same\nknown: at most 2 alike\nnote: one\nnote: two # of them\n",
-    "things: a b\nthings: Mary Ann, Bob\nvalues: 1\nvalues: 2 3\nthing own: p q\nonly a: 1 .. 2\nask: all, a - b\n"
-    "words: different\nwords: same, different # twice\nalways: same on a - b, different on all\nplan: scopes\n",
+    (
+        "title: Conference\nthings: opening maths bees rivers\nvalues: room A B C x hour 9 10 11 "
+        "12\nask: all\nwords: different, different hour, earlier hour, same room\nalways: "
+        "different on all\n"
+    ),
+    (
+        "title: Holidays\nthings: Ana Ben Cleo Dan\nvalues: week1 .. week5\nask: all "
+        "triples\nwords: different, not all three the same\nknown: at most 2 alike\nnote: "
+        "one\nnote: two # of them\n"
+    ),
+    (
+        "things: a b\nthings: Mary Ann, Bob\nvalues: 1\nvalues: 2 3\nthing own: p q\nonly a: 1 .. "
+        "2\nask: all, a - b\nwords: different\nwords: same, different # twice\nalways: same on a - "
+        "b, different on all\nplan: scopes\n"
+    ),
     "# all by itself\r\ntitle: Lines\r\nthings: a b\r\nvalues: 1 2\r\nask: all\r\nwords: same\r\n",
     'things: w "x" y z\nvalues: 1 2\nask: all\nwords: same\n',
 )
 FAULTY = (
     "title: a\ntitle: b\nthings: a b\nvalues: 1 2\nask: all\nwords: same\n",
-    "things: day Mon Tue x shift a b\nthings: c d\nvalues: 1\nno key\nkey: x\nthing: y\nask: alll\nwords:\nplan: \n",
+    (
+        "things: day Mon Tue x shift a b\nthings: c d\nvalues: 1\nno key\nkey: x\nthing: y\nask: "
+        "alll\nwords:\nplan: \n"
+    ),
     "",
     "\n\n# nothing\n",
     "hello",

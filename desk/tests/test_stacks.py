@@ -32,7 +32,10 @@ class Stacks(unittest.TestCase):
         asked = run.line()
         run.close()
         self.assertEqual((Program(self.path).call([]).text, asked), ("1024\n", "1024"))
-        self.assertEqual(called([self.path])[1].decode(), "unlimited\n" if own == resource.RLIM_INFINITY else f"{own // 1024}\n")
+        self.assertEqual(
+            called([self.path])[1].decode(),
+            "unlimited\n" if own == resource.RLIM_INFINITY else f"{own // 1024}\n",
+        )
 
 
 if __name__ == "__main__":

@@ -1,4 +1,5 @@
-"""The page in the browser, as far as it needs no browser: one answer for a sheet, tables, the way in."""
+"""The page in the browser, as far as it needs no browser: one answer for a sheet, tables, the way
+in."""
 
 from __future__ import annotations
 
@@ -14,20 +15,31 @@ from collections.abc import Callable
 from planners_desk.case import casefile
 from planners_desk.case.picture import CHANGED, LEFT_OUT
 
-ROSTER = "things: day Mon Tue x shift early late\nvalues: Ann Ben\nask: same day\nwords: different\n"
+ROSTER = (
+    "things: day Mon Tue x shift early late\nvalues: Ann Ben\nask: same day\nwords: different\n"
+)
 SEATS = "things: Ada Bo\nvalues: table left right x seat 1 2\nask: all\nwords: different\n"
-STORE = "things: acid lye water\nvalues: shelf1 shelf2\nonly water: shelf2\nask: all\nwords: different\n"
+STORE = (
+    "things: acid lye water\nvalues: shelf1 shelf2\nonly water: shelf2\nask: all\nwords: "
+    "different\n"
+)
 BICYCLE = "thing frame: steel alu\nthing rack: none light\nwords: frame=alu not with rack=light\n"
 
 
 class Tables(unittest.TestCase):
     """A plan in the case's own grid."""
 
-    def rows(self, text: str, values: dict[int, int], marks: dict[int, str] | None = None) -> list[tuple[str, list[list[tuple[str, str]]]]]:
+    def rows(
+        self, text: str, values: dict[int, int], marks: dict[int, str] | None = None
+    ) -> list[tuple[str, list[list[tuple[str, str]]]]]:
         """The rows of a table, and what stands in their cells."""
         from planners_desk.web.tables import table_of
+
         table = table_of(casefile.parse(text, "x.case"), values, marks)
-        return [(row.head, [[(entry.text, entry.kind) for entry in cell.entries] for cell in row.cells]) for row in table.rows]
+        return [
+            (row.head, [[(entry.text, entry.kind) for entry in cell.entries] for cell in row.cells])
+            for row in table.rows
+        ]
 
     def test_things(self) -> None:
         """A grid of things has the values, what has changed, and what is left out."""
@@ -51,7 +63,8 @@ class Tables(unittest.TestCase):
         )
 
     def test_by_thing(self) -> None:
-        """A list of things with values of their own is read by these, in a part those alone that have one."""
+        """A list of things with values of their own is read by these, in a part those alone that
+        have one."""
         case = casefile.parse(BICYCLE, "x.case")
         alu = case.values.index("alu")
         self.assertEqual(self.rows(BICYCLE, {0: alu}), [("frame", [[("alu", "asked")]])])
@@ -63,6 +76,7 @@ class Owners(unittest.TestCase):
     def owner(self, work: Callable[..., object]):  # type: ignore[no-untyped-def]
         """A sitting that has begun."""
         from planners_desk.web.sittings import Owner
+
         made = Owner(work).start()  # type: ignore[arg-type]
         self.addCleanup(made.close)
         return made
@@ -71,16 +85,20 @@ class Owners(unittest.TestCase):
         """The first step of a sheet counts, and the next one only with the next number."""
         from planners_desk.web.sheets import Stopped
         from planners_desk.web.sittings import Step
+
         taken = []
 
         def work(owner):  # type: ignore[no-untyped-def]
             while len(taken) < 2:
                 taken.append(owner.put(Stopped("wait")).do)
             return Stopped("last")
+
         owner = self.owner(work)
         first = owner.settled()
         self.assertTrue(first.waits)
-        threads = [threading.Thread(target=owner.take, args=(first.number, Step("y"))) for _ in range(9)]
+        threads = [
+            threading.Thread(target=owner.take, args=(first.number, Step("y"))) for _ in range(9)
+        ]
         for thread in threads:
             thread.start()
         for thread in threads:
@@ -97,6 +115,7 @@ class Owners(unittest.TestCase):
         """The step `end` breaks a search off, and none that comes later."""
         from planners_desk.web.sheets import Stopped
         from planners_desk.web.sittings import Ended, Step
+
         seen = []
 
         def work(owner):  # type: ignore[no-untyped-def]
@@ -110,6 +129,7 @@ class Owners(unittest.TestCase):
                     seen.append(f"{name} ended")
                 owner.put(Stopped(name))
             return Stopped("last")
+
         owner = self.owner(work)
         time.sleep(0.05)
         busy = owner.state()
@@ -129,10 +149,14 @@ class Owners(unittest.TestCase):
 
         def work(_owner):  # type: ignore[no-untyped-def]
             raise Fault("x.case:1: wrong", "x.case:2: wrong as well")
+
         owner = self.owner(work)
         while not (now := owner.settled()).over:
             pass
-        self.assertEqual((now.sheet.fault, now.sheet.lines), (True, ("x.case:1: wrong", "x.case:2: wrong as well")))
+        self.assertEqual(
+            (now.sheet.fault, now.sheet.lines),
+            (True, ("x.case:1: wrong", "x.case:2: wrong as well")),
+        )
 
 
 @unittest.skipIf(importlib.util.find_spec("flask") is None, "Flask isn't installed")
@@ -143,6 +167,7 @@ class WayIn(unittest.TestCase):
         """Each lets one browser in, and the file has the next one."""
         from planners_desk.web.entrance import Entrance
         from planners_desk.web.security import Secrets
+
         with tempfile.TemporaryDirectory() as folder:
             before, os.environ["XDG_RUNTIME_DIR"] = os.environ.get("XDG_RUNTIME_DIR"), folder
             try:

@@ -28,12 +28,24 @@ from typing import TypeVar
 from . import catalogue, counts, files, groups, letters, names
 from .model import MOST_VALUES, PLANS, Case, Fault, Group, Known, Part, Rule, Thing, Way, Word
 
-KEYS = ("title", "things", "values", "ask", "words", "always", "known", "note", "plan", "thing NAME", "only NAME")
-MOST_THINGS = 128       # of the program
+KEYS = (
+    "title",
+    "things",
+    "values",
+    "ask",
+    "words",
+    "always",
+    "known",
+    "note",
+    "plan",
+    "thing NAME",
+    "only NAME",
+)
+MOST_THINGS = 128  # of the program
 MOST_BYTES = 1_000_000
-MOST_TITLE = 200        # letters
-MOST_WORDS = 256        # more have no room: the program takes 64 rules for groups of each of four sizes
-MOST_FAULTS = 20        # that are told at once
+MOST_TITLE = 200  # letters
+MOST_WORDS = 256  # more have no room: the program takes 64 rules for groups of each of four sizes
+MOST_FAULTS = 20  # that are told at once
 Read = TypeVar("Read")
 Sized = TypeVar("Sized", bound=HasLength)
 
@@ -75,7 +87,7 @@ def read(path: str) -> Case:
     try:
         return parse(raw.decode("utf-8-sig"), path)
     except UnicodeDecodeError as error:
-        line = len(letters.lines_of(raw[:error.start].decode()))
+        line = len(letters.lines_of(raw[: error.start].decode()))
         raise Fault(f"{path}:{line}: this isn't UTF-8; save the file as UTF-8") from None
 
 
@@ -97,9 +109,10 @@ class _Reader:
         self.faults: list[Told] = []
 
     def case(self) -> Case:
-        """Reads all lines, the things first, since others name them; one fault that has all that can be told at once."""
+        """Reads all lines, the things first, since others name them; one fault that has all that
+        can be told at once."""
         self._cut()
-        self._tell()        # a key that isn't read may be any: what is missing isn't known then
+        self._tell()  # a key that isn't read may be any: what is missing isn't known then
         self._missing()
         title, plan = self._try(self._title), self._try(self._plan)
         if self._try(self._things):
@@ -112,19 +125,43 @@ class _Reader:
         asked = self._groups(words)
         always = self._always(setting)
         known: list[Known] = []
-        self._each("known", lambda piece: known.append(counts.known(setting, self.thing_parts, piece.text)))
+        self._each(
+            "known", lambda piece: known.append(counts.known(setting, self.thing_parts, piece.text))
+        )
         self._tell()
         title = title or letters.composed(re.sub(r"\.case$", "", os.path.basename(self.path)))
-        return Case(self.path, self.text, title, tuple(self.things), self.thing_parts,
-                    tuple(self.values), self.value_parts, tuple(asked), tuple(words), tuple(always), plan,
-                    tuple(known), tuple(line.text for line in self._of("note")))
+        return Case(
+            self.path,
+            self.text,
+            title,
+            tuple(self.things),
+            self.thing_parts,
+            tuple(self.values),
+            self.value_parts,
+            tuple(asked),
+            tuple(words),
+            tuple(always),
+            plan,
+            tuple(known),
+            tuple(line.text for line in self._of("note")),
+        )
 
     def _tell(self) -> None:
-        """One fault that has all that were found so far, by their lines; what is missing comes last."""
+        """One fault that has all that were found so far, by their lines; what is missing comes
+        last."""
         if self.faults:
             some = sorted(self.faults, key=lambda fault: fault.line or len(self.text))
-            raise Fault(*(f"{self.path}:{one.line}: {one.text}" if one.line else f"{self.path}: {one.text}" for one in some),
-                        ways=[one.way for one in some])
+            raise Fault(
+                *(
+                    (
+                        f"{self.path}:{one.line}: {one.text}"
+                        if one.line
+                        else f"{self.path}: {one.text}"
+                    )
+                    for one in some
+                ),
+                ways=[one.way for one in some],
+            )
 
     def _try(self, read: Callable[[], Read]) -> Read | None:
         """Reads something; its fault is kept, so that others can be told with it."""
@@ -158,7 +195,8 @@ class _Reader:
         key, name = words[0], " ".join(words[1:])
         with_name = key in ("thing", "only")
         if key not in [known.split()[0] for known in KEYS] or with_name != bool(name):
-            raise Fault(f"no such key: {head.strip()}{names.nearest(head.strip(), KEYS) or '; there are ' + ', '.join(KEYS)}")
+            there = names.nearest(head.strip(), KEYS) or f"; there are {', '.join(KEYS)}"
+            raise Fault(f"no such key: {head.strip()}{there}")
         self.lines.append(Line(number, key, name, rest.strip()))
 
     def _of(self, *keys: str) -> list[Line]:
@@ -197,17 +235,37 @@ class _Reader:
     def _missing(self) -> None:
         """Adds a fault for each key without which there is no case."""
         if not self._of("things", "thing"):
-            self.faults.append(Told(0, "there are no things: a line such as `things: maths english sport` is missing"))
+            self.faults.append(
+                Told(
+                    0,
+                    "there are no things: a line such as `things: maths english sport` is missing",
+                )
+            )
             if not self._of("values"):
-                self.faults.append(Told(0, "there are no values: a line such as `values: Ann Ben Cas` is missing"))
+                self.faults.append(
+                    Told(0, "there are no values: a line such as `values: Ann Ben Cas` is missing")
+                )
         if not self._of("words"):
-            self.faults.append(Told(0, "there are no words: a line such as `words: different, before` is missing", Way.WORDS))
+            self.faults.append(
+                Told(
+                    0,
+                    "there are no words: a line such as `words: different, before` is missing",
+                    Way.WORDS,
+                )
+            )
         if not self._of("ask") and not any("=" in line.text for line in self._of("words")):
-            self.faults.append(Told(0, "nothing is asked about: a line such as `ask: all` is missing"))
+            self.faults.append(
+                Told(0, "nothing is asked about: a line such as `ask: all` is missing")
+            )
 
     def _pieces(self, key: str) -> list[Piece]:
         """What stands between commas in all lines of a key."""
-        return [Piece(line, part.strip()) for line in self._of(key) for part in line.text.split(",") if part.strip()]
+        return [
+            Piece(line, part.strip())
+            for line in self._of(key)
+            for part in line.text.split(",")
+            if part.strip()
+        ]
 
     # ---- things and values
 
@@ -220,7 +278,12 @@ class _Reader:
                 self._values(line)
             elif line.key == "thing":
                 self._no_grid()
-                own.append((names.checked(line.name), self._unique(self._few(self._listed(line), MOST_VALUES, "values"), "value")))
+                own.append(
+                    (
+                        names.checked(line.name),
+                        self._unique(self._few(self._listed(line), MOST_VALUES, "values"), "value"),
+                    )
+                )
             else:
                 self._listed_things(line, own)
             self._few(own, MOST_THINGS, "things")
@@ -238,7 +301,10 @@ class _Reader:
 
     def _too_many(self, count: int, most: int, what: str) -> str:
         """That there are too many things or values."""
-        return f"there are {count} {what}, and the program takes {most}: leave some out, or split the case"
+        return (
+            f"there are {count} {what}, and the program takes {most}: leave some out, or split the "
+            "case"
+        )
 
     def _listed_things(self, line: Line, own: list[tuple[str, list[str]]]) -> None:
         """A `things` line: a list, or the one grid."""
@@ -258,7 +324,8 @@ class _Reader:
             raise Fault("a grid of things stands alone: its line is above")
 
     def _listed(self, line: Line) -> list[str]:
-        """The names of a list; a fault where the first is likely meant as a heading of the others."""
+        """The names of a list; a fault where the first is likely meant as a heading of the
+        others."""
         heading = names.heading(line.text)
         if heading is not None:
             raise Fault(f"is `{heading.name}` a heading, or one of the names? {heading.way_out()}")
@@ -280,12 +347,20 @@ class _Reader:
             raise Fault("things with values of their own don't go with a grid of values")
         for name, labels in own:
             if not labels and not shared:
-                raise Fault(f"`{name}` has no values: a line such as `values: Ann Ben Cas` is missing")
+                raise Fault(
+                    f"`{name}` has no values: a line such as `values: Ann Ben Cas` is missing"
+                )
             self.values += [label for label in labels if label not in self.values]
         self._few(self.values, MOST_VALUES, "values in all")
-        cells = list(itertools.product(*(range(len(part.members)) for part in self.thing_parts))) if self.thing_parts else []
+        cells = (
+            list(itertools.product(*(range(len(part.members)) for part in self.thing_parts)))
+            if self.thing_parts
+            else []
+        )
         for place, (name, labels) in enumerate(own):
-            allowed = sorted(self.values.index(label) for label in labels) if labels else range(shared)
+            allowed = (
+                sorted(self.values.index(label) for label in labels) if labels else range(shared)
+            )
             self.things.append(Thing(place, name, cells[place] if cells else (), tuple(allowed)))
 
     def _unique(self, some: list[str], what: str) -> list[str]:
@@ -302,20 +377,29 @@ class _Reader:
             raise Fault(told.format(name))
 
     def _grid(self, line: Line, most: int, what: str) -> tuple[Part, ...]:
-        """`day Mon .. Sun x shift early late` as its parts; none where it is a list. The cells are counted before there are any."""
+        """`day Mon .. Sun x shift early late` as its parts; none where it is a list. The cells are
+        counted before there are any."""
         listed = []
         for name, members in names.sides(line.text):
             if not members:
-                raise Fault(f"a side of a grid is its name and its members, as `day Mon Tue`; `{name}` has no members")
+                raise Fault(
+                    f"a side of a grid is its name and its members, as `day Mon Tue`; `{name}` has "
+                    "no members"
+                )
             listed.append((names.checked(name), names.listed(members)))
         if not listed:
             return ()
         cells = math.prod(len(members) for _, members in listed)
         if cells > most:
             raise Fault(self._too_many(cells, most, what))
-        parts = tuple(Part(name, tuple(self._unique(members, "member"))) for name, members in listed)
+        parts = tuple(
+            Part(name, tuple(self._unique(members, "member"))) for name, members in listed
+        )
         self._unique([part.name for part in parts], "side")
-        self._once((member for part in parts for member in part.members), "`{}` stands in two sides of the grid")
+        self._once(
+            (member for part in parts for member in part.members),
+            "`{}` stands in two sides of the grid",
+        )
         return parts
 
     def _cells(self, parts: tuple[Part, ...]) -> list[str]:
@@ -325,7 +409,8 @@ class _Reader:
     # ---- what the other lines say of them
 
     def _only(self) -> None:
-        """`only NAME: values`: NAME is a thing or a member of a side, and the values may have `..` between them."""
+        """`only NAME: values`: NAME is a thing or a member of a side, and the values may have `..`
+        between them."""
         for line in self._of("only"):
             self._at(line)
             allowed = self._allowed(line.text)
@@ -343,7 +428,9 @@ class _Reader:
             if not found and name in part.members:
                 found = [thing for thing in self.things if thing.at[k] == part.members.index(name)]
         if not found:
-            every = [thing.name for thing in self.things] + [member for part in self.thing_parts for member in part.members]
+            every = [thing.name for thing in self.things] + [
+                member for part in self.thing_parts for member in part.members
+            ]
             raise Fault(f"no such thing: {name}{names.nearest(name, every)}")
         return found
 
@@ -353,16 +440,24 @@ class _Reader:
         known = self.values + [member for part in self.value_parts for member in part.members]
         pieces = text.split("..")
         if len(pieces) > MOST_VALUES:
-            raise Fault(f"`..` stands {len(pieces) - 1} times here, and there are {len(self.values)} values")
+            raise Fault(
+                f"`..` stands {len(pieces) - 1} times here, and there are {len(self.values)} values"
+            )
         sides = [names.told_apart(piece, known, "value") for piece in pieces]
         if not all(sides):
-            raise Fault("`..` stands between two values" if len(sides) > 1 else "a value at least has to be named")
+            raise Fault(
+                "`..` stands between two values"
+                if len(sides) > 1
+                else "a value at least has to be named"
+            )
         allowed = set().union(*(setting.value_set(name) or () for side in sides for name in side))
         for before, behind in itertools.pairwise(sides):
-            low, high = min(setting.value_set(before[-1]) or ()), max(setting.value_set(behind[0]) or ())
+            low, high = min(setting.value_set(before[-1]) or ()), max(
+                setting.value_set(behind[0]) or ()
+            )
             if low > high:
                 raise Fault(f"`{before[-1]} .. {behind[0]}` goes backwards")
-            allowed.update(range(low, high))       # both ends are named
+            allowed.update(range(low, high))  # both ends are named
         return allowed
 
     def _few_words(self) -> None:
@@ -374,9 +469,11 @@ class _Reader:
     def _words(self, setting: catalogue.Setting) -> list[Word]:
         """The words, each once."""
         found: dict[str, Word] = {}
+
         def one(piece: Piece) -> None:
             word = catalogue.word(setting, piece.text)
             found[word.text] = word
+
         self._each("words", one)
         return list(found.values())
 
@@ -388,24 +485,30 @@ class _Reader:
     def _groups(self, words: list[Word]) -> list[Group]:
         """What is asked about: the `ask` lines, and the pairs of words that name their things."""
         found: dict[tuple[int, ...], Group] = {}
+
         def one(piece: Piece) -> None:
             for things in groups.meant(self.things, self.thing_parts, piece.text):
                 key = tuple(sorted(things))
                 found.setdefault(key, Group(key, piece.text))
+
         self._each("ask", one)
         for word in words:
             if word.things:
                 key = tuple(sorted(word.things))
-                found.setdefault(key, Group(key, " - ".join(self.things[thing].name for thing in key)))
+                found.setdefault(
+                    key, Group(key, " - ".join(self.things[thing].name for thing in key))
+                )
         return list(found.values())
 
     def _always(self, setting: catalogue.Setting) -> list[Rule]:
         """The rules that are said beforehand: `WORD on PHRASE`, or a word that names its things."""
         found: dict[tuple[str, tuple[int, ...]], Rule] = {}
+
         def one(piece: Piece) -> None:
             for word, things in self._said(setting, piece.text):
                 text = word.said_of(tuple(self.things[thing].name for thing in things))
                 found.setdefault((word.text, things), Rule(word, things, text))
+
         self._each("always", one)
         return list(found.values())
 
@@ -418,11 +521,18 @@ class _Reader:
         if word.things:
             raise Fault(f"`{word.text}` names its things: leave `on {phrase}` out")
         if not on:
-            raise Fault(f"of which things? Write `{text} on same day`, `{text} on all`, or name them, as `{text} on "
-                        + " - ".join(thing.name for thing in self.things[:word.arity]) + "`")
+            raise Fault(
+                f"of which things? Write `{text} on same day`, `{text} on all`, or name them, as "
+                f"`{text} on "
+                + " - ".join(thing.name for thing in self.things[: word.arity])
+                + "`"
+            )
         found = []
         for things in groups.meant(self.things, self.thing_parts, phrase):
             if len(things) < word.arity:
-                raise Fault(f"`{word.text}` is about {word.arity} things, and `{phrase}` puts {len(things)} together")
+                raise Fault(
+                    f"`{word.text}` is about {word.arity} things, and `{phrase}` puts "
+                    f"{len(things)} together"
+                )
             found += [(word, some) for some in itertools.combinations(things, word.arity)]
         return found

@@ -10,11 +10,12 @@ from . import names, synonyms
 from .model import Fault, Part, Thing
 
 SIZES = {"pairs": 2, "triples": 3, "fours": 4}
-MOST_GROUPS = 8192      # of the program
+MOST_GROUPS = 8192  # of the program
 
 
 def meant(things: Sequence[Thing], parts: Sequence[Part], phrase: str) -> list[tuple[int, ...]]:
-    """The groups of a phrase, each in the order in which the phrase names its things; a fault where it means nothing."""
+    """The groups of a phrase, each in the order in which the phrase names its things; a fault where
+    it means nothing."""
     phrase = " ".join(phrase.split())
     found = _read(things, parts, phrase)
     if found is None:
@@ -24,7 +25,9 @@ def meant(things: Sequence[Thing], parts: Sequence[Part], phrase: str) -> list[t
     return found
 
 
-def _read(things: Sequence[Thing], parts: Sequence[Part], phrase: str) -> list[tuple[int, ...]] | None:
+def _read(
+    things: Sequence[Thing], parts: Sequence[Part], phrase: str
+) -> list[tuple[int, ...]] | None:
     """The groups of a phrase; None where it isn't one."""
     for reading in (_all, _same, _next, _row, _to, _named):
         found = reading(things, parts, phrase)
@@ -43,18 +46,36 @@ def _known(things: Sequence[Thing], parts: Sequence[Part], phrase: str) -> bool:
 
 def _near(things: Sequence[Thing], parts: Sequence[Part], phrase: str) -> str:
     """The form that is meant, else the nearest one by letters."""
-    meant_form = synonyms.meant(phrase, (*synonyms.OF_PHRASES, *((rf"{part.name}s?", f"same {part.name}") for part in parts)),
-                                lambda form: _known(things, parts, form))
+    meant_form = synonyms.meant(
+        phrase,
+        (*synonyms.OF_PHRASES, *((rf"{part.name}s?", f"same {part.name}") for part in parts)),
+        lambda form: _known(things, parts, form),
+    )
     if meant_form:
         return synonyms.hint(meant_form)
     forms = ["all", "all pairs", "all triples", "all fours", "each"]
     for part in parts:
-        forms += [f"same {part.name}", f"same {part.name} triples", f"next {part.name}", f"3 {part.name} in a row"]
+        forms += [
+            f"same {part.name}",
+            f"same {part.name} triples",
+            f"next {part.name}",
+            f"3 {part.name} in a row",
+        ]
         others = [member for other in parts if other is not part for member in other.members][:12]
-        forms += [f"{a} to {side} {part.name} {b}" for side in ("next", "same") for a in others for b in others]
+        forms += [
+            f"{a} to {side} {part.name} {b}"
+            for side in ("next", "same")
+            for a in others
+            for b in others
+        ]
     forms += [thing.name for thing in things]
-    return names.nearest(phrase, forms) or f"; there are `all`, `each`, `{things[0].name} - {things[-1].name}`" + (
-        f", `same {parts[0].name}`, `next {parts[0].name}`, `3 {parts[0].name} in a row`" if parts else "")
+    return names.nearest(
+        phrase, forms
+    ) or f"; there are `all`, `each`, `{things[0].name} - {things[-1].name}`" + (
+        f", `same {parts[0].name}`, `next {parts[0].name}`, `3 {parts[0].name} in a row`"
+        if parts
+        else ""
+    )
 
 
 def _subsets(places: Iterable[int], size: int) -> list[tuple[int, ...]]:
@@ -65,7 +86,9 @@ def _subsets(places: Iterable[int], size: int) -> list[tuple[int, ...]]:
     return found
 
 
-def _all(things: Sequence[Thing], parts: Sequence[Part], phrase: str) -> list[tuple[int, ...]] | None:
+def _all(
+    things: Sequence[Thing], parts: Sequence[Part], phrase: str
+) -> list[tuple[int, ...]] | None:
     """all, all pairs, all triples, all fours, each, each MEMBER."""
     if phrase == "each":
         return [(thing.place,) for thing in things]
@@ -88,10 +111,15 @@ def _part(parts: Sequence[Part], name: str) -> int | None:
 
 def _member(parts: Sequence[Part], name: str) -> tuple[int, int] | None:
     """The part that has this member, and the member's place in it."""
-    return next(((k, part.members.index(name)) for k, part in enumerate(parts) if name in part.members), None)
+    return next(
+        ((k, part.members.index(name)) for k, part in enumerate(parts) if name in part.members),
+        None,
+    )
 
 
-def _same(things: Sequence[Thing], parts: Sequence[Part], phrase: str) -> list[tuple[int, ...]] | None:
+def _same(
+    things: Sequence[Thing], parts: Sequence[Part], phrase: str
+) -> list[tuple[int, ...]] | None:
     """same PART .., with pairs, triples or fours behind it."""
     m = re.fullmatch(r"same (.+?)(?: (pairs|triples|fours))?", phrase)
     if m is None:
@@ -107,8 +135,11 @@ def _same(things: Sequence[Thing], parts: Sequence[Part], phrase: str) -> list[t
     return [group for row in rows.values() for group in _subsets(row, size)]
 
 
-def _steps(things: Sequence[Thing], part: int, step: int, first: dict[int, int], second: dict[int, int]) -> list[tuple[int, int]]:
-    """Pairs of which the second stands so many steps further in a part; what isn't said to be otherwise is the same in both."""
+def _steps(
+    things: Sequence[Thing], part: int, step: int, first: dict[int, int], second: dict[int, int]
+) -> list[tuple[int, int]]:
+    """Pairs of which the second stands so many steps further in a part; what isn't said to be
+    otherwise is the same in both."""
     at = {thing.at: thing.place for thing in things}
     found = []
     for thing in things:
@@ -124,14 +155,18 @@ def _steps(things: Sequence[Thing], part: int, step: int, first: dict[int, int],
     return found
 
 
-def _next(things: Sequence[Thing], parts: Sequence[Part], phrase: str) -> list[tuple[int, ...]] | None:
+def _next(
+    things: Sequence[Thing], parts: Sequence[Part], phrase: str
+) -> list[tuple[int, ...]] | None:
     """next PART: neighbours in a part, with all else the same."""
     m = re.fullmatch(r"next (.+)", phrase)
     part = _part(parts, m[1]) if m else None
     return None if part is None else list(_steps(things, part, 1, {}, {}))
 
 
-def _row(things: Sequence[Thing], parts: Sequence[Part], phrase: str) -> list[tuple[int, ...]] | None:
+def _row(
+    things: Sequence[Thing], parts: Sequence[Part], phrase: str
+) -> list[tuple[int, ...]] | None:
     """K PART in a row: so many neighbours in a part, with all else the same."""
     m = re.fullmatch(r"([234]) (.+) in a row", phrase)
     part = _part(parts, m[2]) if m else None
@@ -139,11 +174,19 @@ def _row(things: Sequence[Thing], parts: Sequence[Part], phrase: str) -> list[tu
         return None
     at = {thing.at: thing.place for thing in things}
     along = range(int(m[1]))
-    rows = [[at.get(thing.at[:part] + (thing.at[part] + step,) + thing.at[part + 1:]) for step in along] for thing in things]
+    rows = [
+        [
+            at.get(thing.at[:part] + (thing.at[part] + step,) + thing.at[part + 1 :])
+            for step in along
+        ]
+        for thing in things
+    ]
     return [tuple(place for place in row if place is not None) for row in rows if None not in row]
 
 
-def _to(things: Sequence[Thing], parts: Sequence[Part], phrase: str) -> list[tuple[int, ...]] | None:
+def _to(
+    things: Sequence[Thing], parts: Sequence[Part], phrase: str
+) -> list[tuple[int, ...]] | None:
     """X to next PART Y, X to same PART Y: X and Y are members of other parts; Y may be left out."""
     m = re.fullmatch(r"(.+) to (next|same) (.+)", phrase)
     if m is None:
@@ -170,17 +213,25 @@ def _members(parts: Sequence[Part], text: str, but: int) -> dict[int, int] | Non
         return None
     found: dict[int, int] = {}
     for name in named:
-        k, place = next((k, part.members.index(name)) for k, part in enumerate(parts) if k != but and name in part.members)
+        k, place = next(
+            (k, part.members.index(name))
+            for k, part in enumerate(parts)
+            if k != but and name in part.members
+        )
         found[k] = place
     return found
 
 
-def _named(things: Sequence[Thing], parts: Sequence[Part], phrase: str) -> list[tuple[int, ...]] | None:
+def _named(
+    things: Sequence[Thing], parts: Sequence[Part], phrase: str
+) -> list[tuple[int, ...]] | None:
     """A - B, A-B-C: things by their names; a name alone is a group of one."""
     place = {thing.name: thing.place for thing in things}
     if phrase in place:
         return [(place[phrase],)]
-    split: Callable[[str], list[str]] = (lambda text: text.split(" - ")) if " - " in phrase else (lambda text: text.split("-"))
+    split: Callable[[str], list[str]] = (
+        (lambda text: text.split(" - ")) if " - " in phrase else (lambda text: text.split("-"))
+    )
     pieces = [piece.strip() for piece in split(phrase)]
     if len(pieces) < 2:
         return None

@@ -1,8 +1,8 @@
 """What the parts of desk hand to each other.
 
-A thing and a value are known by their places: thing 3 is `case.things[3]`, value 2 is `case.values[2]`. All things share the
-one list of values; which of them a thing may take is in `Thing.allowed`. Numbers and names for the program `acquire` exist in
-`vocabulary.py` alone.
+A thing and a value are known by their places: thing 3 is `case.things[3]`, value 2 is
+`case.values[2]`. All things share the one list of values; which of them a thing may take is in
+`Thing.allowed`. Numbers and names for the program `acquire` exist in `vocabulary.py` alone.
 """
 
 from __future__ import annotations
@@ -14,7 +14,7 @@ from enum import Enum
 from . import letters
 
 PLANS = ("scopes", "quacq", "multi")
-MOST_VALUES = 64        # of the program: values, and combined relations of an arity
+MOST_VALUES = 64  # of the program: values, and combined relations of an arity
 MOST_RELATIONS = 64
 
 # which value each thing has: the place of a thing, and the place of its value
@@ -30,13 +30,15 @@ class Way(Enum):
 
 
 class Fault(Exception):
-    """What the person has to mend; each text is one thing, for them, and begins with file and line where there are some.
+    """What the person has to mend; each text is one thing, for them, and begins with file and line
+    where there are some.
 
     Each is a line that may be printed, whatever stands in the file that it is about.
     """
 
     def __init__(self, *texts: str, ways: Sequence[Way | None] = (), path: str = "") -> None:
-        """Takes the texts, with what can be done about each where there is something, and the path of the case for that."""
+        """Takes the texts, with what can be done about each where there is something, and the path
+        of the case for that."""
         self.texts = tuple(letters.shown("; ".join(text.split("\n"))) for text in texts)
         self.ways = tuple(ways) or (None,) * len(texts)
         self.path = path
@@ -57,8 +59,10 @@ class Thing:
 
     place: int
     name: str
-    at: tuple[int, ...]         # for each part of the grid of things the place of its member; () where things are a list
-    allowed: tuple[int, ...]    # the values that it may take, in the order of `case.values`
+    at: tuple[
+        int, ...
+    ]  # for each part of the grid of things the place of its member; () where things are a list
+    allowed: tuple[int, ...]  # the values that it may take, in the order of `case.values`
 
 
 @dataclass(frozen=True)
@@ -66,21 +70,24 @@ class Group:
     """Things that are asked about together, at most four, in the order of `case.things`."""
 
     things: tuple[int, ...]
-    phrase: str                 # of the `ask` line, as `same day`
+    phrase: str  # of the `ask` line, as `same day`
 
 
 @dataclass(frozen=True)
 class Word:
-    """A rule that may hold of some things, without the things: `different`, `never Ann`, `all three different`."""
+    """A rule that may hold of some things, without the things: `different`, `never Ann`, `all three
+    different`."""
 
-    text: str                               # as the case has it
-    arity: int                              # of how many things it speaks, 1 to 4
-    holds: Callable[..., bool] = field(compare=False)   # its meaning, of as many values
-    sentence: str                           # with {0}, {1} .. for names of things, and a verb for one or two of them
-    example: tuple[int, ...]                # values that break it; () where no values of the case do
-    things: tuple[int, ...] = ()            # the only things that it speaks of, in its order; () where of all groups
-    shown: str = ""                         # the pattern form, with no thing in it: `differ`, `is never Ann`
-    whole: str = ""                         # the sentence about all of some things, {0} for their names, where each group keeps it
+    text: str  # as the case has it
+    arity: int  # of how many things it speaks, 1 to 4
+    holds: Callable[..., bool] = field(compare=False)  # its meaning, of as many values
+    sentence: str  # with {0}, {1} .. for names of things, and a verb for one or two of them
+    example: tuple[int, ...]  # values that break it; () where no values of the case do
+    # the only things that it speaks of, in its order; () where of all groups
+    things: tuple[int, ...] = ()
+    shown: str = ""  # the pattern form, with no thing in it: `differ`, `is never Ann`
+    # the sentence about all of some things, {0} for their names, where each group keeps it
+    whole: str = ""
 
     def said_of(self, names: tuple[str, ...]) -> str:
         """The sentence about these things."""
@@ -93,7 +100,7 @@ class Rule:
 
     word: Word
     things: tuple[int, ...]
-    text: str                   # the whole sentence, with the things' names
+    text: str  # the whole sentence, with the things' names
 
     def violated(self, values: Values) -> bool:
         """Whether all its things have a value, and these break it."""
@@ -117,14 +124,19 @@ class Count:
         """Whether all its things have a value, and these are too many or too few."""
         if any(thing not in values for thing in self.things):
             return False
-        return not self.least <= sum(values[thing] in self.values for thing in self.things) <= self.most
+        return (
+            not self.least
+            <= sum(values[thing] in self.values for thing in self.things)
+            <= self.most
+        )
 
 
 @dataclass(frozen=True)
 class Known:
-    """What the person knows and isn't asked about: sample plans keep it, and it is never learned."""
+    """What the person knows and isn't asked about: sample plans keep it, and it is never
+    learned."""
 
-    text: str                   # of the `known` line
+    text: str  # of the `known` line
     rules: tuple[Rule, ...] = ()
     counts: tuple[Count, ...] = ()
 
@@ -142,15 +154,15 @@ class Case:
     text: str
     title: str
     things: tuple[Thing, ...]
-    thing_parts: tuple[Part, ...]       # of a grid of things; () where they are a list
+    thing_parts: tuple[Part, ...]  # of a grid of things; () where they are a list
     values: tuple[str, ...]
-    value_parts: tuple[Part, ...]       # of a grid of values; () where they are a list
-    groups: tuple[Group, ...]           # none twice; one may lie within another
+    value_parts: tuple[Part, ...]  # of a grid of values; () where they are a list
+    groups: tuple[Group, ...]  # none twice; one may lie within another
     words: tuple[Word, ...]
     always: tuple[Rule, ...]
-    plan: str | None                    # of the `plan` line
-    known: tuple[Known, ...] = ()       # kept by sample plans, never learned
-    notes: tuple[str, ...] = ()         # for people alone
+    plan: str | None  # of the `plan` line
+    known: tuple[Known, ...] = ()  # kept by sample plans, never learned
+    notes: tuple[str, ...] = ()  # for people alone
 
     def value_at(self, value: int) -> tuple[int, ...]:
         """For each part of the grid of values, the place of the member that this value has."""
@@ -169,7 +181,7 @@ class Case:
 class Question:
     """`acquire` wants to know whether these values are acceptable, as far as they go."""
 
-    number: int                 # from 1, as the program numbers it
+    number: int  # from 1, as the program numbers it
     values: Values
 
     def part_of(self, other: Question | None) -> bool:
@@ -182,8 +194,8 @@ class Said:
     """An answer that follows from what the person has said, so that the question needn't be put."""
 
     yes: bool
-    by: str                     # `always`, `carried` (from an earlier session) or `again` (from before a step back)
-    why: str                    # for people: which rule, or which answer
+    by: str  # `always`, `carried` (from an earlier session) or `again` (from before a step back)
+    why: str  # for people: which rule, or which answer
 
 
 @dataclass(frozen=True)
@@ -192,25 +204,25 @@ class Answer:
 
     question: Question
     yes: bool
-    said: Said | None           # None where the person answered it
+    said: Said | None  # None where the person answered it
 
 
 @dataclass(frozen=True)
 class Constraint:
     """A learned constraint, as a line of the program says it."""
 
-    line: str                   # `differ&apart ann ben`
-    scope: tuple[int, ...]      # things, rising
-    names: tuple[str, ...]      # the program's names of the relations
+    line: str  # `differ&apart ann ben`
+    scope: tuple[int, ...]  # things, rising
+    names: tuple[str, ...]  # the program's names of the relations
 
 
 @dataclass(frozen=True)
 class Ending:
     """How a run of the program ended."""
 
-    word: str                   # `converged`, `collapsed`, `undecided`, `suspended`, `refused`, `failed`
-    answers: int                # how many stand
+    word: str  # `converged`, `collapsed`, `undecided`, `suspended`, `refused`, `failed`
+    answers: int  # how many stand
     learned: tuple[Constraint, ...] = ()
     open: tuple[Constraint, ...] = ()
-    status: int = 0             # the program's exit status, negative after a signal
-    text: str = ""              # what was printed last, for `refused` and `failed`
+    status: int = 0  # the program's exit status, negative after a signal
+    text: str = ""  # what was printed last, for `refused` and `failed`

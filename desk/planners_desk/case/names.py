@@ -1,4 +1,5 @@
-"""Names as people write them: lists of them, ranges such as `Mon .. Sun`, and the nearest one to a slip of the pen."""
+"""Names as people write them: lists of them, ranges such as `Mon .. Sun`, and the nearest one to a
+slip of the pen."""
 
 from __future__ import annotations
 
@@ -10,7 +11,8 @@ from dataclasses import dataclass
 
 from .model import Fault
 
-# what `..` counts through, beside whole numbers, also behind a name as in `Y1 .. Y4`, and single letters
+# what `..` counts through, beside whole numbers, also behind a name as in `Y1 .. Y4`, and single
+# letters
 SEQUENCES = (
     "Mon Tue Wed Thu Fri Sat Sun",
     "Monday Tuesday Wednesday Thursday Friday Saturday Sunday",
@@ -19,15 +21,17 @@ SEQUENCES = (
     "Mo Di Mi Do Fr Sa So",
     "Montag Dienstag Mittwoch Donnerstag Freitag Samstag Sonntag",
 )
-MOST_FILLED = 200       # names; a case has at most 128 things and 64 values
-GERMAN = str.maketrans({"ä": "ae", "ö": "oe", "ü": "ue", "Ä": "Ae", "Ö": "Oe", "Ü": "Ue", "ß": "ss"})
+MOST_FILLED = 200  # names; a case has at most 128 things and 64 values
+GERMAN = str.maketrans(
+    {"ä": "ae", "ö": "oe", "ü": "ue", "Ä": "Ae", "Ö": "Oe", "Ü": "Ue", "ß": "ss"}
+)
 
 
 def nearest(text: str, among: Iterable[str]) -> str:
     """`; the nearest is `Mon early``, or nothing where none is near."""
     among = list(dict.fromkeys(among))
     found = difflib.get_close_matches(text, among, 1, 0.5)
-    if not found:       # letters in another case are near however short the word is
+    if not found:  # letters in another case are near however short the word is
         found = [one for one in among if one.casefold() == text.casefold()][:1]
     return f"; the nearest is `{found[0]}`" if found else ""
 
@@ -61,11 +65,15 @@ def unique(names: Iterable[str]) -> list[str]:
 
 
 def listed(text: str) -> list[str]:
-    """The names of a list: between commas where there are some, else between blanks; `..` is filled in."""
+    """The names of a list: between commas where there are some, else between blanks; `..` is filled
+    in."""
     if "," in text:
         pieces = [piece.strip().strip('"').strip() for piece in text.split(",")]
         return [name for piece in pieces if piece for name in filled(piece)]
-    tokens = [quoted if quoted else bare for quoted, bare in re.findall(r'"([^"]*)"|([^\s"]+)', text.replace("..", " .. "))]
+    tokens = [
+        quoted if quoted else bare
+        for quoted, bare in re.findall(r'"([^"]*)"|([^\s"]+)', text.replace("..", " .. "))
+    ]
     names: list[str] = []
     at = 0
     while at < len(tokens):
@@ -81,8 +89,8 @@ def listed(text: str) -> list[str]:
 
 
 def sides(text: str) -> list[tuple[str, str]]:
-    """The sides of a grid, as `day Mon .. Sun x shift early late`: the name of each and its members,
-    which may be missing. None where the text is a list."""
+    """The sides of a grid, as `day Mon .. Sun x shift early late`: the name of each and its
+    members, which may be missing. None where the text is a list."""
     parts = [part.strip() for part in re.split(r"(?<!\s)\s+x\s+", text)]
     if len(parts) < 2 or any(part.endswith(",") or part.startswith(",") for part in parts):
         return []
@@ -95,21 +103,25 @@ class Heading:
     """A name in front of a range or of numbers, which reads like a heading of them."""
 
     name: str
-    members: tuple[str, ...]        # `1`, `..` and `6`, or each number
+    members: tuple[str, ...]  # `1`, `..` and `6`, or each number
 
     def way_out(self) -> str:
         """How to write what was meant, whichever it was."""
         ranged = ".." in self.members
-        listed = ", ".join([self.name, " ".join(self.members)] if ranged else [self.name, *self.members])
+        listed = ", ".join(
+            [self.name, " ".join(self.members)] if ranged else [self.name, *self.members]
+        )
         if all(re.fullmatch(r"\d+|\.\.", member) for member in self.members):
-            meant = f"Write `{' '.join(member if member == '..' else self.name + member for member in self.members)}`"
+            named = (one if one == ".." else self.name + one for one in self.members)
+            meant = f"Write `{' '.join(named)}`"
         else:
             meant = f"Leave it out, `{' '.join(self.members)}`"
         return f"{meant}; or, if it is one of the names, put commas: `{listed}`"
 
 
 def heading(text: str) -> Heading | None:
-    """The name that may be meant as a heading in a list: the first one, before nothing but one range or numbers."""
+    """The name that may be meant as a heading in a list: the first one, before nothing but one
+    range or numbers."""
     if "," in text or '"' in text:
         return None
     first, *others = text.replace("..", " .. ").split() or [""]
@@ -121,10 +133,15 @@ def heading(text: str) -> Heading | None:
 
 
 def _of_a_kind(one: str, other: str) -> bool:
-    """Whether two names may stand in one range: days, months, single letters, or a name with numbers behind it."""
+    """Whether two names may stand in one range: days, months, single letters, or a name with
+    numbers behind it."""
     bare = [re.sub(r"\d+$", "", name) for name in (one, other)]
-    return (any({one, other} <= set(sequence.split()) for sequence in SEQUENCES) or len(one) == len(other) == 1 and other.isalpha()
-            or bare[0] == bare[1] != other)
+    return (
+        any({one, other} <= set(sequence.split()) for sequence in SEQUENCES)
+        or len(one) == len(other) == 1
+        and other.isalpha()
+        or bare[0] == bare[1] != other
+    )
 
 
 def filled(piece: str) -> list[str]:
@@ -148,7 +165,7 @@ def between(first: str, last: str) -> list[str]:
     for sequence in SEQUENCES:
         row = sequence.split()
         if first in row and last in row and row.index(first) <= row.index(last):
-            return row[row.index(first):row.index(last) + 1]
+            return row[row.index(first) : row.index(last) + 1]
     one, other = (re.fullmatch(r"(.*?)(\d{1,6})", end) for end in (first, last))
     if one and other and one[1] == other[1] and int(one[2]) <= int(other[2]):
         numbers = range(int(one[2]), int(other[2]) + 1)
@@ -158,30 +175,40 @@ def between(first: str, last: str) -> list[str]:
         letters = [chr(code) for code in few(range(ord(first), ord(last) + 1), first, last)]
         if all(letter.isalpha() and letter.isupper() == first.isupper() for letter in letters):
             return letters
-    raise Fault(f"`{first} .. {last}` can't be filled in: write the names out, or count days, months, numbers or letters upwards")
+    raise Fault(
+        f"`{first} .. {last}` can't be filled in: write the names out, or count days, months, "
+        "numbers or letters upwards"
+    )
 
 
 def few(numbers: range, first: str, last: str) -> range:
-    """The numbers that stand for a range of names; a fault where they are more than any case has names."""
+    """The numbers that stand for a range of names; a fault where they are more than any case has
+    names."""
     if len(numbers) > MOST_FILLED:
-        raise Fault(f"`{first} .. {last}` are {len(numbers)} names, and `..` fills in {MOST_FILLED} at most: a case has fewer")
+        raise Fault(
+            f"`{first} .. {last}` are {len(numbers)} names, and `..` fills in {MOST_FILLED} at "
+            "most: a case has fewer"
+        )
     return numbers
 
 
 def told_apart(text: str, known: Sequence[str], what: str) -> list[str]:
-    """Known names, which may have blanks, that stand one behind the other; the longest fits first."""
+    """Known names, which may have blanks, that stand one behind the other; the longest fits
+    first."""
     tokens = text.replace(",", " ").replace('"', " ").split()
     longest = max((len(name.split()) for name in known), default=1)
     among = {" ".join(name.split()): name for name in known}
     found, at = [], 0
     while at < len(tokens):
         for length in range(min(longest, len(tokens) - at), 0, -1):
-            name = " ".join(tokens[at:at + length])
+            name = " ".join(tokens[at : at + length])
             if name in among:
                 found.append(among[name])
                 at += length
                 break
         else:
-            rest = " ".join(tokens[at:at + longest])
-            raise Fault(f"no such {what}: {rest}{nearest(rest, known) or nearest(tokens[at], known) or '; there are ' + choices(list(known))}")
+            rest = " ".join(tokens[at : at + longest])
+            near = nearest(rest, known) or nearest(tokens[at], known)
+            there = near or f"; there are {choices(list(known))}"
+            raise Fault(f"no such {what}: {rest}{there}")
     return found

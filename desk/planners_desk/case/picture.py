@@ -1,7 +1,8 @@
-"""A plan, or a part of one, as it is to be looked at: its cells in the case's grid, and how they are marked.
+"""A plan, or a part of one, as it is to be looked at: its cells in the case's grid, and how they
+are marked.
 
-Marks are letters as well as colours, since a terminal may have none. How it is drawn on a terminal is in `drawing.py`, on a page
-in `page.py`.
+Marks are letters as well as colours, since a terminal may have none. How it is drawn on a terminal
+is in `drawing.py`, on a page in `page.py`.
 """
 
 from __future__ import annotations
@@ -12,14 +13,14 @@ from dataclasses import dataclass, field
 
 from .model import Case, Values
 
-CHANGED = "changed"         # since the last question
-CLASH = "clash"             # one of the cells that break a rule
-LEFT_OUT = "left out"       # filled in at the last question, and empty now
-KEPT = "kept"               # one of the cells that a rule is about, and that keep it
-CHOSEN = "chosen"           # pointed at by the person
+CHANGED = "changed"  # since the last question
+CLASH = "clash"  # one of the cells that break a rule
+LEFT_OUT = "left out"  # filled in at the last question, and empty now
+KEPT = "kept"  # one of the cells that a rule is about, and that keep it
+CHOSEN = "chosen"  # pointed at by the person
 
 SUFFIX = {CHANGED: "*", CLASH: "!", KEPT: "+", CHOSEN: "!"}
-ASKED = "asked"             # in a part of a plan, what has a value
+ASKED = "asked"  # in a part of a plan, what has a value
 EMPTY = "empty"
 
 
@@ -30,7 +31,9 @@ class Picture:
     case: Case
     values: Values
     marks: Mapping[int, str] = field(default_factory=dict)
-    letters: Mapping[int, str] = field(default_factory=dict)    # keys by which things can be pointed at
+    letters: Mapping[int, str] = field(
+        default_factory=dict
+    )  # keys by which things can be pointed at
 
     @property
     def part(self) -> bool:
@@ -47,7 +50,8 @@ class Picture:
         return key + text + SUFFIX.get(self.marks.get(thing, ""), "")
 
     def kind(self, thing: int) -> str:
-        """How the value of a thing is drawn. In a full plan only what has a mark is drawn otherwise than the rest."""
+        """How the value of a thing is drawn. In a full plan only what has a mark is drawn otherwise
+        than the rest."""
         mark = self.marks.get(thing, "")
         return mark if mark in SUFFIX else ASKED if self.part else ""
 
@@ -60,7 +64,7 @@ class Cell:
     kind: str
 
 
-Cells = tuple[Cell, ...]                    # the lines at one place
+Cells = tuple[Cell, ...]  # the lines at one place
 
 
 @dataclass(frozen=True)
@@ -116,11 +120,17 @@ def value_cells(picture: Picture, empty: str) -> dict[tuple[int, ...], Cells]:
     cells: dict[tuple[int, ...], Cells] = {}
     for value in range(len(case.values)):
         mine = [thing for thing in case.things if picture.values.get(thing.place) == value]
-        named = tuple(Cell(picture.called(thing.place, thing.name), picture.kind(thing.place)) for thing in mine)
+        named = tuple(
+            Cell(picture.called(thing.place, thing.name), picture.kind(thing.place))
+            for thing in mine
+        )
         cells[case.value_at(value)] = named or (Cell(empty, EMPTY),)
     return cells
 
 
 def sentence(picture: Picture) -> str:
     """A plan, or a part of one, as one line: `Mon early Ann, Mon late Ben`."""
-    return ", ".join(f"{picture.case.things[thing].name} {picture.label(thing)}" for thing in sorted(picture.values))
+    return ", ".join(
+        f"{picture.case.things[thing].name} {picture.label(thing)}"
+        for thing in sorted(picture.values)
+    )

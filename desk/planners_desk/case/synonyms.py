@@ -139,9 +139,7 @@ def about(
         return word, first, last
     turned = TURNED.get(
         word,
-        re.sub(
-            r"^(earlier|later) ", lambda m: "later " if m[1] == "earlier" else "earlier ", word
-        ),
+        re.sub(r"^(earlier|later) ", lambda m: "later " if m[1] == "earlier" else "earlier ", word),
     )
     return turned, last, first
 

@@ -34,7 +34,9 @@ def main(path: str, options: argparse.Namespace) -> int:
     face = face_for(options.plain)
     try:
         face.wait("opening the session; for a new one the best way of asking is looked for ..")
-        clock = Clock(trials.SECONDS_AT_FIRST if options.seconds is None else options.seconds, moving(face))
+        clock = Clock(
+            trials.SECONDS_AT_FIRST if options.seconds is None else options.seconds, moving(face)
+        )
         with Session.opened(case, program, options.plan, options.budget, clock=clock) as session:
             try:
                 ending = asked(session, face)
@@ -86,6 +88,10 @@ def face_for(plain: bool) -> Face:
     if plain or dumb or not (sys.stdin.isatty() and sys.stdout.isatty()):
         return Lines()
     if importlib.util.find_spec("rich") is None:
-        raise Fault("the library that draws the screen isn't installed: `apt-get install python3-rich`, or take --plain")
-    from ..faces import screen       # needs that library
+        raise Fault(
+            "the library that draws the screen isn't installed: `apt-get install python3-rich`, or "
+            "take --plain"
+        )
+    from ..faces import screen  # needs that library
+
     return screen.opened()

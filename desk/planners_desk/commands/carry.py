@@ -196,9 +196,12 @@ def begun(
     before: Sequence[Named],
 ) -> list[str]:
     """Begins the new session, with the old answers; what came of it, in lines."""
-    with Session.opened(
-        case, program, None if case.plan else plan, budget, before=before, journal=journal
-    ) as session, session.sit() as sitting:
+    with (
+        Session.opened(
+            case, program, None if case.plan else plan, budget, before=before, journal=journal
+        ) as session,
+        session.sit() as sitting,
+    ):
         sitting.advance()
         sitting.stop()
         ending = sitting.ending

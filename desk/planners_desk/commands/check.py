@@ -127,7 +127,8 @@ def cannot_say(words: Vocabulary, width: int) -> Iterator[str]:
     said = [f"`{text}`" for text in unsaid.counts]
     yield (
         '- Counts above three, as "at most five shifts each", and sums: no rule is about more than '
-        "four things." + (f" The counts that it does say: {and_list(said)}." if said else "")
+        "four things."
+        + (f" The counts that it does say: {and_list(said)}." if said else "")
     )
     if unsaid.alone:
         yield f"- Nothing is learned of {_some(unsaid.alone)}: no `ask` line puts them in a group."
@@ -185,9 +186,7 @@ BY = {
 }
 
 
-def first_plans(
-    words: Vocabulary, found: outlook.FirstPlans | None, width: int
-) -> Iterator[str]:
+def first_plans(words: Vocabulary, found: outlook.FirstPlans | None, width: int) -> Iterator[str]:
     """Plans that all that is known so far allows."""
     yield ""
     if found is None:
@@ -200,7 +199,8 @@ def first_plans(
     if found.strictest is not None:
         yield ""
         yield (
-            "A plan that no answers can rule out, since it keeps every rule that these words can say"
+            "A plan that no answers can rule out, since it keeps every rule that these words "
+            "can say"
         )
         yield from pictures(words, [found.strictest], width)
         yield ""

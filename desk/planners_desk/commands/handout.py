@@ -1,4 +1,5 @@
-"""The cases to begin with, which come with desk: where they lie, and copies of them to try and to change."""
+"""The cases to begin with, which come with desk: where they lie, and copies of them to try and to
+change."""
 
 from __future__ import annotations
 
@@ -13,11 +14,20 @@ CASES = os.path.join(repository.DESK, "cases")
 
 
 def main(folder: str) -> int:
-    """Copies them into a folder, which is made where it isn't there, and says what to do with them. Nothing is replaced: where a file
-    of such a name is there, none is copied."""
-    copies = {os.path.join(folder, name): _content(name) for name in sorted(os.listdir(CASES)) if name.endswith(".case")}
+    """Copies them into a folder, which is made where it isn't there, and says what to do with them.
+    Nothing is replaced: where a file of such a name is there, none is copied."""
+    copies = {
+        os.path.join(folder, name): _content(name)
+        for name in sorted(os.listdir(CASES))
+        if name.endswith(".case")
+    }
     if there := [path for path in copies if os.path.lexists(path)]:
-        raise Fault(*(f"{path} is there already, so nothing is copied: take another folder" for path in there))
+        raise Fault(
+            *(
+                f"{path} is there already, so nothing is copied: take another folder"
+                for path in there
+            )
+        )
     with files.told(folder):
         os.makedirs(folder, exist_ok=True)
     files.write_all(copies)

@@ -32,8 +32,10 @@ def way_out(session: Session, face: Face) -> int | None:
     sheet = Sheet(
         f"Your case contradicts your answer to question {question.number}",
         (
-            "You said yes to this, and a line `always` of the case now says that "
-            f"{rule.text} (marked !):",
+            (
+                "You said yes to this, and a line `always` of the case now says that "
+                f"{rule.text} (marked !):"
+            ),
             Picture(session.case, question.values, {thing: CLASH for thing in rule.things}),
             *more,
             BACK,

@@ -17,9 +17,15 @@ from .review import MISSING, Review
 
 ALL_SAID = "Nothing is left that your words can say and your answers don't decide. "
 LOOK = "What your words can't say wasn't asked: so look at some plans now."
-NO_SOLVER = "What your words can't say wasn't asked. For plans to look at, install a SAT solver: cadical, minisat or clasp."
-LIFTED = ("It may also be that no answer was wrong: {words} {speak} of fewer things than are asked about together, and in plan {plan} "
-          "a right no to a part of a plan can then end so. In plan scopes it can't: `desk ask --plan scopes` in a new session.")
+NO_SOLVER = (
+    "What your words can't say wasn't asked. For plans to look at, install a SAT solver: cadical, "
+    "minisat or clasp."
+)
+LIFTED = (
+    "It may also be that no answer was wrong: {words} {speak} of fewer things than are asked about "
+    "together, and in plan {plan} a right no to a part of a plan can then end so. In plan scopes "
+    "it can't: `desk ask --plan scopes` in a new session."
+)
 LAST = (("b", "back to the last answer"), ("s", "all answers"), ("q", "stop"))
 
 
@@ -35,6 +41,7 @@ def shown(session: Session, ending: Ending, face: Face) -> int | None:
 
 
 # ---------------------------------------------------------------- answers that clash
+
 
 class Collapse:
     """No rules agree with all answers: which of them clash, and going back to one."""
@@ -62,20 +69,51 @@ class Collapse:
     def sheet(self) -> Sheet:
         """The clash and the suspects."""
         answers = self.session.answers
-        blocks: list[Block] = [f"No rules that your words can say agree with all {len(answers)} answers. One was a slip, or a word is missing."]
+        blocks: list[Block] = [
+            f"No rules that your words can say agree with all {len(answers)} answers. One was a "
+            "slip, or a word is missing."
+        ]
         for place in judging.clashing(self.session):
             question = answers[place].question
-            blocks += ["", f"You said no to question {question.number}, and what you accepted leaves no rule that refuses it:",
-                       Picture(self.session.case, question.values)]
+            blocks += [
+                "",
+                (
+                    f"You said no to question {question.number}, and what you accepted leaves no "
+                    "rule that refuses it:"
+                ),
+                Picture(self.session.case, question.values),
+            ]
         if self.suspects:
-            blocks += ["", "If one answer alone was the slip, it is one of these; turned round, all others agree:"]
-            blocks += [f"{self.choice.letter(place)}  {answer_text(self.session, answers[place], MOST_VALUES)}"
-                       for place in self.suspects]
+            blocks += [
+                "",
+                (
+                    "If one answer alone was the slip, it is one of these; turned round, all others"
+                    " agree:"
+                ),
+            ]
+            blocks += [
+                f"{self.choice.letter(place)}  "
+                f"{answer_text(self.session, answers[place], MOST_VALUES)}"
+                for place in self.suspects
+            ]
         else:
-            blocks += ["", "No single answer explains it: more than one was a slip, or a word is missing. Go back with b, one by one."]
+            blocks += [
+                "",
+                (
+                    "No single answer explains it: more than one was a slip, or a word is missing. "
+                    "Go back with b, one by one."
+                ),
+            ]
         lifted = judging.lifted(self.session)
         if lifted:
-            blocks += ["", LIFTED.format(words=and_list(lifted), speak="speaks" if len(lifted) == 1 else "speak", plan=self.session.plan)]
+            blocks += [
+                "",
+                LIFTED.format(
+                    words=and_list(lifted),
+                    speak="speaks" if len(lifted) == 1 else "speak",
+                    plan=self.session.plan,
+                ),
+            ]
         lacking = "If no answer was a slip, a word is missing. " + self.lacking[0]
         blocks += ["", lacking, *self.lacking[1:]]
         return Sheet("Your answers clash", tuple(blocks), keys=self.choice.keys)
@@ -88,6 +126,7 @@ class Collapse:
 
 # ---------------------------------------------------------------- rules
 
+
 def converged(session: Session, ending: Ending, face: Face) -> int | None:
     """The rules, and plans to judge."""
     found = grouped(session.vocabulary, ending.learned, session.reduced(), session.answers)
@@ -96,10 +135,12 @@ def converged(session: Session, ending: Ending, face: Face) -> int | None:
     odd = odd_ones(session, ending.learned)
     keys = (("g", "go on to plans"),) * can + (("q", "stop"),)
     choice = Choice(session, [place for one in odd for place in one.behind], keys)
+
     def sheet() -> Sheet:
         """The rules, and the odd ones with their letters as they are now."""
         lines = (*rule_lines(found), *views.odd_lines(session, odd, choice.letter))
         return Sheet(head, (*lines, "", ALL_SAID + (LOOK if can else NO_SOLVER)), keys=choice.keys)
+
     key, place = choice.put(face, sheet)
     if key == "q" or place is not None:
         return place
@@ -113,14 +154,26 @@ def converged(session: Session, ending: Ending, face: Face) -> int | None:
 
 def rule_lines(found: list[Sentence]) -> list[str]:
     """The rules in sentences."""
-    return [f"- {sentence.whole}" for sentence in found] or ["No rule is needed: everything is allowed."]
+    return [f"- {sentence.whole}" for sentence in found] or [
+        "No rule is needed: everything is allowed."
+    ]
 
 
 def undecided_lines(session: Session, ending: Ending) -> list[str]:
     """What was learned, and what isn't settled."""
     lines = rule_lines(grouped(session.vocabulary, ending.learned))
-    lines += ["", "Not settled, since the search took too long; all else that is possible follows from the rules above:"]
-    return lines + [f"- {text}" for text in open_lines(session, ending.open)] + ["", "`desk ask --budget 10000000` looks for longer."]
+    lines += [
+        "",
+        (
+            "Not settled, since the search took too long; all else that is possible follows from "
+            "the rules above:"
+        ),
+    ]
+    return (
+        lines
+        + [f"- {text}" for text in open_lines(session, ending.open)]
+        + ["", "`desk ask --budget 10000000` looks for longer."]
+    )
 
 
 def print_last(session: Session, ending: Ending | None, rules: bool = True) -> None:
@@ -129,10 +182,19 @@ def print_last(session: Session, ending: Ending | None, rules: bool = True) -> N
     case = session.case
     if ending is None or ending.word == "suspended":
         count = len(session.answers)
-        print(f"Stopped after {count} answer{'s' if count != 1 else ''}. All are kept; `desk ask {case.path}` goes on from here.")
+        print(
+            f"Stopped after {count} answer{'s' if count != 1 else ''}. All are kept; `desk ask "
+            f"{case.path}` goes on from here."
+        )
     elif ending.word == "converged" and rules:
         print(f"{case.title}: the rules after {ending.answers} answers")
-        print("\n".join(rule_lines(grouped(session.vocabulary, ending.learned, session.reduced(), session.answers))))
+        print(
+            "\n".join(
+                rule_lines(
+                    grouped(session.vocabulary, ending.learned, session.reduced(), session.answers)
+                )
+            )
+        )
         print(f"`desk report {case.path} FILE.html` writes them on a page.")
     elif ending.word == "collapsed":
         print(f"The answers clash. `desk ask {case.path}` shows which, and goes back to one.")
@@ -140,4 +202,7 @@ def print_last(session: Session, ending: Ending | None, rules: bool = True) -> N
         print("\n".join(undecided_lines(session, ending)))
     elif ending.word in ("refused", "failed"):
         print(said_by(session.journal, ending.status, ending.text))
-        print(f"{len(session.answers)} answers stand; each one after which another question came is among them.")
+        print(
+            f"{len(session.answers)} answers stand; each one after which another question came is "
+            "among them."
+        )

@@ -1,4 +1,5 @@
-"""What is shown at once, and the two ways to show it: on a screen that is drawn anew (`screen.py`) and in lines (`plain.py`)."""
+"""What is shown at once, and the two ways to show it: on a screen that is drawn anew (`screen.py`)
+and in lines (`plain.py`)."""
 
 from __future__ import annotations
 
@@ -12,8 +13,8 @@ from ..case.picture import Picture
 
 Block = str | Picture
 
-ON = ("", "on")             # any key goes on
-PATIENCE = 0.3              # seconds until it is said that something takes a while
+ON = ("", "on")  # any key goes on
+PATIENCE = 0.3  # seconds until it is said that something takes a while
 
 
 @dataclass(frozen=True)
@@ -22,25 +23,31 @@ class Sheet:
 
     head: str
     blocks: tuple[Block, ...]
-    legend: str = ""            # what marks in a picture mean, where it is drawn
-    under: tuple[str, ...] = () # right below the blocks, on each page
+    legend: str = ""  # what marks in a picture mean, where it is drawn
+    under: tuple[str, ...] = ()  # right below the blocks, on each page
     foot: tuple[str, ...] = ()  # at the bottom
-    keys: tuple[tuple[str, str], ...] = (ON,)       # a key and what it does
-    whole: frozenset[str] = field(default_factory=frozenset)    # keys that count only after all pages were shown
+    keys: tuple[tuple[str, str], ...] = (ON,)  # a key and what it does
+    whole: frozenset[str] = field(
+        default_factory=frozenset
+    )  # keys that count only after all pages were shown
 
 
 def keys_text(keys: tuple[tuple[str, str], ...], explained: int | None = None) -> list[str]:
-    """What the keys do; those that do one thing together, as `a c d go back to it`. Only so many are explained, if need be."""
+    """What the keys do; those that do one thing together, as `a c d go back to it`. Only so many
+    are explained, if need be."""
     said: dict[str, list[str]] = {}
     for key, does in keys:
         said.setdefault(does, []).append(key)
-    return [" ".join(some) + (f" {does}" if explained is None or place < explained else "") for place, (does, some) in enumerate(said.items())]
+    return [
+        " ".join(some) + (f" {does}" if explained is None or place < explained else "")
+        for place, (does, some) in enumerate(said.items())
+    ]
 
 
 class Face(Protocol):
     """Where sheets are shown and keys come from."""
 
-    stays: bool                 # whether what was shown stays in the terminal after `close`
+    stays: bool  # whether what was shown stays in the terminal after `close`
 
     def put(self, sheet: Sheet) -> str:
         """Shows a sheet, and waits for one of its keys; `q` where nothing more can come."""

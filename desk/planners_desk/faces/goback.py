@@ -11,7 +11,7 @@ from ..sitting.answers import may_go_back, yes_no
 from ..sitting.session import Session
 from .face import Face, Sheet
 
-LETTERS = "acdefghijklptuvxz"       # that mean nothing else
+LETTERS = "acdefghijklptuvxz"  # that mean nothing else
 MORE = ("m", "letters for others")
 
 Keys = tuple[tuple[str, str], ...]
@@ -32,7 +32,7 @@ class Letters(Generic[Item]):
     @property
     def item_of(self) -> dict[str, Item]:
         """The items that have a letter now."""
-        return dict(zip(self._letters, self.items[self._first:]))
+        return dict(zip(self._letters, self.items[self._first :]))
 
     @property
     def keys(self) -> Keys:
@@ -60,8 +60,11 @@ class Choice(Letters[int]):
     def __init__(self, session: Session, places: Iterable[int], keys: Keys) -> None:
         """Takes the answers' places, those that can't be gone back to among them, and the other
         keys."""
-        super().__init__([place for place in places if may_go_back(session, place)], keys,
-                         lambda _: "go back to it")
+        super().__init__(
+            [place for place in places if may_go_back(session, place)],
+            keys,
+            lambda _: "go back to it",
+        )
         self.session = session
 
     def put(self, face: Face, sheet: Callable[[], Sheet]) -> tuple[str, int | None]:
@@ -84,7 +87,14 @@ def sure(session: Session, face: Face, place: int) -> bool:
     later = len(session.answers) - place - 1
     text = f"You said {yes_no(answer.yes)}. To go back takes this answer back"
     if later:
-        text += f" and the {later} after it; these count again where they decide a question, so that it isn't put twice"
-    sheet = Sheet(f"Go back to question {answer.question.number}?", (Picture(session.case, answer.question.values),), under=(text + ".",),
-                  keys=(("y", "go back to it"), ("n", "don't")))
+        text += (
+            f" and the {later} after it; these count again where they decide a question, so that it"
+            " isn't put twice"
+        )
+    sheet = Sheet(
+        f"Go back to question {answer.question.number}?",
+        (Picture(session.case, answer.question.values),),
+        under=(text + ".",),
+        keys=(("y", "go back to it"), ("n", "don't")),
+    )
     return face.put(sheet) == "y"

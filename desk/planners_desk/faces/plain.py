@@ -1,4 +1,5 @@
-"""Sheets as plain lines, for screen readers, pipes and terminals that can't move the cursor: a key is a line."""
+"""Sheets as plain lines, for screen readers, pipes and terminals that can't move the cursor: a key
+is a line."""
 
 from __future__ import annotations
 
@@ -8,7 +9,12 @@ from typing import TextIO
 from ..case.picture import CHANGED, CHOSEN, CLASH, KEPT, Picture
 from .face import Sheet, keys_text
 
-SAID = {CHANGED: " (changed)", CLASH: " (this breaks it)", KEPT: " (this keeps it)", CHOSEN: " (chosen)"}
+SAID = {
+    CHANGED: " (changed)",
+    CLASH: " (this breaks it)",
+    KEPT: " (this keeps it)",
+    CHOSEN: " (chosen)",
+}
 WORDS = {"yes": "y", "no": "n", "back": "b", "quit": "q", "stop": "q", "help": "?"}
 
 
@@ -16,8 +22,11 @@ def picture_lines(picture: Picture) -> list[str]:
     """A line for each thing that has a value; what has changed is said in words."""
     case = picture.case
     keys = {thing: f"{letter}  " for thing, letter in picture.letters.items()}
-    return [f"{keys.get(thing, '')}{case.things[thing].name}: {case.label(picture.values[thing])}{SAID.get(picture.marks.get(thing, ''), '')}"
-            for thing in sorted(picture.values)]
+    return [
+        f"{keys.get(thing, '')}{case.things[thing].name}: "
+        f"{case.label(picture.values[thing])}{SAID.get(picture.marks.get(thing, ''), '')}"
+        for thing in sorted(picture.values)
+    ]
 
 
 class Lines:
@@ -49,7 +58,9 @@ class Lines:
             key = WORDS.get(word, word)
             if key in keys:
                 return key
-            self._print(f"not one of the keys: {word!r}" if word else "type one of the keys, and then Enter")
+            self._print(
+                f"not one of the keys: {word!r}" if word else "type one of the keys, and then Enter"
+            )
 
     def wait(self, text: str) -> None:
         """Says so in a line, where somebody waits."""

@@ -11,25 +11,40 @@ from ..sitting.asking import Asking
 from . import beforehand, end, views
 from .face import Block, Face, Sheet, patience
 
-KEYS = (("y", "yes"), ("n", "no"), ("b", "back"), ("w", "why"), ("r", "rules"), ("s", "answers"), ("q", "stop"), ("?", "help"))
+KEYS = (
+    ("y", "yes"),
+    ("n", "no"),
+    ("b", "back"),
+    ("w", "why"),
+    ("r", "rules"),
+    ("s", "answers"),
+    ("q", "stop"),
+    ("?", "help"),
+)
 PART = "Judge what is filled in, don't think of the rest."
 WHOLE = "Everything is filled in. Is this all right?"
-HELP = """A question shows a plan, or a part of one. Say whether what is filled in is all right, as far as it goes. Don't think of the rest: \
+HELP = """A question shows a plan, or a part of one. Say whether what is filled in is \
+all right, as far as it goes. Don't think of the rest: \
 whether the empty places can be filled as well isn't asked.
 
 y  yes, it is all right
 n  no, it isn't, whatever stands in the empty places
-   If it is wrong only because of something that your words can't say, as a count over all, say yes, and note it
-b  back: takes your last answer back, and shows that question again. Pressed again, it takes the one before back as well, and what you \
+   If it is wrong only because of something that your words can't say, as a count over all, \
+say yes, and note it
+b  back: takes your last answer back, and shows that question again. Pressed again, it takes \
+the one before back as well, and what you \
 said later counts again where it decides a question
 w  why: which rules a yes rules out
-r  rules so far, and what is odd about them; letters lead to the answers behind them, and back to one
+r  rules so far, and what is odd about them; letters lead to the answers behind them, \
+and back to one
 s  all answers so far, and by letters back to any of them
 q  stop. Nothing is lost, and the next `desk ask` goes on from here
 ?  this help
 
-* stands at what has changed since the last question. Rules that you said beforehand answer for you where a question breaks one, which is \
-always a no; how often they did since the last question stands below the question. A group of things is finished where nothing is open \
+* stands at what has changed since the last question. Rules that you said beforehand \
+answer for you where a question breaks one, which is \
+always a no; how often they did since the last question stands below the question. A group of \
+things is finished where nothing is open \
 any more of what your words can say about it; often fewer questions come than can come at most."""
 
 
@@ -81,7 +96,9 @@ class Questions:
                 with self._patience():
                     asking.back_to(place)
         else:
-            self.face.put(views.why(asking) if key == "w" else Sheet("Help", tuple(HELP.split("\n"))))
+            self.face.put(
+                views.why(asking) if key == "w" else Sheet("Help", tuple(HELP.split("\n")))
+            )
 
     def _patience(self) -> AbstractContextManager[None]:
         """Says so where the next question takes a while."""
@@ -100,7 +117,9 @@ def sheet(asking: Asking) -> Sheet:
     body: list[Block] = [picture, *filter(None, [taught_text(asking.taught)])]
     notes = (" ".join(asking.notes),) if asking.notes else ()
     progress = asking.session.possible.progress
-    return Sheet(head, tuple(body), legend(picture), (*notes, ask), (progress,), KEYS, frozenset("y"))
+    return Sheet(
+        head, tuple(body), legend(picture), (*notes, ask), (progress,), KEYS, frozenset("y")
+    )
 
 
 def taught_text(taught: Few) -> str:

@@ -25,12 +25,18 @@ from .face import Face, Sheet, moving, patience
 from .goback import Choice
 
 JUDGE = (("y", "yes, right"), ("n", "no"), ("q", "enough"))
-BEFOREHAND = "It stands in a line `always` of the case. If it isn't so, take it out there; `desk carry` takes your other answers over."
+BEFOREHAND = (
+    "It stands in a line `always` of the case. If it isn't so, take it out there; `desk carry` "
+    "takes your other answers over."
+)
 UNSAYABLE = (("o", "go on"), ("b", "look at the plan again"), ("q", "enough"))
 SLIP = "If it is as you say, one of these answers was a slip, or your words can't say it:"
 NONE = (("o", "none of these was wrong"), ("b", "look at the plan again"), ("q", "enough"))
-MISSING = ("With a word that can say it in the case, `desk carry` takes your answers over, so that only what "
-           "is new is asked. " + judging.STAYS)
+MISSING = (
+    "With a word that can say it in the case, `desk carry` takes your answers over, so that only "
+    "what is new is asked. "
+    + judging.STAYS
+)
 
 
 @dataclass
@@ -77,12 +83,16 @@ class Review:
         if places:
             choice = Choice(self.session, places, NONE)
             key, place = choice.put(
-                self.face, lambda: Sheet(SLIP, tuple(self._lines(choice)), keys=choice.keys))
+                self.face, lambda: Sheet(SLIP, tuple(self._lines(choice)), keys=choice.keys)
+            )
             if key != "o":
                 return key, place
         if judging.said_beforehand(self.session, plan):
             told = f"{plan.title}. " + BEFOREHAND
-            return self.face.put(Sheet("You said this rule beforehand", (told,), keys=UNSAYABLE)), None
+            return (
+                self.face.put(Sheet("You said this rule beforehand", (told,), keys=UNSAYABLE)),
+                None,
+            )
         with patience(self.face, "looking for a word that can say it .."):
             search = missing.lacking(self.session, values, not plan.allowed)
         lines = (*ways.lacking(self.session, search), "", judging.STAYS)
@@ -95,7 +105,9 @@ class Review:
         """The cells of an allowed plan that are wrong, none where it isn't known or where a rule
         says it; and the key."""
         known = plan.known_cells(max(self.session.vocabulary.arities))
-        return ("o", known) if known is not None else point.cells(self.session, self.face, plan.values)
+        return (
+            ("o", known) if known is not None else point.cells(self.session, self.face, plan.values)
+        )
 
     def _lines(self, choice: Choice) -> Iterator[str]:
         """Answers to choose from, those that have letters now."""
@@ -111,9 +123,22 @@ def sheet(session: Session, plan: Plan) -> Sheet:
     picture = Picture(session.case, plan.values, plan.marks)
     if plan.shows_rules:
         head = "No plan that you accepted has shown this rule yet:"
-        return Sheet(head, (f"{plan.title}.", picture), keys=JUDGE, whole=frozenset("y"),
-                     under=("Here it is kept (marked +). Is that right?",))
+        return Sheet(
+            head,
+            (f"{plan.title}.", picture),
+            keys=JUDGE,
+            whole=frozenset("y"),
+            under=("Here it is kept (marked +). Is that right?",),
+        )
     if plan.allowed:
-        return Sheet(f"{plan.title}. The rules allow it.", (picture,), under=("Is this right?",), keys=JUDGE, whole=frozenset("y"))
+        return Sheet(
+            f"{plan.title}. The rules allow it.",
+            (picture,),
+            under=("Is this right?",),
+            keys=JUDGE,
+            whole=frozenset("y"),
+        )
     head = "The rules refuse this plan, for one reason alone (marked !):"
-    return Sheet(head, (f"{plan.title}.", picture), under=("Is it right that it is refused?",), keys=JUDGE)
+    return Sheet(
+        head, (f"{plan.title}.", picture), under=("Is it right that it is refused?",), keys=JUDGE
+    )

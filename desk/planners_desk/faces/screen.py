@@ -20,20 +20,25 @@ from .drawing import Lines, pages
 from .face import Block, Sheet, keys_text
 from .keys import ENDED, RESIZED, Keyboard
 
-LEAST_BODY = 3      # lines of the body that a page has room for at least, where the whole takes more
+LEAST_BODY = 3  # lines of the body that a page has room for at least, where the whole takes more
 # what stands on a screen that is too small for a sheet: the first of these that fits
-TOO_SMALL = ("The window is too small. Make it larger, or press q to stop.", "The window is too small; q stops.", "too small", "small")
+TOO_SMALL = (
+    "The window is too small. Make it larger, or press q to stop.",
+    "The window is too small; q stops.",
+    "too small",
+    "small",
+)
 
 
 @dataclass(frozen=True)
 class Layout:
     """A sheet at the size of a screen. It has no pages where the screen is too small for it."""
 
-    size: tuple[int, int]       # columns and lines
+    size: tuple[int, int]  # columns and lines
     head: Lines
-    pages: list[Lines]          # the body, cut where the screen ends
+    pages: list[Lines]  # the body, cut where the screen ends
     under: Lines
-    foot: Lines                 # above the keys; a message takes its place
+    foot: Lines  # above the keys; a message takes its place
 
 
 class Screen:
@@ -52,7 +57,7 @@ class Screen:
         """Leaves the terminal as it was."""
         if not self.closed:
             self.closed = True
-            with contextlib.suppress(OSError, termios.error):       # the terminal may be gone
+            with contextlib.suppress(OSError, termios.error):  # the terminal may be gone
                 self._leave()
                 self.keyboard.__exit__()
 
@@ -75,7 +80,8 @@ class Screen:
     def put(self, sheet: Sheet) -> str:
         """Shows a sheet, page by page where it doesn't fit, and waits for one of its keys.
 
-        A key counts for what is drawn when it comes. On a screen that is too small for the sheet none but q counts.
+        A key counts for what is drawn when it comes. On a screen that is too small for the sheet
+        none but q counts.
         """
         page, seen, message = 0, set[int](), ""
         shown = time.monotonic()
@@ -114,19 +120,22 @@ class Screen:
     # ---- drawing
 
     def _draw(self, sheet: Sheet, layout: Layout, page: int, message: str) -> None:
-        """One page of a sheet, over whatever the screen shows; a message stands in the place of the foot."""
+        """One page of a sheet, over whatever the screen shows; a message stands in the place of the
+        foot."""
         width, height = layout.size
         if not layout.pages:
             self._print(self._too_small(height), width, height)
             return
         lines = layout.head + layout.pages[page]
-        said = self._text(message, "bold")[:len(layout.foot)] if message else layout.foot
-        blank: Lines = [[] for _ in layout.foot[len(said):]]
+        said = self._text(message, "bold")[: len(layout.foot)] if message else layout.foot
+        blank: Lines = [[] for _ in layout.foot[len(said) :]]
         foot = blank + said + self._text(self._keys(sheet, page, len(layout.pages)), "reverse")
         spare = height - len(lines) - len(layout.under) - len(foot)
         above: Lines = [[]] if spare > 1 and layout.under else []
         lines = lines + above + layout.under
-        self._print(lines + [[] for _ in range(height - len(lines) - len(foot))] + foot, width, height)
+        self._print(
+            lines + [[] for _ in range(height - len(lines) - len(foot))] + foot, width, height
+        )
 
     def _print(self, lines: Lines, width: int, height: int) -> None:
         """Exactly so many lines of this width."""
@@ -142,25 +151,38 @@ class Screen:
         return next((lines for lines in said if len(lines) <= height), said[-1])
 
     def _layout(self, sheet: Sheet) -> Layout:
-        """A sheet at the size of the screen. What stands around the body gives way where it has no room: the foot first, then
-        what marks mean, then what happened. The last text below the body, which says what is asked, and the head stay."""
-        head, under = self._text(sheet.head, "bold"), [self._text(text) for text in (*filter(None, [sheet.legend]), *sheet.under)]
+        """A sheet at the size of the screen. What stands around the body gives way where it has no
+        room: the foot first, then what marks mean, then what happened. The last text below the
+        body, which says what is asked, and the head stay.
+        """
+        head, under = self._text(sheet.head, "bold"), [
+            self._text(text) for text in (*filter(None, [sheet.legend]), *sheet.under)
+        ]
         foot = [line for text in sheet.foot for line in self._text(text)]
-        least: Lines = [] if "" in dict(sheet.keys) else [[]]       # a message has a line
-        for first, below in [(foot or least, 0)] + [(least, gone) for gone in range(max(1, len(under)))]:
-            made = Layout(self.console.size, head, [], [line for lines in under[below:] for line in lines], first)
+        least: Lines = [] if "" in dict(sheet.keys) else [[]]  # a message has a line
+        for first, below in [(foot or least, 0)] + [
+            (least, gone) for gone in range(max(1, len(under)))
+        ]:
+            made = Layout(
+                self.console.size,
+                head,
+                [],
+                [line for lines in under[below:] for line in lines],
+                first,
+            )
             cut = self._pages(sheet, made)
             if cut:
                 return replace(made, pages=cut)
         return Layout(self.console.size, [], [], [], [])
 
     def _pages(self, sheet: Sheet, around: Layout) -> list[Lines]:
-        """The body of a sheet, cut where the screen ends; a picture is cut only where it is higher than the screen. No pages
-        where the whole isn't one and they would have less than the least room."""
+        """The body of a sheet, cut where the screen ends; a picture is cut only where it is higher
+        than the screen. No pages where the whole isn't one and they would have less than the least
+        room."""
         width, height = around.size
         rest = height - len(around.head) - len(around.under) - len(around.foot)
         count = 1
-        while True:             # what is said of further pages takes room itself
+        while True:  # what is said of further pages takes room itself
             room = rest - len(self._text(self._keys(sheet, count - 1, count)))
             if room < (LEAST_BODY if count > 1 else 1):
                 return []
@@ -180,13 +202,17 @@ class Screen:
         return cut
 
     def _units(self, block: Block, width: int, room: int, used: int) -> Iterator[Lines]:
-        """What isn't cut any further: single lines of text, and pages of a picture, which begins on a page of which so many lines
-        are used where it takes no more pages so."""
+        """What isn't cut any further: single lines of text, and pages of a picture, which begins on
+        a page of which so many lines are used where it takes no more pages so."""
         if not isinstance(block, Picture):
             yield from ([line] for line in self._text(block))
             return
         anew = pages(self.console, block, width, room)
-        here = pages(self.console, block, width, room - used) if 0 < used <= room - LEAST_BODY else anew
+        here = (
+            pages(self.console, block, width, room - used)
+            if 0 < used <= room - LEAST_BODY
+            else anew
+        )
         yield from here if len(here) <= len(anew) else anew
 
     def _text(self, text: str, style: str = "") -> Lines:
@@ -196,7 +222,9 @@ class Screen:
         """What the keys do, shortly where the line is short."""
         more = f"space more ({page + 1} of {count})" if count > 1 else ""
         if "" in dict(sheet.keys):
-            return "  ".join(filter(None, [more, "any other key goes on" if more else "any key goes on"]))
+            return "  ".join(
+                filter(None, [more, "any other key goes on" if more else "any key goes on"])
+            )
         words = keys_text(sheet.keys) + [more] * bool(more)
         for between in ("   ", "  ", " "):
             if len(between.join(words)) <= self.console.width:
@@ -205,7 +233,8 @@ class Screen:
 
 
 def opened() -> Screen:
-    """The screen of the terminal that is there, which is drawn in ASCII where the locale has no more."""
+    """The screen of the terminal that is there, which is drawn in ASCII where the locale has no
+    more."""
     plain = not locale.nl_langinfo(locale.CODESET).upper().replace("-", "").startswith("UTF8")
     console = (AsciiConsole if plain else Console)(highlight=False, markup=False, emoji=False)
     return Screen(console, Keyboard(sys.stdin.fileno()))

@@ -14,15 +14,23 @@ from ..sitting.session import Session
 from .face import ON, Face, Sheet
 from .goback import MORE, Choice, Letters, sure
 
-ODD = ("Other than most of their pattern. That may be right; if it isn't, an answer was a slip, or your words "
-       "can't say it:")
-MOST_ANSWERS = 15           # on one sheet; each of them has a letter
+ODD = (
+    "Other than most of their pattern. That may be right; if it isn't, an answer was a slip, or "
+    "your words can't say it:"
+)
+MOST_ANSWERS = 15  # on one sheet; each of them has a letter
 
 
 def why(asking: Asking) -> Sheet:
     """The rules that are at stake, a few at most."""
     stake = asking.at_stake()
-    lines = ["A yes says that none of these rules is needed; a no says that one of them is, or a rule that says more:", ""]
+    lines = [
+        (
+            "A yes says that none of these rules is needed; a no says that one of them is, or a "
+            "rule that says more:"
+        ),
+        "",
+    ]
     lines += [f"- {text}" for text in stake.texts] + ["- and others"] * stake.more
     assert asking.question is not None
     return Sheet(f"Why question {asking.question.number} is asked", tuple(lines))
@@ -35,13 +43,17 @@ def rules(session: Session, face: Face) -> int | None:
     found = sentences.grouped(session.vocabulary, learned, answers=session.answers)
     odd = odd_ones(session, learned)
     # a letter leads to an answer by its place, or to the answers behind a sentence
-    items = [("answer", place) for one in odd for place in one.behind if may_go_back(session, place)]
+    items = [
+        ("answer", place) for one in odd for place in one.behind if may_go_back(session, place)
+    ]
     items += [("sentence", place) for place in range(len(found))]
     does = {"answer": "go back to it", "sentence": "what is behind it"}
     letters = Letters(items, (("o", "on"),), lambda item: does[item[0]])
     while True:
-        lines = [f"{letters.letter(('sentence', place))}  {said.whole}"
-                 for place, said in enumerate(found)] or ["None yet."]
+        lines = [
+            f"{letters.letter(('sentence', place))}  {said.whole}"
+            for place, said in enumerate(found)
+        ] or ["None yet."]
         lines += odd_lines(session, odd, lambda place: letters.letter(("answer", place)))
         key = face.put(Sheet("Rules so far", tuple(lines), keys=letters.keys if items else (ON,)))
         if key == MORE[0]:
@@ -63,11 +75,15 @@ def _behind(session: Session, face: Face, said: Sentence) -> int | None:
     """Shows the answers behind a sentence; the place of one to go back to, or None."""
     places = behind(session, said.rules)
     choice = Choice(session, places, (("o", "on"),))
+
     def sheet() -> Sheet:
         """The answers with their letters as they are now."""
-        lines = [f"{choice.letter(place)}  {answer_text(session, session.answers[place], MOST_VALUES)}"
-                 for place in places] or ["No answer of yours is about these things alone."]
+        lines = [
+            f"{choice.letter(place)}  {answer_text(session, session.answers[place], MOST_VALUES)}"
+            for place in places
+        ] or ["No answer of yours is about these things alone."]
         return Sheet("The answers behind it", (said.whole, "", *lines), keys=choice.keys)
+
     return choice.put(face, sheet)[1]
 
 
@@ -78,8 +94,10 @@ def odd_lines(session: Session, odd: Sequence[Odd], letter: Callable[[int], str]
     lines = ["", ODD] if odd else []
     for one in odd:
         lines.append(f"- {one.text(names)}")
-        lines += [f"  {letter(place)}  {answer_text(session, session.answers[place], MOST_VALUES)}"
-                  for place in one.behind]
+        lines += [
+            f"  {letter(place)}  {answer_text(session, session.answers[place], MOST_VALUES)}"
+            for place in one.behind
+        ]
     return lines
 
 
@@ -87,14 +105,16 @@ def answers(session: Session, face: Face) -> int | None:
     """Shows all answers that stand, the newest first; the place of one to go back to, or None."""
     places = list(reversed(range(len(session.answers))))
     firsts = range(0, len(places), MOST_ANSWERS)
-    parts = [places[first:first + MOST_ANSWERS] for first in firsts] or [[]]
+    parts = [places[first : first + MOST_ANSWERS] for first in firsts] or [[]]
     earlier = ((MORE[0], "earlier ones"),) if len(parts) > 1 else ()
     shown = 0
     while True:
         part = parts[shown % len(parts)]
         choice = Choice(session, part, (("o", "on"), *earlier))
-        lines = tuple(f"{choice.letter(place)}  {answer_text(session, session.answers[place])}"
-                      for place in part)
+        lines = tuple(
+            f"{choice.letter(place)}  {answer_text(session, session.answers[place])}"
+            for place in part
+        )
         count = f"{len(places)}, the newest first" if places else "none yet"
         head = f"All answers so far: {count}"
         keys = choice.keys if lines else (ON,)

@@ -11,7 +11,7 @@ from collections import defaultdict
 from collections.abc import Iterable, Iterator
 from dataclasses import dataclass
 
-Pair = tuple[int, ...]     # of two things
+Pair = tuple[int, ...]  # of two things
 
 LEAST_PAIRS = 2
 MOST_EXCEPTIONS = 3

@@ -1,9 +1,10 @@
 """Answers that follow from what the person has said: they are given for the person, and marked.
 
-Three kinds. A question that violates a rule said beforehand is refused. A part of what was accepted is accepted, and what
-holds something refused is refused; this is said of answers of an earlier session (carried) and of those from before a step
-back (again). Nothing else is ever answered, and where two old answers disagree about a question, it is put to the person. An
-old yes that a rule said beforehand contradicts answers nothing, as long as that rule is there.
+Three kinds. A question that violates a rule said beforehand is refused. A part of what was accepted
+is accepted, and what holds something refused is refused; this is said of answers of an earlier
+session (carried) and of those from before a step back (again). Nothing else is ever answered, and
+where two old answers disagree about a question, it is put to the person. An old yes that a rule
+said beforehand contradicts answers nothing, as long as that rule is there.
 """
 
 from __future__ import annotations
@@ -21,9 +22,9 @@ CARRIED, AGAIN, ALWAYS = "carried", "again", "always"
 class Old:
     """An answer that isn't in the journal."""
 
-    values: tuple[tuple[int, int], ...]     # things and values, rising
+    values: tuple[tuple[int, int], ...]  # things and values, rising
     yes: bool
-    by: str                                 # CARRIED or AGAIN
+    by: str  # CARRIED or AGAIN
 
     @cached_property
     def items(self) -> frozenset[tuple[int, int]]:
@@ -74,7 +75,15 @@ class Foreseen:
 
     def violated(self, values: Values) -> Rule | None:
         """The first rule said beforehand that the values violate."""
-        return next((rule for thing in sorted(values) for rule in self._rules.get(thing, ()) if rule.violated(values)), None)
+        return next(
+            (
+                rule
+                for thing in sorted(values)
+                for rule in self._rules.get(thing, ())
+                if rule.violated(values)
+            ),
+            None,
+        )
 
     def contradicted(self) -> list[tuple[Old, Rule]]:
         """The old accepted examples that a rule said beforehand contradicts, each with the rule."""
@@ -84,15 +93,28 @@ class Foreseen:
     def _because(self, said: Old, asked: int) -> str:
         """The answer behind it, for people."""
         when = "in the earlier session" if said.by == CARRIED else "before you went back"
-        shown = ", ".join(f"{self.case.things[thing].name} {self.case.values[value]}" for thing, value in said.values[:4])
+        shown = ", ".join(
+            f"{self.case.things[thing].name} {self.case.values[value]}"
+            for thing, value in said.values[:4]
+        )
         shown += " .." if len(said.values) > 4 else ""
-        what = "this" if len(said.values) == asked else "a plan with this in it" if said.yes else "a part of this"
-        return f"you {'accepted' if said.yes else 'refused'} {what} {when}" + ("" if what == "this" else f": {shown}")
+        what = (
+            "this"
+            if len(said.values) == asked
+            else "a plan with this in it" if said.yes else "a part of this"
+        )
+        return f"you {'accepted' if said.yes else 'refused'} {what} {when}" + (
+            "" if what == "this" else f": {shown}"
+        )
 
     def forget(self, values: Values, yes: bool) -> bool:
         """Drops the old answers that a new one contradicts; whether there were some."""
         said = set(values.items())
-        kept = [one for one in self.before if one.yes == yes or not (one.items <= said if yes else said <= one.items)]
+        kept = [
+            one
+            for one in self.before
+            if one.yes == yes or not (one.items <= said if yes else said <= one.items)
+        ]
         changed = len(kept) < len(self.before)
         self.before = kept
         return changed

@@ -18,9 +18,9 @@ from . import sentences
 from .along import Along, Pattern, Things
 from .sentences import Sentence
 
-LEAST_GROUPS = 3            # settled ones of a pattern, from which on one can be odd
-MANY = 5                    # rules that a sentence says for each pair that it excepts, where this is odd
-Said = tuple[str, Things]          # a rule's word, and the places of its things in the group
+LEAST_GROUPS = 3  # settled ones of a pattern, from which on one can be odd
+MANY = 5  # rules that a sentence says for each pair that it excepts, where this is odd
+Said = tuple[str, Things]  # a rule's word, and the places of its things in the group
 
 
 @dataclass(frozen=True)
@@ -29,22 +29,29 @@ class Odd:
 
     scope: Things
     has: tuple[Rule, ...]
-    most: tuple[Rule, ...]          # what it would have if it were as most are
-    of: int                         # how many groups of the pattern are as most are; 0 where none is like it
-    behind: Things         # places of the answers that made it so
+    most: tuple[Rule, ...]  # what it would have if it were as most are
+    of: int  # how many groups of the pattern are as most are; 0 where none is like it
+    behind: Things  # places of the answers that made it so
 
     def text(self, names: Sequence[str]) -> str:
         """What is odd, for people."""
         who = ", ".join(names[thing] for thing in self.scope)
         here = "; ".join(rule.text for rule in self.has) or "no rule"
         if not self.of:
-            return (f"{who}: {here}. It stands alone, and the other rules of this kind are between sets "
-                    "of things.")
+            return (
+                f"{who}: {here}. It stands alone, and the other rules of this kind are between sets"
+                " of things."
+            )
         there = "; ".join(rule.text for rule in self.most) or "no rule"
         return f"{who}: {here}. As {self.of} others of its pattern it would be: {there}."
 
 
-def odd(vocabulary: Vocabulary, learned: Iterable[Constraint], answers: Sequence[Answer], is_open: Callable[[Things], bool]) -> list[Odd]:
+def odd(
+    vocabulary: Vocabulary,
+    learned: Iterable[Constraint],
+    answers: Sequence[Answer],
+    is_open: Callable[[Things], bool],
+) -> list[Odd]:
     """The odd ones among the groups on which all is settled."""
     if len(vocabulary.case.thing_parts) < 2:
         return _odd_in_list(vocabulary, learned, answers, is_open)
@@ -52,7 +59,9 @@ def odd(vocabulary: Vocabulary, learned: Iterable[Constraint], answers: Sequence
     settled = [scope for scope in vocabulary.scopes if scope in on or not is_open(scope)]
     found: dict[Things, Odd] = {}
     for scopes in _patterns(Along(vocabulary.case), settled).values():
-        said = {scope: frozenset(_said(rule, scope) for rule in on.get(scope, ())) for scope in scopes}
+        said = {
+            scope: frozenset(_said(rule, scope) for rule in on.get(scope, ())) for scope in scopes
+        }
         (most, count), *_ = Counter(said.values()).most_common(1)
         if len(scopes) < LEAST_GROUPS or 2 * count <= len(scopes):
             continue
@@ -65,8 +74,12 @@ def odd(vocabulary: Vocabulary, learned: Iterable[Constraint], answers: Sequence
     return [found[scope] for scope in sorted(found)]
 
 
-def _odd_in_list(vocabulary: Vocabulary, learned: Iterable[Constraint], answers: Sequence[Answer],
-                 is_open: Callable[[Things], bool]) -> list[Odd]:
+def _odd_in_list(
+    vocabulary: Vocabulary,
+    learned: Iterable[Constraint],
+    answers: Sequence[Answer],
+    is_open: Callable[[Things], bool],
+) -> list[Odd]:
     """The groups that a sentence about many excepts, and those whose rule stands alone where the
     others of its word don't."""
     learned = list(learned)
@@ -127,10 +140,16 @@ def _said(rule: Rule, scope: Things) -> Said:
 def _moved(rule: Rule, scope: Things, to: Things, vocabulary: Vocabulary) -> Rule:
     """The same rule about the things of another group of the pattern."""
     things = tuple(to[scope.index(thing)] for thing in rule.things)
-    return Rule(rule.word, things, rule.word.said_of(tuple(vocabulary.case.things[thing].name for thing in things)))
+    return Rule(
+        rule.word,
+        things,
+        rule.word.said_of(tuple(vocabulary.case.things[thing].name for thing in things)),
+    )
 
 
-def behind(scope: Things, has: Sequence[Rule], would: Sequence[Rule], answers: Sequence[Answer]) -> Things:
+def behind(
+    scope: Things, has: Sequence[Rule], would: Sequence[Rule], answers: Sequence[Answer]
+) -> Things:
     """The answers that made a group's rules what they are: each no about exactly this group that
     one of its own rules explains and none of the others does, and each yes that breaks one of the
     others."""
@@ -140,12 +159,18 @@ def behind(scope: Things, has: Sequence[Rule], would: Sequence[Rule], answers: S
         breaks = any(rule.violated(values) for rule in would)
         if answer.yes and breaks:
             found.append(place)
-        elif not answer.yes and set(values) == set(scope) and not breaks and any(rule.violated(values) for rule in has):
+        elif (
+            not answer.yes
+            and set(values) == set(scope)
+            and not breaks
+            and any(rule.violated(values) for rule in has)
+        ):
             found.append(place)
     return tuple(found)
 
 
 # ---------------------------------------------------------------- all patterns side by side
+
 
 @dataclass(frozen=True)
 class Cell:
@@ -164,7 +189,12 @@ class Row:
     cells: dict[int, Cell]
 
 
-def rows(vocabulary: Vocabulary, learned: Sequence[Constraint], answers: Sequence[Answer], is_open: Callable[[Things], bool]) -> list[Row]:
+def rows(
+    vocabulary: Vocabulary,
+    learned: Sequence[Constraint],
+    answers: Sequence[Answer],
+    is_open: Callable[[Things], bool],
+) -> list[Row]:
     """Each pattern of two groups and more, with the rules of its groups; each group stands in one
     row alone."""
     along = Along(vocabulary.case)
@@ -173,12 +203,20 @@ def rows(vocabulary: Vocabulary, learned: Sequence[Constraint], answers: Sequenc
     on = {constraint.scope: vocabulary.claims(constraint) for constraint in learned}
     strange = {one.scope for one in odd(vocabulary, learned, answers, is_open)}
     left, made = set(vocabulary.scopes), []
-    for pattern, scopes in sorted(_patterns(along, vocabulary.scopes).items(), key=lambda it: (-len(it[1]), it[0].part, it[0].fixed, it[0].steps)):
+    for pattern, scopes in sorted(
+        _patterns(along, vocabulary.scopes).items(),
+        key=lambda it: (-len(it[1]), it[0].part, it[0].fixed, it[0].steps),
+    ):
         mine = [scope for scope in scopes if scope in left]
         if len(mine) < 2:
             continue
         left -= set(mine)
-        cells = {along.member(scope, pattern.part): Cell(_shown(scope, on.get(scope, ()), is_open), scope in strange) for scope in mine}
+        cells = {
+            along.member(scope, pattern.part): Cell(
+                _shown(scope, on.get(scope, ()), is_open), scope in strange
+            )
+            for scope in mine
+        }
         made.append(Row(pattern.part, ", ".join(along.spoken(pattern)), cells))
     return made
 

@@ -20,9 +20,9 @@ class _Scope:
     """A scope and what is possible on it."""
 
     things: tuple[int, ...]
-    every: int          # the candidates, a bit each, without those that accept everything
-    left: int           # those that are possible
-    needed: bool        # whether an example of this scope alone was refused
+    every: int  # the candidates, a bit each, without those that accept everything
+    left: int  # those that are possible
+    needed: bool  # whether an example of this scope alone was refused
 
 
 class Possible:
@@ -72,7 +72,10 @@ class Possible:
     @property
     def progress(self) -> str:
         """How far it is, for people."""
-        return (f"{self.finished} of {len(self._scopes)} groups finished; at most {self.most} more question{'s' if self.most != 1 else ''}")
+        return (
+            f"{self.finished} of {len(self._scopes)} groups finished; at most {self.most} more "
+            f"question{'s' if self.most != 1 else ''}"
+        )
 
     @property
     def settled(self) -> int:
@@ -83,7 +86,9 @@ class Possible:
         """A scope with all its candidates."""
         ranges = tuple(self.vocabulary.coding.ranges[thing] for thing in things)
         if ranges not in self._every:
-            self._every[ranges] = self.vocabulary.closings[len(things)].different_within(self.vocabulary.inside(things))
+            self._every[ranges] = self.vocabulary.closings[len(things)].different_within(
+                self.vocabulary.inside(things)
+            )
         return _Scope(things, self._every[ranges], self._every[ranges], False)
 
     def _share(self, scope: _Scope) -> tuple[int, int]:
@@ -130,7 +135,9 @@ class Possible:
         self.answers.append((values, yes))
         self._undo.append(changes)
 
-    def _change(self, scope: _Scope, left: int, needed: bool, changes: list[tuple[_Scope, int, bool]]) -> None:
+    def _change(
+        self, scope: _Scope, left: int, needed: bool, changes: list[tuple[_Scope, int, bool]]
+    ) -> None:
         """Sets what is possible on a scope, and keeps the sums in step."""
         changes.append((scope, scope.left, scope.needed))
         self._set(scope, left, needed)
@@ -206,7 +213,11 @@ class Possible:
         it.
         """
         open_by = self._open_by_yes()
-        return [k for k, (values, yes) in enumerate(self.answers) if not yes and not self._explained(values, open_by)]
+        return [
+            k
+            for k, (values, yes) in enumerate(self.answers)
+            if not yes and not self._explained(values, open_by)
+        ]
 
     def _open_by_yes(self) -> dict[tuple[int, ...], int]:
         """On each scope the candidates that no accepted example violates."""
@@ -237,13 +248,25 @@ class Possible:
     def _guilty_yes(self, clash: list[int]) -> list[int]:
         """The accepted answers that may be turned round."""
         alone = self._ruled_out_once()
-        rejecting = [{scope.things: scope.every & ~accepting for scope, accepting in self._within(self.answers[k][0])} for k in clash]
+        rejecting = [
+            {
+                scope.things: scope.every & ~accepting
+                for scope, accepting in self._within(self.answers[k][0])
+            }
+            for k in clash
+        ]
         found = []
         for k, (values, yes) in enumerate(self.answers):
             if not yes:
                 continue
-            regained = {scope.things: alone[scope.things] & ~accepting for scope, accepting in self._within(values)}
-            if any(regained.values()) and all(any(regained.get(things, 0) & bits for things, bits in one.items()) for one in rejecting):
+            regained = {
+                scope.things: alone[scope.things] & ~accepting
+                for scope, accepting in self._within(values)
+            }
+            if any(regained.values()) and all(
+                any(regained.get(things, 0) & bits for things, bits in one.items())
+                for one in rejecting
+            ):
                 found.append(k)
         return found
 

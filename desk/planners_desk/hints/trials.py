@@ -71,9 +71,8 @@ class Figures:
     slips: int  # how many were planted
     noticed: int  # after how many of them the session collapsed
     late: bool = False  # whether the time was over before all was tried
-    beyond: int | None = (
-        None  # questions so far of the trial that was under way then; None where none was
-    )
+    # questions so far of the trial that was under way then; None where none was
+    beyond: int | None = None
 
     @property
     def notices(self) -> bool:
@@ -243,8 +242,8 @@ def network_text(words: Vocabulary, network: Drawn) -> bytes:
 def played(
     words: Vocabulary, program: Program, plan: str, network: Drawn, clock: Clock | None = None
 ) -> list[str]:
-    """The lines of the questions that a plan asks where the network answers; `TimeOver` has the lines
-    so far."""
+    """The lines of the questions that a plan asks where the network answers; `TimeOver` has the
+    lines so far."""
     with tempfile.TemporaryDirectory(dir=MEMORY if os.path.isdir(MEMORY) else None) as folder:
         journal = os.path.join(folder, "trial.journal")
         made = program.call([journal, "new", "--plan", plan], words.json.encode(), clock)

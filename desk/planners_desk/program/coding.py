@@ -1,9 +1,11 @@
-"""Numbers for values, such that what each thing may take is one range of numbers, as the program wants it.
+"""Numbers for values, such that what each thing may take is one range of numbers, as the program
+wants it.
 
-Three ways are tried. Shared: all things have the same number for a value, and the values are put in an order in which what
-each thing may take stands together. Apart: each thing has numbers of its own, so that a word that names two things says nothing
-of others. Hulls: shared, in the order of the case, where a thing's range may hold values that it mustn't take; these are then
-ruled out by a rule.
+Three ways are tried. Shared: all things have the same number for a value, and the values are put in
+an order in which what each thing may take stands together. Apart: each thing has numbers of its
+own, so that a word that names two things says nothing of others. Hulls: shared, in the order of the
+case, where a thing's range may hold values that it mustn't take; these are then ruled out by a
+rule.
 """
 
 from __future__ import annotations
@@ -13,7 +15,8 @@ from dataclasses import dataclass
 
 from ..case.model import Case
 
-# how many values the program takes where scopes have so many variables: all tuples are to be at most 65,536
+# how many values the program takes where scopes have so many variables: all tuples are to be at
+# most 65,536
 MOST_BY_ARITY = {1: 64, 2: 64, 3: 40, 4: 16}
 MOST_STEPS = 20_000
 
@@ -22,11 +25,13 @@ MOST_STEPS = 20_000
 class Coding:
     """Numbers from 1 for values."""
 
-    value_of: tuple[int, ...]               # the value of number k + 1
-    number_of: tuple[dict[int, int], ...]   # for each thing, the numbers of values; of all in its range
-    ranges: tuple[tuple[int, int], ...]     # for each thing, its lowest and highest number
-    owner_of: tuple[int, ...]               # the thing whose number k + 1 is, where things are apart; else ()
-    loose: tuple[int, ...]                  # things whose range holds values that they mustn't take
+    value_of: tuple[int, ...]  # the value of number k + 1
+    number_of: tuple[
+        dict[int, int], ...
+    ]  # for each thing, the numbers of values; of all in its range
+    ranges: tuple[tuple[int, int], ...]  # for each thing, its lowest and highest number
+    owner_of: tuple[int, ...]  # the thing whose number k + 1 is, where things are apart; else ()
+    loose: tuple[int, ...]  # things whose range holds values that they mustn't take
 
     @property
     def size(self) -> int:
@@ -76,8 +81,8 @@ def shared(each: Sequence[Sequence[int]], order: Sequence[int]) -> Coding:
 def together(values: Sequence[int], sets: Sequence[set[int]]) -> list[int] | None:
     """An order of the values in which each set stands together; None where none is found.
 
-    Values that lie in the same sets stay together, so blocks of them are put in order, by trying each in turn. A block may come
-    next where each set that has begun and isn't whole yet holds it.
+    Values that lie in the same sets stay together, so blocks of them are put in order, by trying
+    each in turn. A block may come next where each set that has begun and isn't whole yet holds it.
     """
     kinds = [some for some in {frozenset(one) for one in sets} if len(some) < len(values)]
     blocks: dict[tuple[bool, ...], list[int]] = {}

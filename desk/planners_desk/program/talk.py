@@ -1,4 +1,5 @@
-"""Talks with the program `acquire` through the project's client for Python, and tells its faults for people."""
+"""Talks with the program `acquire` through the project's client for Python, and tells its faults
+for people."""
 
 from __future__ import annotations
 
@@ -111,7 +112,9 @@ class Program(acquire.Program):
         found = shutil.which("acquire")
         if found:
             return cls(found)
-        raise Fault("the program acquire isn't there: name it by --acquire PROGRAM or in DESK_ACQUIRE")
+        raise Fault(
+            "the program acquire isn't there: name it by --acquire PROGRAM or in DESK_ACQUIRE"
+        )
 
     def call(
         self, words: Sequence[str], given: bytes = b"", deadline: Deadline | None = None

@@ -12,8 +12,8 @@ class Html(str):
 
 
 def element(tag: str, /, *inside: str, **attributes: str | bool | None) -> Html:
-    """An element; `class_` is its class and `http_equiv` its `http-equiv`, an attribute of `True` has no value, one of None or
-    False isn't there."""
+    """An element; `class_` is its class and `http_equiv` its `http-equiv`, an attribute of `True`
+    has no value, one of None or False isn't there."""
     words = [tag]
     for key, value in attributes.items():
         name = key.rstrip("_").replace("_", "-")
@@ -27,4 +27,6 @@ def element(tag: str, /, *inside: str, **attributes: str | bool | None) -> Html:
 
 def joined(*inside: str) -> Html:
     """Pieces one after the other, the texts among them escaped."""
-    return Html("".join(piece if isinstance(piece, Html) else html.escape(piece) for piece in inside))
+    return Html(
+        "".join(piece if isinstance(piece, Html) else html.escape(piece) for piece in inside)
+    )

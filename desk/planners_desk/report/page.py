@@ -1,4 +1,5 @@
-"""`desk report`: one page of HTML, without script, with the rules, plans and answers of a session."""
+"""`desk report`: one page of HTML, without script, with the rules, plans and answers of a
+session."""
 
 from __future__ import annotations
 
@@ -25,19 +26,24 @@ from .markup import Html, element, joined
 from .style import STYLE
 
 # how each page begins, by which desk knows its own
-START = '<!DOCTYPE html>\n<html lang="en"><head><meta charset="utf-8"><meta name="generator" content="desk">'
+START = (
+    '<!DOCTYPE html>\n<html lang="en"><head><meta charset="utf-8"><meta name="generator"'
+    ' content="desk">'
+)
 # what a browser may do for a page: nothing but show it in its own style
 POLICY = "default-src 'none'; style-src 'unsafe-inline'"
 # how pages began before they had this mark: desk's title, and its own style right behind
-OLD_START = re.compile(rb'<!DOCTYPE html>\n<html lang="en"><head><meta charset="utf-8"><meta name="viewport" '
-                       rb'content="width=device-width, initial-scale=1"><title>[^<]*</title><style>\n'
-                       rb':root\{color-scheme:light dark;--ground:#ffffff;--text:#1c2330;')
-ENDS = (".case", ".journal", ".session", ".certificate")    # of files that are no pages
+OLD_START = re.compile(
+    rb'<!DOCTYPE html>\n<html lang="en"><head><meta charset="utf-8"><meta name="viewport" '
+    rb'content="width=device-width, initial-scale=1"><title>[^<]*</title><style>\n'
+    rb":root\{color-scheme:light dark;--ground:#ffffff;--text:#1c2330;"
+)
+ENDS = (".case", ".journal", ".session", ".certificate")  # of files that are no pages
 MOST_PLANS = 4
-SECONDS_FOR_PLANS = 20.0    # that are looked for, all together
-SECONDS_FOR_BROKEN = 40.0   # for those that break one rule alone, all together
-MOST_COLUMNS = 10           # of a table on a page of paper; with more it is turned, or a list
-MOST_ROWS = 12              # of a list in one column
+SECONDS_FOR_PLANS = 20.0  # that are looked for, all together
+SECONDS_FOR_BROKEN = 40.0  # for those that break one rule alone, all together
+MOST_COLUMNS = 10  # of a table on a page of paper; with more it is turned, or a list
+MOST_ROWS = 12  # of a list in one column
 
 
 def main(path: str, options: argparse.Namespace) -> int:
@@ -63,11 +69,15 @@ def named_for_a_page(case: str, file: str) -> None:
     own = [os.path.realpath(one) for one in (case, journal_of(case), kept_of(journal_of(case)))]
     if os.path.realpath(file) in own or file.endswith(ENDS):
         whose = "a case, its session or a certificate"
-        raise Fault(f"{file} is called as {whose} is, so no page is written there: name it {os.path.splitext(case)[0]}.html")
+        raise Fault(
+            f"{file} is called as {whose} is, so no page is written there: name it "
+            f"{os.path.splitext(case)[0]}.html"
+        )
 
 
 def is_page(head: bytes) -> bool:
-    """Whether a file that begins so is a page of desk's, also one that was written before pages had their mark."""
+    """Whether a file that begins so is a page of desk's, also one that was written before pages had
+    their mark."""
     return head.startswith(START.encode()) or OLD_START.match(head) is not None
 
 
@@ -77,6 +87,7 @@ def is_certificate(head: bytes) -> bool:
 
 
 # ---------------------------------------------------------------- the certificate
+
 
 class Certificate:
     """A file that another can check without trusting this session."""
@@ -100,27 +111,54 @@ def certified(session: Session, ending: Ending, name: str) -> Certificate | None
 
 # ---------------------------------------------------------------- the page
 
+
 def page(session: Session, ending: Ending, certificate: Certificate | None) -> str:
     """The whole page."""
     return whole(session.case.title, content(session, ending, certificate))
 
 
-def content(session: Session, ending: Ending, certificate: Certificate | None, clock: Callable[[float], Clock] = Clock) -> Html:
-    """What the page shows. Plans are looked for as long as a clock says, which is made for so many seconds."""
+def content(
+    session: Session,
+    ending: Ending,
+    certificate: Certificate | None,
+    clock: Callable[[float], Clock] = Clock,
+) -> Html:
+    """What the page shows. Plans are looked for as long as a clock says, which is made for so many
+    seconds."""
     done = ending.word == "converged"
-    learned = ending.learned if done else () if ending.word == "collapsed" else tuple(session.learned())
-    found = grouped(session.vocabulary, learned, session.reduced() if done else None, session.answers)
-    ruled = () if ending.word == "collapsed" else (section("The rules" if done else "Rules so far", *rules(found)),
-                                                   *beside(session.case), *(plans(session, found, clock) if done else ()), *pattern_view(session))
-    return joined(element("h1", session.case.title), element("p", state_text(session, ending), class_="dim"), *ruled, answers(session),
-                  proof(certificate, ending.word))
+    learned = (
+        ending.learned if done else () if ending.word == "collapsed" else tuple(session.learned())
+    )
+    found = grouped(
+        session.vocabulary, learned, session.reduced() if done else None, session.answers
+    )
+    ruled = (
+        ()
+        if ending.word == "collapsed"
+        else (
+            section("The rules" if done else "Rules so far", *rules(found)),
+            *beside(session.case),
+            *(plans(session, found, clock) if done else ()),
+            *pattern_view(session),
+        )
+    )
+    return joined(
+        element("h1", session.case.title),
+        element("p", state_text(session, ending), class_="dim"),
+        *ruled,
+        answers(session),
+        proof(certificate, ending.word),
+    )
 
 
 def whole(title: str, body: Html) -> str:
     """A page of its own, in its own style."""
-    head = joined(element("meta", http_equiv="Content-Security-Policy", content=POLICY),
-                  element("meta", name="viewport", content="width=device-width, initial-scale=1"),
-                  element("title", title), element("style", Html(STYLE)))
+    head = joined(
+        element("meta", http_equiv="Content-Security-Policy", content=POLICY),
+        element("meta", name="viewport", content="width=device-width, initial-scale=1"),
+        element("title", title),
+        element("style", Html(STYLE)),
+    )
     return START + head + "</head>" + element("body", element("main", body)) + "</html>\n"
 
 
@@ -137,7 +175,11 @@ def state_text(session: Session, ending: Ending) -> str:
     if by[""] != count:
         said += f", {by['']} of them given one by one"
         said += f", {by[AGAIN]} again as before you went back" if by[AGAIN] else ""
-        said += f", {by[ALWAYS] + by[CARRIED]} said beforehand or carried over" if by[ALWAYS] + by[CARRIED] else ""
+        said += (
+            f", {by[ALWAYS] + by[CARRIED]} said beforehand or carried over"
+            if by[ALWAYS] + by[CARRIED]
+            else ""
+        )
     if ending.word == "converged":
         return f"Nothing is left open that the words of the case can say, after {said}."
     if ending.word == "collapsed":
@@ -163,26 +205,57 @@ def rule(said: Sentence) -> Html:
 def beside(case: Case) -> Iterator[Html]:
     """What the case says beside its rules, in the person's own words."""
     if case.known:
-        yield section("Said, not learned", element("p", "These were never asked about. Sample plans keep them.", class_="dim"),
-                      element("ul", *(element("li", one.text) for one in case.known), class_="rules"))
+        yield section(
+            "Said, not learned",
+            element("p", "These were never asked about. Sample plans keep them.", class_="dim"),
+            element("ul", *(element("li", one.text) for one in case.known), class_="rules"),
+        )
     if case.notes:
-        yield section("Notes", element("p", "These are for people alone; no plan was held against them.", class_="dim"),
-                      element("ul", *(element("li", note) for note in case.notes), class_="rules"))
+        yield section(
+            "Notes",
+            element(
+                "p", "These are for people alone; no plan was held against them.", class_="dim"
+            ),
+            element("ul", *(element("li", note) for note in case.notes), class_="rules"),
+        )
 
 
 # ---------------------------------------------------------------- plans
 
-def plans(session: Session, found: Sequence[Sentence], clock: Callable[[float], Clock]) -> Iterator[Html]:
+
+def plans(
+    session: Session, found: Sequence[Sentence], clock: Callable[[float], Clock]
+) -> Iterator[Html]:
     """Plans that the rules allow, and for each sentence one that breaks it alone."""
     if solver.name() is None:
-        yield section("Plans", element("p", "None are drawn, since no SAT solver is installed: cadical, minisat or clasp."))
+        yield section(
+            "Plans",
+            element(
+                "p", "None are drawn, since no SAT solver is installed: cadical, minisat or clasp."
+            ),
+        )
         return
-    some = solver.far(session.program, session.vocabulary, session.journal, MOST_PLANS,
-                      clock(SECONDS_FOR_PLANS))
-    shown = [drawn(session, plan.values, f"Plan {number}{judging.apart_text(plan)}") for number, plan in enumerate(some, 1)]
-    hint = element("p", "If one of these is wrong, an answer was a slip, or the words of the case can't say why.", class_="dim")
-    yield section("Plans that the rules allow", hint,
-                  element("div", *shown, class_="side") if shown else element("p", "No plan was found that satisfies all rules."))
+    some = solver.far(
+        session.program, session.vocabulary, session.journal, MOST_PLANS, clock(SECONDS_FOR_PLANS)
+    )
+    shown = [
+        drawn(session, plan.values, f"Plan {number}{judging.apart_text(plan)}")
+        for number, plan in enumerate(some, 1)
+    ]
+    hint = element(
+        "p",
+        "If one of these is wrong, an answer was a slip, or the words of the case can't say why.",
+        class_="dim",
+    )
+    yield section(
+        "Plans that the rules allow",
+        hint,
+        (
+            element("div", *shown, class_="side")
+            if shown
+            else element("p", "No plan was found that satisfies all rules.")
+        ),
+    )
     clauses = solver.clauses_of(session.program, session.vocabulary, session.journal)
     left = clock(SECONDS_FOR_BROKEN)
     left.doing("looking for plans that break one rule alone")
@@ -194,14 +267,24 @@ def plans(session: Session, found: Sequence[Sentence], clock: Callable[[float], 
         else:
             broken.append(drawn(session, one.values, f"Refused: {one.rule.text}", one.marks))
     if broken:
-        hint = element("p", "Each of these plans breaks one rule, in the marked cells, and keeps all others. If one is right, an answer was a slip, "
-                       "or the words of the case can't say why.", class_="dim")
+        hint = element(
+            "p",
+            (
+                "Each of these plans breaks one rule, in the marked cells, and keeps all others. If"
+                " one is right, an answer was a slip, or the words of the case can't say why."
+            ),
+            class_="dim",
+        )
         yield section("What each rule alone refuses", hint, element("div", *broken, class_="side"))
     if without:
-        yield section("Rules that no plan was found to break alone", element("ul", *without, class_="rules"))
+        yield section(
+            "Rules that no plan was found to break alone", element("ul", *without, class_="rules")
+        )
 
 
-def drawn(session: Session, values: Values, caption: str, marks: dict[int, str] | None = None) -> Html:
+def drawn(
+    session: Session, values: Values, caption: str, marks: dict[int, str] | None = None
+) -> Html:
     """A plan as a table or a list with its caption."""
     picture = Picture(session.case, values, marks or {})
     return element("figure", element("figcaption", caption), table(picture))
@@ -214,14 +297,38 @@ def table(picture: Picture) -> Html:
         grid = grid.turned() if len(grid.rows) <= MOST_COLUMNS else None
     if grid:
         return grid_table(grid)
-    cells = [(picture.case.things[thing].name, picture.label(thing), picture.marks.get(thing) == CLASH) for thing in sorted(picture.values)]
+    cells = [
+        (picture.case.things[thing].name, picture.label(thing), picture.marks.get(thing) == CLASH)
+        for thing in sorted(picture.values)
+    ]
     if len(cells) > MOST_ROWS:
-        return element("ul", *(element("li", f"{name}: ", element("span", label, class_="clash" if clash else None)) for name, label, clash in cells),
-                       class_="cells")
-    rows = [element("tr", element("th", name, scope="row"), element("td", label, class_="clash" if clash else None))
-            for name, label, clash in cells]
-    return element("table", element("thead", element("tr", element("th", "what", scope="col"), element("th", "value", scope="col"))),
-                   element("tbody", *rows), class_="plan")
+        return element(
+            "ul",
+            *(
+                element(
+                    "li", f"{name}: ", element("span", label, class_="clash" if clash else None)
+                )
+                for name, label, clash in cells
+            ),
+            class_="cells",
+        )
+    rows = [
+        element(
+            "tr",
+            element("th", name, scope="row"),
+            element("td", label, class_="clash" if clash else None),
+        )
+        for name, label, clash in cells
+    ]
+    return element(
+        "table",
+        element(
+            "thead",
+            element("tr", element("th", "what", scope="col"), element("th", "value", scope="col")),
+        ),
+        element("tbody", *rows),
+        class_="plan",
+    )
 
 
 def grid_table(grid: Grid) -> Html:
@@ -237,14 +344,19 @@ def grid_table(grid: Grid) -> Html:
 def grid_cell(lines: Cells) -> Html:
     """What stands at one place, a line each."""
     inside = [piece for cell in lines if cell.text for piece in (element("br"), cell.text)][1:]
-    return element("td", *inside, class_="clash" if any(cell.kind == CLASH for cell in lines) else None)
+    return element(
+        "td", *inside, class_="clash" if any(cell.kind == CLASH for cell in lines) else None
+    )
 
 
 # ---------------------------------------------------------------- the pattern view
 
+
 def pattern_view(session: Session) -> Iterator[Html]:
     """In a grid case: each pattern's rules along the grid, the odd ones marked."""
-    rows = patterns.rows(session.vocabulary, session.learned(), session.answers, session.possible.open)
+    rows = patterns.rows(
+        session.vocabulary, session.learned(), session.answers, session.possible.open
+    )
     by_part: dict[int, list[patterns.Row]] = {}
     for row in rows:
         by_part.setdefault(row.part, []).append(row)
@@ -254,12 +366,30 @@ def pattern_view(session: Session) -> Iterator[Html]:
     for part, mine in by_part.items():
         members = session.case.thing_parts[part].members
         head = element("tr", element("td"), *(element("th", name, scope="col") for name in members))
-        lines = [element("tr", element("th", row.name, scope="row"), *(pattern_cell(row, member) for member in range(len(members))))
-                 for row in mine]
-        tables.append(element("table", element("thead", head), element("tbody", *lines), class_="plan pattern"))
-    hint = element("p", "A marked cell is other than most of its row. That may be right; if it isn't, an answer was a slip, or the words "
-                   "of the case can't say it.", class_="dim")
-    yield section("The rules along the grid", hint, *(element("div", one, class_="wide") for one in tables))
+        lines = [
+            element(
+                "tr",
+                element("th", row.name, scope="row"),
+                *(pattern_cell(row, member) for member in range(len(members))),
+            )
+            for row in mine
+        ]
+        tables.append(
+            element(
+                "table", element("thead", head), element("tbody", *lines), class_="plan pattern"
+            )
+        )
+    hint = element(
+        "p",
+        (
+            "A marked cell is other than most of its row. That may be right; if it isn't, an answer"
+            " was a slip, or the words of the case can't say it."
+        ),
+        class_="dim",
+    )
+    yield section(
+        "The rules along the grid", hint, *(element("div", one, class_="wide") for one in tables)
+    )
 
 
 def pattern_cell(row: patterns.Row, member: int) -> Html:
@@ -267,10 +397,13 @@ def pattern_cell(row: patterns.Row, member: int) -> Html:
     cell = row.cells.get(member)
     if cell is None:
         return element("td", class_="none")
-    return element("td", cell.text + (" (odd)" if cell.odd else ""), class_="odd" if cell.odd else None)
+    return element(
+        "td", cell.text + (" (odd)" if cell.odd else ""), class_="odd" if cell.odd else None
+    )
 
 
 # ---------------------------------------------------------------- answers and certificate
+
 
 def answers(session: Session) -> Html:
     """All answers, folded away."""
@@ -279,21 +412,54 @@ def answers(session: Session) -> Html:
         word = yes_no(answer.yes)
         by = f"{BY[answer.said.by]}: {answer.said.why}" if answer.said else "asked"
         shown = sentence(Picture(session.case, answer.question.values))
-        rows.append(element("tr", element("th", str(answer.question.number), scope="row"), element("td", word, class_=word),
-                            element("td", shown), element("td", by)))
-    head = element("tr", *(element("th", name, scope="col") for name in ("question", "answer", "what was shown", "how it came")))
-    folded = element("details", element("summary", f"All {len(rows)} answers"),
-                     element("div", element("table", element("thead", head), element("tbody", *rows), class_="answers"), class_="wide"))
+        rows.append(
+            element(
+                "tr",
+                element("th", str(answer.question.number), scope="row"),
+                element("td", word, class_=word),
+                element("td", shown),
+                element("td", by),
+            )
+        )
+    head = element(
+        "tr",
+        *(
+            element("th", name, scope="col")
+            for name in ("question", "answer", "what was shown", "how it came")
+        ),
+    )
+    folded = element(
+        "details",
+        element("summary", f"All {len(rows)} answers"),
+        element(
+            "div",
+            element("table", element("thead", head), element("tbody", *rows), class_="answers"),
+            class_="wide",
+        ),
+    )
     return section("What was asked", folded)
 
 
 def proof(certificate: Certificate | None, ended: str) -> Html:
     """How another can check it."""
     if certificate is None:
-        why = {"converged": "it is too large", "collapsed": "the answers clash"}.get(ended, "the session isn't finished")
+        why = {"converged": "it is too large", "collapsed": "the answers clash"}.get(
+            ended, "the session isn't finished"
+        )
         return section("Checking it", element("p", f"There is no certificate, since {why}."))
-    says = ("Whoever has the program can check, without trusting this page, that these answers leave no other rules than those of the "
-            "certificate's network:")
-    return section("Checking it", element("p", says), element("pre", element("code", certificate.command)),
-                   element("p", "The certificate is the file ", element("code", os.path.basename(certificate.name)), ", and its sha256 is"),
-                   element("pre", element("code", certificate.digest), class_="digest"))
+    says = (
+        "Whoever has the program can check, without trusting this page, that these answers leave no"
+        " other rules than those of the certificate's network:"
+    )
+    return section(
+        "Checking it",
+        element("p", says),
+        element("pre", element("code", certificate.command)),
+        element(
+            "p",
+            "The certificate is the file ",
+            element("code", os.path.basename(certificate.name)),
+            ", and its sha256 is",
+        ),
+        element("pre", element("code", certificate.digest), class_="digest"),
+    )

@@ -1,4 +1,5 @@
-"""How the page looks: on paper of A4, on a light and on a dark screen. Each pair of colours has a contrast of 4.5 and more."""
+"""How the page looks: on paper of A4, on a light and on a dark screen. Each pair of colours has a
+contrast of 4.5 and more."""
 
 # name: (on a light screen and on paper, on a dark screen)
 COLOURS = {
@@ -14,8 +15,15 @@ COLOURS = {
     "odd-ground": ("#fff3c4", "#40350b"),
 }
 # text, and the grounds that it stands on
-PAIRS = (("text", "ground"), ("text", "head"), ("text", "odd-ground"), ("dim", "ground"), ("clash", "clash-ground"), ("yes", "ground"),
-         ("no", "ground"))
+PAIRS = (
+    ("text", "ground"),
+    ("text", "head"),
+    ("text", "odd-ground"),
+    ("dim", "ground"),
+    ("clash", "clash-ground"),
+    ("yes", "ground"),
+    ("no", "ground"),
+)
 
 
 def _colours(place: int) -> str:
@@ -51,9 +59,11 @@ pre{{white-space:pre-wrap;overflow-wrap:anywhere}}
 summary{{cursor:pointer}}
 li,figcaption,h1,h2,p{{overflow-wrap:anywhere}}
 td,th{{overflow-wrap:break-word}}
-@media screen and (max-width:40rem){{.plan{{font-size:.75rem}}.plan td,.plan th,.plan thead th{{padding:.1rem .25rem;min-width:0}}}}
+@media screen and (max-width:40rem){{.plan{{font-size:.75rem}}\
+.plan td,.plan th,.plan thead th{{padding:.1rem .25rem;min-width:0}}}}
 @media print{{
-body{{font-size:10.5pt}}main{{max-width:none;padding:0}}figure,tr,li{{break-inside:avoid}}h2{{break-after:avoid}}
+body{{font-size:10.5pt}}main{{max-width:none;padding:0}}\
+figure,tr,li{{break-inside:avoid}}h2{{break-after:avoid}}
 thead{{display:table-header-group}}figure,.wide{{overflow:visible}}
 }}
 """

@@ -126,9 +126,11 @@ def contradicted(session: Session) -> Fault:
     question, path = session.answers[place].question, session.case.path
     shown = Picture(session.case, {thing: question.values[thing] for thing in sorted(rule.things)})
     return Fault(
-        f"{path}: a line `always` says that {rule.text}, and your yes to question "
-        f"{question.number} ({sentence(shown)}) says otherwise. If the answer is right, take the "
-        "line out, and the session goes on as it was; else go back to that answer",
+        (
+            f"{path}: a line `always` says that {rule.text}, and your yes to question "
+            f"{question.number} ({sentence(shown)}) says otherwise. If the answer is right, take "
+            "the line out, and the session goes on as it was; else go back to that answer"
+        ),
         ways=[Way.ASK],
         path=path,
     )

@@ -121,9 +121,7 @@ class Asking:
         answer = self.session.answers[place]
         self.sitting.back_to(place)
         self.before, self.taught, self._told = None, NOTHING, set()
-        taken = TAKEN_BACK.format(
-            yes_no=answers.yes_no(answer.yes), number=answer.question.number
-        )
+        taken = TAKEN_BACK.format(yes_no=answers.yes_no(answer.yes), number=answer.question.number)
         self.notes = [taken + then]
 
     def _advance(self) -> None:

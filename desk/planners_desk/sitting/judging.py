@@ -82,7 +82,11 @@ def apart_text(plan: solver.Plan) -> str:
     if plan.apart is None:
         return ""
     places = len(plan.values)
-    far = f"all {places} places" if plan.apart == places else f"{plan.apart} of {places} places at least"
+    far = (
+        f"all {places} places"
+        if plan.apart == places
+        else f"{plan.apart} of {places} places at least"
+    )
     return f", which differs from each one before in {far}"
 
 

@@ -12,7 +12,8 @@ from . import handover
 
 
 def locked(journal: str) -> int:
-    """The journal, opened and locked; a fault where another desk has it. What `desk carry` has made for it is put there first."""
+    """The journal, opened and locked; a fault where another desk has it. What `desk carry` has made
+    for it is put there first."""
     while True:
         file = _opened(journal)
         try:
@@ -26,13 +27,15 @@ def locked(journal: str) -> int:
         except BaseException:
             os.close(file)
             raise
-        os.close(file)      # it was moved or removed in the meantime, and another one is there
+        os.close(file)  # it was moved or removed in the meantime, and another one is there
 
 
 def _opened(journal: str) -> int:
     """The journal, which is made where there is none, for writing where that may be."""
     try:
-        return files.only_file(os.open(journal, os.O_RDWR | os.O_CREAT | os.O_NONBLOCK, 0o666), journal)
+        return files.only_file(
+            os.open(journal, os.O_RDWR | os.O_CREAT | os.O_NONBLOCK, 0o666), journal
+        )
     except OSError as error:
         if isinstance(error, PermissionError):
             with contextlib.suppress(OSError):

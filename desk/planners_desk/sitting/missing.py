@@ -170,9 +170,7 @@ class _Seen:
 # ---------------------------------------------------------------- the forms of words
 
 
-def forms(
-    case: Case, setting: Setting, refused: Sequence[Values], largest: int
-) -> Iterator[str]:
+def forms(case: Case, setting: Setting, refused: Sequence[Values], largest: int) -> Iterator[str]:
     """The words that may be missing, of so many things at most: about a part first, then about no
     value, then about the values of the refused examples."""
     values = list(dict.fromkeys(value for some in refused for value in some.values()))
@@ -249,12 +247,16 @@ def told(session: Session, search: Search) -> list[str]:
     if not search.words and not search.whole:
         return [*said, "No word that explains it was found in two seconds; not all were tried."]
     if not search.words:
-        sizes = [len(search.things)] if search.things else [len(group.things) for group in case.groups]
+        sizes = (
+            [len(search.things)] if search.things else [len(group.things) for group in case.groups]
+        )
         about = " or ".join(WORDS_OF[size] for size in range(1, max(sizes) + 1))
         return [
             *said,
-            f"No word of the catalogue about {about} explains it. Is it a count, as how many may have "
-            "one value? Or is it about more things?",
+            (
+                f"No word of the catalogue about {about} explains it. Is it a count, as how many "
+                "may have one value? Or is it about more things?"
+            ),
         ]
     offered = ", ".join(f"`{form}`" for form in search.words)
     write = "; ".join(f"`{line}`" for line in lines(case, search.words[0], search.things))
@@ -262,6 +264,9 @@ def told(session: Session, search: Search) -> list[str]:
     more = "" if search.whole else " There may be others: the search was cut after two seconds."
     return [
         *said,
-        f"{one} would explain it: {offered}.{more} Where it is what you mean, write it into the case "
-        f"as a line, {write}; then your answers are taken over, and only what is new is asked",
+        (
+            f"{one} would explain it: {offered}.{more} Where it is what you mean, write it into the"
+            f" case as a line, {write}; then your answers are taken over, and only what is new is "
+            "asked"
+        ),
     ]

@@ -1,5 +1,6 @@
-"""What is said of a case before the first question: how large it is, what it can't say, plans that it
-allows so far, and how many questions will come. Each is data, which a face puts into its own form.
+"""What is said of a case before the first question: how large it is, what it can't say, plans that
+it allows so far, and how many questions will come. Each is data, which a face puts into its own
+form.
 """
 
 from __future__ import annotations
