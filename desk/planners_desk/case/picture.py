@@ -1,7 +1,7 @@
 """A plan, or a part of one, as it is to be looked at: its cells in the case's grid, and how they
 are marked.
 
-Marks are letters as well as colours, since a terminal may have none. How it is drawn on a terminal
+Marks are signs as well as colours, since a terminal may have none. How it is drawn on a terminal
 is in `drawing.py`, on a page in `page.py`.
 """
 
@@ -31,9 +31,6 @@ class Picture:
     case: Case
     values: Values
     marks: Mapping[int, str] = field(default_factory=dict)
-    letters: Mapping[int, str] = field(
-        default_factory=dict
-    )  # keys by which things can be pointed at
 
     @property
     def part(self) -> bool:
@@ -41,13 +38,12 @@ class Picture:
         return len(self.values) < len(self.case.things)
 
     def label(self, thing: int) -> str:
-        """The value of a thing, with its key and the letter of its mark."""
+        """The value of a thing, with the sign of its mark."""
         return self.called(thing, self.case.label(self.values[thing]))
 
     def called(self, thing: int, text: str) -> str:
-        """What stands for a thing, with its key in front and the letter of its mark behind."""
-        key = f"{self.letters[thing]}) " if thing in self.letters else ""
-        return key + text + SUFFIX.get(self.marks.get(thing, ""), "")
+        """What stands for a thing, with the sign of its mark behind."""
+        return text + SUFFIX.get(self.marks.get(thing, ""), "")
 
     def kind(self, thing: int) -> str:
         """How the value of a thing is drawn. In a full plan only what has a mark is drawn otherwise

@@ -8,11 +8,12 @@ from ..hints import solver
 from ..hints.along import and_list
 from ..hints.sentences import Sentence, grouped
 from ..sitting import judging, missing
-from ..sitting.answers import MOST_VALUES, answer_text, last_own, odd_ones, open_lines
+from ..sitting.answers import last_own, listed, odd_ones, open_lines
 from ..sitting.session import Session, said_by
 from . import views, ways
-from .face import Block, Face, Sheet, patience
-from .goback import Choice, sure
+from .face import Face, Sheet, patience
+from .goback import chosen, sure
+from .letters import Letters, Listed
 from .review import MISSING, Review
 
 ALL_SAID = "Nothing is left that your words can say and your answers don't decide. "
@@ -25,6 +26,11 @@ LIFTED = (
     "It may also be that no answer was wrong: {words} {speak} of fewer things than are asked about "
     "together, and in plan {plan} a right no to a part of a plan can then end so. In plan scopes "
     "it can't: `desk ask --plan scopes` in a new session."
+)
+ONE_SLIP = "If one answer alone was the slip, it is one of these; turned round, all others agree:"
+MORE_SLIPS = (
+    "No single answer explains it: more than one was a slip, or a word is missing. Go back with b, "
+    "one by one."
 )
 LAST = (("b", "back to the last answer"), ("s", "all answers"), ("q", "stop"))
 
@@ -48,15 +54,17 @@ class Collapse:
 
     def __init__(self, session: Session, face: Face) -> None:
         self.session, self.face = session, face
-        self.suspects = session.possible.suspects()
-        self.choice = Choice(session, self.suspects, LAST)
+        self.clash = judging.clash(session)
+        self.suspects = listed(self.clash.suspects)
+        self.letters = Letters(self.suspects.targets, LAST)
         with patience(face, "looking for a word that would explain the answers .."):
             self.lacking = ways.lacking(session, missing.lacking(session))
 
     def run(self) -> int | None:
         """The place of the answer to go back to, or None."""
+        blocks = self.blocks()
         while True:
-            key, place = self.choice.put(self.face, self.sheet)
+            key, place = chosen(self.session, self.face, self.letters, "Your answers clash", blocks)
             if key == "q":
                 return None
             if key == "s":
@@ -66,15 +74,14 @@ class Collapse:
             if place is not None:
                 return place
 
-    def sheet(self) -> Sheet:
+    def blocks(self) -> list[Listed]:
         """The clash and the suspects."""
-        answers = self.session.answers
-        blocks: list[Block] = [
-            f"No rules that your words can say agree with all {len(answers)} answers. One was a "
+        clash = self.clash
+        blocks: list[Listed] = [
+            f"No rules that your words can say agree with all {clash.count} answers. One was a "
             "slip, or a word is missing."
         ]
-        for place in judging.clashing(self.session):
-            question = answers[place].question
+        for question in clash.refused:
             blocks += [
                 "",
                 (
@@ -83,40 +90,16 @@ class Collapse:
                 ),
                 Picture(self.session.case, question.values),
             ]
-        if self.suspects:
-            blocks += [
-                "",
-                (
-                    "If one answer alone was the slip, it is one of these; turned round, all others"
-                    " agree:"
-                ),
-            ]
-            blocks += [
-                f"{self.choice.letter(place)}  "
-                f"{answer_text(self.session, answers[place], MOST_VALUES)}"
-                for place in self.suspects
-            ]
+        if clash.suspects:
+            blocks += ["", ONE_SLIP, self.suspects]
         else:
-            blocks += [
-                "",
-                (
-                    "No single answer explains it: more than one was a slip, or a word is missing. "
-                    "Go back with b, one by one."
-                ),
-            ]
-        lifted = judging.lifted(self.session)
-        if lifted:
-            blocks += [
-                "",
-                LIFTED.format(
-                    words=and_list(lifted),
-                    speak="speaks" if len(lifted) == 1 else "speak",
-                    plan=self.session.plan,
-                ),
-            ]
+            blocks += ["", MORE_SLIPS]
+        if clash.lifted:
+            speak = "speaks" if len(clash.lifted) == 1 else "speak"
+            words, plan = and_list(clash.lifted), self.session.plan
+            blocks += ["", LIFTED.format(words=words, speak=speak, plan=plan)]
         lacking = "If no answer was a slip, a word is missing. " + self.lacking[0]
-        blocks += ["", lacking, *self.lacking[1:]]
-        return Sheet("Your answers clash", tuple(blocks), keys=self.choice.keys)
+        return [*blocks, "", lacking, *self.lacking[1:]]
 
     def _last(self) -> int | None:
         """The person's last answer, where they want to go back to it."""
@@ -134,14 +117,10 @@ def converged(session: Session, ending: Ending, face: Face) -> int | None:
     can = solver.name() is not None
     odd = odd_ones(session, ending.learned)
     keys = (("g", "go on to plans"),) * can + (("q", "stop"),)
-    choice = Choice(session, [place for one in odd for place in one.behind], keys)
-
-    def sheet() -> Sheet:
-        """The rules, and the odd ones with their letters as they are now."""
-        lines = (*rule_lines(found), *views.odd_lines(session, odd, choice.letter))
-        return Sheet(head, (*lines, "", ALL_SAID + (LOOK if can else NO_SOLVER)), keys=choice.keys)
-
-    key, place = choice.put(face, sheet)
+    letters = Letters(views.odd_targets(odd), keys)
+    then = ALL_SAID + (LOOK if can else NO_SOLVER)
+    blocks = (*rule_lines(found), *views.odd_blocks(odd), "", then)
+    key, place = chosen(session, face, letters, head, blocks)
     if key == "q" or place is not None:
         return place
     review = Review(session, found, face)

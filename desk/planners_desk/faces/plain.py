@@ -8,6 +8,7 @@ from typing import TextIO
 
 from ..case.picture import CHANGED, CHOSEN, CLASH, KEPT, Picture
 from .face import Sheet, keys_text
+from .letters import in_front
 
 SAID = {
     CHANGED: " (changed)",
@@ -21,9 +22,8 @@ WORDS = {"yes": "y", "no": "n", "back": "b", "quit": "q", "stop": "q", "help": "
 def picture_lines(picture: Picture) -> list[str]:
     """A line for each thing that has a value; what has changed is said in words."""
     case = picture.case
-    keys = {thing: f"{letter}  " for thing, letter in picture.letters.items()}
     return [
-        f"{keys.get(thing, '')}{case.things[thing].name}: "
+        f"{in_front(picture, thing)}{case.things[thing].name}: "
         f"{case.label(picture.values[thing])}{SAID.get(picture.marks.get(thing, ''), '')}"
         for thing in sorted(picture.values)
     ]

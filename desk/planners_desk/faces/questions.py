@@ -5,9 +5,8 @@ from __future__ import annotations
 from contextlib import AbstractContextManager
 
 from ..case.model import Ending
-from ..case.picture import CHANGED, LEFT_OUT, Picture
 from ..sitting.answers import Few
-from ..sitting.asking import Asking
+from ..sitting.asking import Asked, Asking
 from . import beforehand, end, views
 from .face import Block, Face, Sheet, patience
 
@@ -107,19 +106,16 @@ class Questions:
 
 def sheet(asking: Asking) -> Sheet:
     """A question as it is shown."""
-    question, picture = asking.question, asking.picture
-    assert question is not None
-    head = f"{asking.session.case.title}: question {question.number}"
-    if asking.is_part:
+    asked = asking.asked()
+    head = f"{asked.title}: question {asked.number}"
+    if asked.is_part:
         head += ", a part of the one before"
-    ask = PART if picture.part else WHOLE
+    ask = PART if asked.picture.part else WHOLE
     # what was taught is part of the body, so that it is read in a small window as well
-    body: list[Block] = [picture, *filter(None, [taught_text(asking.taught)])]
-    notes = (" ".join(asking.notes),) if asking.notes else ()
+    body: list[Block] = [asked.picture, *filter(None, [taught_text(asked.taught)])]
+    notes = (" ".join(asked.notes),) if asked.notes else ()
     progress = asking.session.possible.progress
-    return Sheet(
-        head, tuple(body), legend(picture), (*notes, ask), (progress,), KEYS, frozenset("y")
-    )
+    return Sheet(head, tuple(body), legend(asked), (*notes, ask), (progress,), KEYS, frozenset("y"))
 
 
 def taught_text(taught: Few) -> str:
@@ -133,9 +129,9 @@ def taught_text(taught: Few) -> str:
     )
 
 
-def legend(picture: Picture) -> str:
+def legend(asked: Asked) -> str:
     """What the marks mean, where there are some."""
-    out = sum(mark == LEFT_OUT for mark in picture.marks.values())
+    out = asked.left_out
     left = f"{out} of the last question {'is' if out == 1 else 'are'} left out" if out else ""
-    changed = "* has changed since the last question" if CHANGED in picture.marks.values() else ""
+    changed = "* has changed since the last question" if asked.changed else ""
     return "; ".join(filter(None, (changed, left)))

@@ -9,7 +9,7 @@ words of the case can't say it, and a word is looked for that can.
 
 from __future__ import annotations
 
-from collections.abc import Iterator, Sequence
+from collections.abc import Sequence
 from dataclasses import dataclass, field
 
 from ..case.picture import Picture
@@ -17,12 +17,13 @@ from ..hints.along import Things
 from ..hints.sentences import Sentence
 from ..program.talk import Clock
 from ..sitting import judging, missing
-from ..sitting.answers import MOST_VALUES, answer_text
+from ..sitting.answers import given, listed
 from ..sitting.judging import Plan
 from ..sitting.session import Session
 from . import point, ways
 from .face import Face, Sheet, moving, patience
-from .goback import Choice
+from .goback import chosen
+from .letters import Letters
 
 JUDGE = (("y", "yes, right"), ("n", "no"), ("q", "enough"))
 BEFOREHAND = (
@@ -81,10 +82,9 @@ class Review:
         values = plan.meant(cells)
         places = judging.behind(self.session, plan, values)
         if places:
-            choice = Choice(self.session, places, NONE)
-            key, place = choice.put(
-                self.face, lambda: Sheet(SLIP, tuple(self._lines(choice)), keys=choice.keys)
-            )
+            some = listed((given(self.session, place) for place in places), cut=True)
+            letters = Letters(some.targets, NONE)
+            key, place = chosen(self.session, self.face, letters, SLIP, (some,))
             if key != "o":
                 return key, place
         if judging.said_beforehand(self.session, plan):
@@ -108,14 +108,6 @@ class Review:
         return (
             ("o", known) if known is not None else point.cells(self.session, self.face, plan.values)
         )
-
-    def _lines(self, choice: Choice) -> Iterator[str]:
-        """Answers to choose from, those that have letters now."""
-        for letter, place in choice.item_of.items():
-            answer = self.session.answers[place]
-            yield f"{letter}  {answer_text(self.session, answer, MOST_VALUES)}"
-        if len(choice.item_of) < len(choice.items):
-            yield f"and {len(choice.items) - len(choice.item_of)} others"
 
 
 def sheet(session: Session, plan: Plan) -> Sheet:

@@ -2,17 +2,17 @@
 
 from __future__ import annotations
 
-from collections.abc import Callable, Sequence
-from functools import partial
+from collections.abc import Sequence
 
 from ..hints import sentences
-from ..hints.patterns import Odd
 from ..hints.sentences import Sentence
-from ..sitting.answers import MOST_VALUES, answer_text, behind, may_go_back, odd_ones
+from ..sitting.answers import Odd, behind, given, listed, odd_ones
 from ..sitting.asking import Asking
+from ..sitting.items import Item, Kind, Some, Target
 from ..sitting.session import Session
 from .face import ON, Face, Sheet
-from .goback import MORE, Choice, Letters, sure
+from .goback import chosen, sure
+from .letters import MORE, Letters, Listed
 
 ODD = (
     "Other than most of their pattern. That may be right; if it isn't, an answer was a slip, or "
@@ -41,64 +41,46 @@ def rules(session: Session, face: Face) -> int | None:
     or None."""
     learned = session.learned()
     found = sentences.grouped(session.vocabulary, learned, answers=session.answers)
+    said = Some(
+        tuple(Item(one.whole, Target(Kind.SENTENCE, place)) for place, one in enumerate(found))
+    )
     odd = odd_ones(session, learned)
-    # a letter leads to an answer by its place, or to the answers behind a sentence
-    items = [
-        ("answer", place) for one in odd for place in one.behind if may_go_back(session, place)
-    ]
-    items += [("sentence", place) for place in range(len(found))]
-    does = {"answer": "go back to it", "sentence": "what is behind it"}
-    letters = Letters(items, (("o", "on"),), lambda item: does[item[0]])
+    targets = [*odd_targets(odd), *said.targets]
+    letters = Letters(targets, (("o", "on"),) if targets else (ON,))
     while True:
-        lines = [
-            f"{letters.letter(('sentence', place))}  {said.whole}"
-            for place, said in enumerate(found)
-        ] or ["None yet."]
-        lines += odd_lines(session, odd, lambda place: letters.letter(("answer", place)))
-        key = face.put(Sheet("Rules so far", tuple(lines), keys=letters.keys if items else (ON,)))
-        if key == MORE[0]:
-            letters.turn()
-            continue
-        if key not in letters.item_of:
+        blocks = (said if found else "None yet.", *odd_blocks(odd))
+        key = letters.put(face, "Rules so far", blocks)
+        if isinstance(key, str):
             return None
-        kind, place = letters.item_of[key]
-        back: int | None = place
-        if kind == "sentence":
-            back = _behind(session, face, found[place])
-        elif not sure(session, face, place):
-            back = None
-        if back is not None:
-            return back
+        place: int | None = key.place
+        if key.kind is Kind.SENTENCE:
+            place = _behind(session, face, found[key.place])
+        elif not sure(session, face, key.place):
+            place = None
+        if place is not None:
+            return place
 
 
 def _behind(session: Session, face: Face, said: Sentence) -> int | None:
     """Shows the answers behind a sentence; the place of one to go back to, or None."""
-    places = behind(session, said.rules)
-    choice = Choice(session, places, (("o", "on"),))
-
-    def sheet() -> Sheet:
-        """The answers with their letters as they are now."""
-        lines = [
-            f"{choice.letter(place)}  {answer_text(session, session.answers[place], MOST_VALUES)}"
-            for place in places
-        ] or ["No answer of yours is about these things alone."]
-        return Sheet("The answers behind it", (said.whole, "", *lines), keys=choice.keys)
-
-    return choice.put(face, sheet)[1]
+    some = listed(given(session, place) for place in behind(session, said.rules))
+    letters = Letters(some.targets, (("o", "on"),))
+    answers_or_none = some if some.items else "No answer of yours is about these things alone."
+    blocks = (said.whole, "", answers_or_none)
+    return chosen(session, face, letters, "The answers behind it", blocks)[1]
 
 
-def odd_lines(session: Session, odd: Sequence[Odd], letter: Callable[[int], str]) -> list[str]:
-    """The odd ones out, and the answers behind them with their letters; nothing where there are
-    none."""
-    names = [thing.name for thing in session.case.things]
-    lines = ["", ODD] if odd else []
+def odd_targets(odd: Sequence[Odd]) -> list[Target]:
+    """What the odd ones out lead to."""
+    return [target for one in odd for target in listed(one.behind).targets]
+
+
+def odd_blocks(odd: Sequence[Odd]) -> list[Listed]:
+    """The odd ones out, and the answers behind them; nothing where there are none."""
+    blocks: list[Listed] = ["", ODD] if odd else []
     for one in odd:
-        lines.append(f"- {one.text(names)}")
-        lines += [
-            f"  {letter(place)}  {answer_text(session, session.answers[place], MOST_VALUES)}"
-            for place in one.behind
-        ]
-    return lines
+        blocks += [f"- {one.text}", listed(one.behind, inset=True)]
+    return blocks
 
 
 def answers(session: Session, face: Face) -> int | None:
@@ -107,18 +89,12 @@ def answers(session: Session, face: Face) -> int | None:
     firsts = range(0, len(places), MOST_ANSWERS)
     parts = [places[first : first + MOST_ANSWERS] for first in firsts] or [[]]
     earlier = ((MORE[0], "earlier ones"),) if len(parts) > 1 else ()
+    count = f"{len(places)}, the newest first" if places else "none yet"
     shown = 0
     while True:
-        part = parts[shown % len(parts)]
-        choice = Choice(session, part, (("o", "on"), *earlier))
-        lines = tuple(
-            f"{choice.letter(place)}  {answer_text(session, session.answers[place])}"
-            for place in part
-        )
-        count = f"{len(places)}, the newest first" if places else "none yet"
-        head = f"All answers so far: {count}"
-        keys = choice.keys if lines else (ON,)
-        key, place = choice.put(face, partial(Sheet, head, lines, keys=keys))
+        some = listed(given(session, place, None) for place in parts[shown % len(parts)])
+        letters = Letters(some.targets, (("o", "on"), *earlier) if places else (ON,))
+        key, place = chosen(session, face, letters, f"All answers so far: {count}", (some,))
         if key != MORE[0]:
             return place
         shown += 1

@@ -4,14 +4,14 @@ from __future__ import annotations
 
 import itertools
 from collections import Counter
-from collections.abc import Sequence
+from collections.abc import Iterable, Sequence
 from dataclasses import dataclass
 
 from ..case.model import Answer, Constraint, Fault, Question, Rule, Way
 from ..case.picture import Picture, sentence
 from ..hints import patterns
 from ..hints.along import and_list
-from ..hints.patterns import Odd
+from .items import Item, Kind, Some, Target
 from .session import Session
 
 MOST_RULES = 8  # of the rules that a yes rules out
@@ -39,14 +39,46 @@ def given_text(given: Sequence[Answer]) -> str:
     return f"Answered for you: {', '.join(said)}{one}."
 
 
-def answer_text(session: Session, answer: Answer, most: int | None = None) -> str:
-    """An answer as one line, with so many values at most."""
-    why = f" ({BY[answer.said.by]}: {answer.said.why})" if answer.said else ""
+@dataclass(frozen=True)
+class Given:
+    """An answer that stands, in a line."""
+
+    number: int  # of its question
+    yes: bool
+    shown: str  # what was asked about
+    why: str  # where it was given for the person
+    place: int | None  # to go back to; None where the case itself gives it
+
+    @property
+    def text(self) -> str:
+        """The whole line."""
+        why = f" ({self.why})" if self.why else ""
+        return f"{self.number}. {yes_no(self.yes)}: {self.shown}{why}"
+
+    @property
+    def item(self) -> Item:
+        """It, to be chosen where it can be gone back to."""
+        return Item(self.text, None if self.place is None else Target(Kind.ANSWER, self.place))
+
+
+def given(session: Session, place: int, most: int | None = MOST_VALUES) -> Given:
+    """The answer at a place, with so many values at most."""
+    answer = session.answers[place]
     values = answer.question.values
     some = dict(sorted(values.items())[:most])
     left = len(values) - len(some)
-    shown = sentence(Picture(session.case, some)) + (f" and {left} more" if left else "")
-    return f"{answer.question.number}. {yes_no(answer.yes)}: {shown}{why}"
+    return Given(
+        answer.question.number,
+        answer.yes,
+        sentence(Picture(session.case, some)) + (f" and {left} more" if left else ""),
+        f"{BY[answer.said.by]}: {answer.said.why}" if answer.said else "",
+        place if may_go_back(session, place) else None,
+    )
+
+
+def listed(some: Iterable[Given], inset: bool = False, cut: bool = False) -> Some:
+    """Answers below each other, to choose from."""
+    return Some(tuple(one.item for one in some), inset, cut)
 
 
 def may_go_back(session: Session, place: int) -> bool:
@@ -106,9 +138,21 @@ def behind(session: Session, some: Sequence[Rule]) -> list[int]:
     return found
 
 
-def odd_ones(session: Session, learned: Sequence[Constraint]) -> list[Odd]:
+@dataclass(frozen=True)
+class Odd:
+    """A group whose rules aren't those of its like, and the answers behind it."""
+
+    text: str
+    behind: tuple[Given, ...]
+
+
+def odd_ones(session: Session, learned: Sequence[Constraint]) -> tuple[Odd, ...]:
     """The odd ones out among the groups on which all is settled."""
-    return patterns.odd(session.vocabulary, learned, session.answers, session.possible.open)
+    names = [thing.name for thing in session.case.things]
+    found = patterns.odd(session.vocabulary, learned, session.answers, session.possible.open)
+    return tuple(
+        Odd(one.text(names), tuple(given(session, place) for place in one.behind)) for one in found
+    )
 
 
 def open_lines(session: Session, constraints: Sequence[Constraint]) -> list[str]:

@@ -2,11 +2,13 @@
 since the last question, and what the person can do.
 
 Either a question waits (`question`), or the run has ended (`ending`). Each call goes on to the next
-of them, which may take a while. A face shows `notes`, `taught` and `marks` with the question; no
-text here names a key or a button.
+of them, which may take a while. A face shows what `asked` gives; no text here names a key or a
+button.
 """
 
 from __future__ import annotations
+
+from dataclasses import dataclass
 
 from ..case.model import Ending, Question, Values
 from ..case.picture import CHANGED, LEFT_OUT, Picture
@@ -26,6 +28,20 @@ ONLY_GIVEN = (
     "answers."
 )
 NOTHING = Few((), False)
+
+
+@dataclass(frozen=True)
+class Asked:
+    """A question as a face shows it, and what has come of the answers before it."""
+
+    number: int
+    title: str  # of the case
+    is_part: bool  # of the question before
+    picture: Picture
+    changed: bool  # whether something is marked as changed
+    left_out: int  # how many of the last question's things have no value now
+    notes: tuple[str, ...]
+    taught: Few  # by the last answers
 
 
 class Asking:
@@ -51,16 +67,20 @@ class Asking:
         """How the run has ended, where nothing is asked."""
         return self.sitting.ending
 
-    @property
-    def picture(self) -> Picture:
-        """The question's values, with marks at what has changed since the last one."""
-        values = self._due().values
-        return Picture(self.session.case, values, marks(values, self.before))
-
-    @property
-    def is_part(self) -> bool:
-        """Whether the question is a part of the last one."""
-        return self._due().part_of(self.before)
+    def asked(self) -> Asked:
+        """The question, with marks at what has changed since the last one."""
+        due, case = self._due(), self.session.case
+        found = marks(due.values, self.before)
+        return Asked(
+            due.number,
+            case.title,
+            due.part_of(self.before),
+            Picture(case, due.values, found),
+            CHANGED in found.values(),
+            sum(mark == LEFT_OUT for mark in found.values()),
+            tuple(self.notes),
+            self.taught,
+        )
 
     def at_stake(self) -> Few:
         """Why this is asked: the rules of which a yes says that none is needed."""

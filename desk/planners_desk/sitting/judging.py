@@ -11,13 +11,13 @@ from __future__ import annotations
 from collections.abc import Callable, Iterator, Sequence
 from dataclasses import dataclass
 
-from ..case.model import Rule, Values
+from ..case.model import Question, Rule, Values
 from ..case.picture import CLASH, KEPT
 from ..hints import solver
 from ..hints.along import Things
 from ..hints.sentences import Sentence
 from ..program.talk import Clock
-from .answers import may_go_back
+from .answers import Given, given, may_go_back
 from .session import Session
 
 MOST_PLANS = 3
@@ -178,6 +178,26 @@ def title_of(session: Session, plan: Plan, cells: Things) -> str:
 
 
 # ---- answers that clash
+
+
+@dataclass(frozen=True)
+class Clash:
+    """No rules agree with all answers."""
+
+    count: int  # of the answers
+    refused: tuple[Question, ...]  # that clash with what was accepted
+    suspects: tuple[Given, ...]  # one of which alone, turned round, lets all others agree
+    lifted: tuple[str, ...]  # words of which a right no may have ended it so
+
+
+def clash(session: Session) -> Clash:
+    """What clashes."""
+    return Clash(
+        len(session.answers),
+        tuple(session.answers[place].question for place in clashing(session)),
+        tuple(given(session, place) for place in session.possible.suspects()),
+        tuple(lifted(session)),
+    )
 
 
 def clashing(session: Session) -> list[int]:

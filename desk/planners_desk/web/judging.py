@@ -6,16 +6,16 @@ from collections.abc import Iterator, Sequence
 
 from ..case.model import Ending, Fault, Values
 from ..case.picture import CHOSEN
-from ..hints import patterns, solver
+from ..hints import solver
 from ..hints.along import Things, and_list
 from ..hints.sentences import Sentence, grouped
 from ..sitting import judging, missing
-from ..sitting.answers import behind, last_own, may_go_back, odd_ones, open_lines
+from ..sitting.answers import Odd, behind, given, last_own, odd_ones, open_lines
 from ..sitting.judging import Plan
 from ..sitting.session import Session, said_by
 from . import reporting, sheets
-from .lines import chosen, from_all, given, stopped
-from .sheets import Odd, Rule, Sheet
+from .lines import chosen, from_all, stopped
+from .sheets import Rule, Sheet
 from .sittings import Ended, Owner, Step
 from .tables import table_of
 
@@ -68,25 +68,18 @@ class Judging:
 
     def _clashing(self, search: missing.Search) -> sheets.Clash:
         """The clash, the suspects, and the words that would explain it."""
-        session, answers = self.session, self.session.answers
-        shown = [
-            sheets.Shown(
-                str(answers[place].question.number),
-                table_of(session.case, answers[place].question.values),
-            )
-            for place in judging.clashing(session)
-        ]
-        lifted = judging.lifted(session)
-        said = (
-            LIFTED.format(words=and_list(lifted), speak="speaks" if len(lifted) == 1 else "speak")
-            if lifted
-            else ""
+        clash, case = judging.clash(self.session), self.session.case
+        shown = (
+            sheets.Shown(str(question.number), table_of(case, question.values))
+            for question in clash.refused
         )
+        speak = "speaks" if len(clash.lifted) == 1 else "speak"
+        said = LIFTED.format(words=and_list(clash.lifted), speak=speak) if clash.lifted else ""
         return sheets.Clash(
             "Your answers clash",
-            len(answers),
+            clash.count,
             tuple(shown),
-            tuple(given(session, place) for place in session.possible.suspects()),
+            clash.suspects,
             said,
             self._lacking(search),
             search.words,
@@ -119,20 +112,14 @@ class Judging:
                 return place
 
     def _rules(
-        self, ending: Ending, found: Sequence[Sentence], odd: Sequence[patterns.Odd]
+        self, ending: Ending, found: Sequence[Sentence], odd: Sequence[Odd]
     ) -> sheets.Done:
         """The sheet of the rules."""
-        session = self.session
-        names = [thing.name for thing in session.case.things]
-        strange = tuple(
-            Odd(one.text(names), tuple(given(session, place) for place in one.behind))
-            for one in odd
-        )
         count = ending.answers
         return sheets.Done(
             f"Done after {count} answer{'s' if count != 1 else ''}",
             tuple(self._rule(said) for said in found),
-            strange,
+            tuple(odd),
             solver.name() is not None,
             tuple(self._unsayable),
             self._judged,

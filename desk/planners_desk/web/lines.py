@@ -4,30 +4,12 @@ from __future__ import annotations
 
 from collections.abc import Iterator
 
-from ..sitting.answers import BY, may_go_back
+from ..sitting.answers import Given, given, may_go_back
 from ..sitting.session import Session
-from .sheets import Answers, Given, Stopped
+from .sheets import Answers, Stopped
 from .sittings import Owner, Step
-from .tables import sentence_of
 
-MOST_VALUES = 6  # of an answer in a line
 A_PAGE = 200  # answers
-
-
-def given(session: Session, place: int, most: int | None = MOST_VALUES) -> Given:
-    """An answer that stands, with so many values at most."""
-    answer = session.answers[place]
-    values = answer.question.values
-    some = dict(sorted(values.items())[:most])
-    more = f" and {len(values) - len(some)} more" if len(some) < len(values) else ""
-    why = f"{BY[answer.said.by]}: {answer.said.why}" if answer.said else ""
-    return Given(
-        answer.question.number,
-        answer.yes,
-        sentence_of(session.case, some) + more,
-        why,
-        place if may_go_back(session, place) else None,
-    )
 
 
 def latest(session: Session, most: int, without: int = 0) -> Iterator[Given]:

@@ -9,7 +9,7 @@ from __future__ import annotations
 from collections.abc import Iterable
 
 from ..case.model import Constraint, Ending
-from ..case.picture import CHANGED, CLASH, LEFT_OUT
+from ..case.picture import CLASH
 from ..hints import sentences
 from ..sitting.asking import Asking
 from ..sitting.session import Session
@@ -83,23 +83,22 @@ class Questions:
 
     def sheet(self) -> sheets.Question:
         """The question as it is shown."""
-        asking, session, case = self.asking, self.session, self.session.case
-        assert asking.question is not None
-        values, picture, possible = asking.question.values, asking.picture, session.possible
-        marks = picture.marks
-        part = " (a part of the one before)" if asking.is_part else ""
+        session, case, possible = self.session, self.session.case, self.session.possible
+        asked = self.asking.asked()
+        values = asked.picture.values
+        part = " (a part of the one before)" if asked.is_part else ""
         return sheets.Question(
-            f"{case.title}: question {asking.question.number}{part}",
-            asking.question.number,
-            table_of(case, values, marks),
+            f"{asked.title}: question {asked.number}{part}",
+            asked.number,
+            table_of(case, values, asked.picture.marks),
             sentence_of(case, values),
-            picture.part,
-            CHANGED in marks.values(),
-            sum(mark == LEFT_OUT for mark in marks.values()),
-            tuple(asking.notes),
-            asking.taught,
-            asking.at_stake(),
-            self._rules.shown(asking.taught.texts),
+            asked.picture.part,
+            asked.changed,
+            asked.left_out,
+            asked.notes,
+            asked.taught,
+            self.asking.at_stake(),
+            self._rules.shown(asked.taught.texts),
             tuple(latest(session, MOST_ANSWERS)),
             len(session.answers),
             possible.finished,

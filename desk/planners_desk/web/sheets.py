@@ -5,19 +5,8 @@ from __future__ import annotations
 from dataclasses import dataclass
 
 from ..report.markup import Html
-from ..sitting.answers import Few
+from ..sitting.answers import Few, Given, Odd
 from .tables import Table
-
-
-@dataclass(frozen=True)
-class Given:
-    """An answer that stands, in a line."""
-
-    number: int  # of its question
-    yes: bool
-    shown: str  # what was asked about
-    why: str  # where it was given for the person
-    place: int | None  # to go back to; None where the case itself gives it
 
 
 @dataclass(frozen=True)
@@ -119,14 +108,6 @@ class Clash(Sheet):
     lifted: str  # that it may be no slip at all
     lacking: tuple[str, ...]  # which words would explain it
     words: tuple[str, ...]  # these, to be put into the case
-
-
-@dataclass(frozen=True)
-class Odd:
-    """A group whose rules aren't those of its like."""
-
-    text: str
-    behind: tuple[Given, ...]
 
 
 @dataclass(frozen=True)
