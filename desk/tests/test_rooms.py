@@ -4,6 +4,7 @@ from __future__ import annotations
 
 import ast
 import os
+import tomllib
 import unittest
 from collections.abc import Iterator
 
@@ -79,6 +80,27 @@ class Rooms(unittest.TestCase):
         """Inside a room as well."""
         self.assertEqual(circle(self.imports), [])
         self.assertTrue(any(self.imports.values()))
+
+
+class Width(unittest.TestCase):
+    """Lines are as wide as pyproject.toml has it, and no wider."""
+
+    def test_lines(self) -> None:
+        """Of the package, its tests, and the file that starts it."""
+        top = os.path.dirname(PACKAGE)
+        with open(os.path.join(top, "pyproject.toml"), "rb") as file:
+            most = tomllib.load(file)["tool"]["black"]["line-length"]
+        tests = os.path.join(top, "tests")
+        paths = [os.path.join(tests, name) for name in os.listdir(tests) if name.endswith(".py")]
+        paths += [os.path.join(PACKAGE, *name) + ".py" for name in modules()]
+        wide = []
+        for path in [*paths, os.path.join(top, "desk")]:
+            with open(path, encoding="utf-8") as file:
+                for number, line in enumerate(file, 1):
+                    if len(line.rstrip("\n")) > most:
+                        wide.append(f"{os.path.relpath(path, top)}:{number}")
+        self.assertEqual(wide, [])
+        self.assertGreater(len(paths), len(ROOMS))
 
 
 if __name__ == "__main__":

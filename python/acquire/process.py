@@ -19,7 +19,7 @@ from .faults import TimeOver, Unexpected
 TICK = 0.25  # seconds between two ticks of a deadline
 MOST_READ = 1 << 16  # bytes that are read or written at once
 MOST_LINE = 1 << 20  # bytes of a line
-MOST_PRINTED = 1 << 29  # bytes of a whole output
+MOST_PRINTED = 1 << 29  # bytes of a whole output, where nothing else is said
 
 Process = subprocess.Popen[bytes]
 
@@ -103,22 +103,24 @@ def started(words: Sequence[str], quiet: bool = False, keep_open: Sequence[int] 
                                                    stderr=subprocess.DEVNULL if quiet else None, process_group=0, pass_fds=keep_open))
 
 
-def called(words: Sequence[str], given: bytes = b"", deadline: Deadline | None = None, quiet: bool = False) -> tuple[int, bytes]:
+def called(words: Sequence[str], given: bytes = b"", deadline: Deadline | None = None, quiet: bool = False,
+           most: int = MOST_PRINTED) -> tuple[int, bytes]:
     """Runs a program with all its input: its exit status, below 0 where a signal ended it, and what it printed.
 
-    Raises `TimeOver` where the deadline is over before its end, and `Unexpected` where it prints more than 512 MB; it is killed then.
+    Raises `TimeOver` where the deadline is over before its end, and `Unexpected` where it prints more than `most` bytes; it is killed
+    then.
     """
     process = started(words, quiet)
     with process:
         try:
-            printed = _printed(process, given, deadline)
+            printed = _printed(process, given, deadline, most)
         except BaseException:
             process.kill()
             raise
     return process.returncode, printed
 
 
-def _printed(process: Process, given: bytes, deadline: Deadline | None) -> bytes:
+def _printed(process: Process, given: bytes, deadline: Deadline | None, most: int) -> bytes:
     """All that a process prints, which is given its input meanwhile."""
     assert process.stdin and process.stdout
     os.set_blocking(process.stdin.fileno(), False)
@@ -137,7 +139,7 @@ def _printed(process: Process, given: bytes, deadline: Deadline | None) -> bytes
             printed += some
         if deadline is not None:
             deadline.tick()
-        if len(printed) > MOST_PRINTED:
+        if len(printed) > most:
             raise Unexpected("more and more without an end")
         if deadline is not None and deadline.over:
             raise TimeOver(printed.decode(errors="replace"))
@@ -162,8 +164,8 @@ def ended(given: IO[bytes]) -> None:
 class Lines:
     """The lines that a process prints."""
 
-    def __init__(self, source: IO[bytes]) -> None:
-        self._source = source
+    def __init__(self, source: IO[bytes], most: int = MOST_PRINTED) -> None:
+        self._source, self._most = source, most
         self._read = bytearray()  # what has come and isn't given away as a line yet
 
     def next(self, deadline: Deadline | None = None) -> str:
@@ -197,7 +199,7 @@ class Lines:
             if not some:
                 return self._read.decode(errors="replace")
             self._read += some
-            if len(self._read) > MOST_PRINTED:
+            if len(self._read) > self._most:
                 raise Unexpected("more and more without an end")
 
     def close(self) -> None:

@@ -12,7 +12,7 @@ from dataclasses import dataclass
 from typing import IO
 
 from .faults import ProgramMissing
-from .process import Deadline, Lines, Process, called, ended, started
+from .process import MOST_PRINTED, Deadline, Lines, Process, called, ended, started
 
 # Each complete question starts seven threads, and the C library keeps their stacks for the next one only where they are small. The
 # program needs a fifth of this.
@@ -37,14 +37,16 @@ class Reply:
 class Program:
     """The program at a path (`path`), which is called once (`call`) or asked line by line (`run`)."""
 
-    def __init__(self, path: str | os.PathLike[str], stack: int | None = _STACK_KB, *, quiet: bool = False) -> None:
+    def __init__(self, path: str | os.PathLike[str], stack: int | None = _STACK_KB, *, quiet: bool = False,
+                 most: int = MOST_PRINTED) -> None:
         """Names the program; nothing is started yet.
 
         stack: the soft limit of its threads' stacks in KB, which a shell sets that then becomes the program. None leaves the caller's.
         quiet: what it says on standard error, as for a disk that is full, goes nowhere.
+        most: the bytes that one call may print, or a run at its end, before it counts as one without an end.
         """
         self.path = os.path.abspath(path)
-        self.quiet = quiet
+        self.quiet, self.most = quiet, most
         self._start = [self.path]
         if stack is not None:
             self._start = ["/bin/sh", "-c", f'ulimit -S -s {stack} 2>/dev/null; exec "$0" "$@"', self.path]
@@ -71,7 +73,7 @@ class Program:
         Raises `ProgramMissing`, `Unexpected` where it prints without an end, and `TimeOver` where the deadline is over before.
         """
         self._there()
-        status, printed = called([*self._start, *words], given, deadline, self.quiet)
+        status, printed = called([*self._start, *words], given, deadline, self.quiet, self.most)
         if status in _NOT_STARTED and not printed:
             raise ProgramMissing(f"{self.path}: it can't be started")
         return Reply(status, printed.decode(errors="replace"))
@@ -81,7 +83,7 @@ class Program:
 
         Raises `ProgramMissing`.
         """
-        return Run(self.started(words, keep_open))
+        return Run(self.started(words, keep_open), self.most)
 
     def started(self, words: Sequence[str], keep_open: Sequence[int] = ()) -> Process:
         """Starts a command that asks, as a process over pipes. Raises `ProgramMissing`."""
@@ -103,11 +105,11 @@ class Run:
     """A command that asks, over pipes. It has a process group of its own, so that Ctrl-C at the terminal doesn't reach it, and ends
     when this process ends."""
 
-    def __init__(self, process: Process) -> None:
+    def __init__(self, process: Process, most: int = MOST_PRINTED) -> None:
         assert process.stdin and process.stdout
         self._process = process
         self._to: IO[bytes] = process.stdin
-        self._lines = Lines(process.stdout)
+        self._lines = Lines(process.stdout, most)
 
     @property
     def pid(self) -> int:

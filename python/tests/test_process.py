@@ -58,12 +58,12 @@ class StandIns(unittest.TestCase):
     def setUp(self):
         self.folder = self.enterContext(tempfile.TemporaryDirectory())
 
-    def program(self, body, name="program"):
+    def program(self, body, name="program", **more):
         path = os.path.join(self.folder, name)
         with open(path, "w", encoding="utf-8") as file:
             file.write(f"#!/bin/sh\n{body}\n")
         os.chmod(path, 0o755)
-        return Program(path)
+        return Program(path, **more)
 
     def over(self, call):
         """What `TimeOver` says of a call that is cut soon."""
@@ -118,8 +118,20 @@ class StandIns(unittest.TestCase):
             self.assertFalse(is_there(file.read().strip()))
 
     def test_an_output_without_an_end(self):
-        with mock.patch.object(process, "MOST_PRINTED", 1 << 20), self.assertRaisesRegex(Unexpected, "more and more"):
-            self.program("exec yes").call([], deadline=Deadline(LATE))
+        with self.assertRaisesRegex(Unexpected, "more and more"):
+            self.program("exec yes", most=1 << 20).call([], deadline=Deadline(LATE))
+
+    def test_an_end_of_a_run_without_an_end(self):
+        run = self.program("echo q1 a=1; exec yes", most=1 << 20).run([])
+        self.assertEqual("q1 a=1", run.line(Deadline(LATE)))
+        with self.assertRaisesRegex(Unexpected, "more and more"):
+            run.rest(Deadline(LATE))
+        run._process.kill()
+        run.close()
+
+    def test_as_much_as_may_be_printed(self):
+        printed = self.program("head -c 100000 /dev/zero", most=100_000).call([], deadline=Deadline(LATE)).text
+        self.assertEqual(100_000, len(printed))
 
     def test_a_line_without_an_end(self):
         run = self.program("exec tr '\\0' x </dev/zero").run([])

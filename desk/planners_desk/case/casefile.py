@@ -272,6 +272,7 @@ class _Reader:
     def _things(self) -> bool:
         """Things and values, each a list or a grid, or things with lists of their own."""
         own: list[tuple[str, list[str]]] = []
+        count = 0  # of those whose names were compared
         for line in self._of("things", "thing", "values"):
             self._at(line)
             if line.key == "values":
@@ -287,8 +288,9 @@ class _Reader:
             else:
                 self._listed_things(line, own)
             self._few(own, MOST_THINGS, "things")
-            if own:
+            if len(own) > count:  # a line that adds nothing costs nothing
                 self._unique([name for name, _ in own], "thing")
+                count = len(own)
         self.line_number = 0
         self._labels(own)
         return bool(own)
@@ -337,8 +339,10 @@ class _Reader:
         if self.value_parts or (parts and self.values):
             raise Fault("a grid of values stands alone")
         self.value_parts = parts
-        self.values += self._cells(parts) if parts else self._listed(line)
-        self._unique(self._few(self.values, MOST_VALUES, "values"), "value")
+        more = self._cells(parts) if parts else self._listed(line)
+        self.values += more
+        if more or not self.values:
+            self._unique(self._few(self.values, MOST_VALUES, "values"), "value")
 
     def _labels(self, own: list[tuple[str, list[str]]]) -> None:
         """Gives each thing its values: its own, or those of the `values` lines."""

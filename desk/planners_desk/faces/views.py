@@ -48,7 +48,7 @@ def rules(session: Session, face: Face) -> int | None:
     targets = [*odd_targets(odd), *said.targets]
     letters = Letters(targets, (("o", "on"),) if targets else (ON,))
     while True:
-        blocks = (said if found else "None yet.", *odd_blocks(odd))
+        blocks: list[Listed] = [said if found else "None yet.", *odd_blocks(odd)]
         key = letters.put(face, "Rules so far", blocks)
         if isinstance(key, str):
             return None
@@ -65,8 +65,8 @@ def _behind(session: Session, face: Face, said: Sentence) -> int | None:
     """Shows the answers behind a sentence; the place of one to go back to, or None."""
     some = listed(given(session, place) for place in behind(session, said.rules))
     letters = Letters(some.targets, (("o", "on"),))
-    answers_or_none = some if some.items else "No answer of yours is about these things alone."
-    blocks = (said.whole, "", answers_or_none)
+    blocks: list[Listed] = [said.whole, ""]
+    blocks.append(some if some.items else "No answer of yours is about these things alone.")
     return chosen(session, face, letters, "The answers behind it", blocks)[1]
 
 

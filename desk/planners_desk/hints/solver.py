@@ -20,7 +20,7 @@ from acquire import Unexpected
 from acquire.process import called
 
 from ..case.model import Count, Rule, Values
-from ..program.talk import Clock, Program, TimeOver, something_else
+from ..program.talk import MOST_PRINTED, Clock, Endless, Program, TimeOver, something_else
 from ..program.vocabulary import Vocabulary
 
 # the words behind a solver's name; minisat writes its model to a file, the others print it
@@ -59,10 +59,11 @@ class Clauses:
 def clauses_of(
     program: Program, vocabulary: Vocabulary, journal: str, clock: Clock | None = None
 ) -> Clauses | None:
-    """What `cnf` prints of a journal; None where it is refused, or isn't there in time."""
+    """What `cnf` prints of a journal; None where it is refused, is more than any solver is asked
+    about, or isn't there in time."""
     try:
         reply = program.call([journal, "cnf"], deadline=clock)
-    except TimeOver:
+    except (TimeOver, Endless):
         return None
     if reply.status != 0:
         return None
@@ -101,7 +102,7 @@ def solved(count: int, clauses: Sequence[Clause], clock: Clock | None = None) ->
             file.writelines(" ".join(map(str, clause)) + " 0\n" for clause in clauses)
         words = [solver, *SOLVERS[solver], given, *([made] if solver == "minisat" else [])]
         try:
-            status, printed = called(words, deadline=own, quiet=True)
+            status, printed = called(words, deadline=own, quiet=True, most=MOST_PRINTED)
             if solver == "minisat" and status in SATISFIABLE:
                 with open(made, "rb") as model:
                     printed = model.read()

@@ -17,6 +17,7 @@ from ..case import letters
 from ..case.model import Fault
 from . import repository
 
+MOST_PRINTED = 1 << 26  # bytes of one call of the program; more would fill the memory
 TICK = 0.25  # seconds after which somebody who waits is told how much time is left
 REASONS = {
     8: "its input failed",
@@ -26,7 +27,7 @@ REASONS = {
 }
 NO_TEXT = "\ufffd"  # what stands for bytes that are no text
 
-__all__ = ["Clock", "Program", "Reply", "Run", "TimeOver", "is_question", "said", "something_else"]
+__all__ = ["MOST_PRINTED", "Clock", "Endless", "Program", "Reply", "Run", "TimeOver", "is_question", "said", "something_else"]
 
 
 class Clock(Deadline):
@@ -64,6 +65,10 @@ def something_else(what: str) -> Fault:
     )
 
 
+class Endless(Fault):
+    """The program prints without an end, or more than desk takes."""
+
+
 def text_of(printed: str) -> str:
     """What the program printed; a fault where it is no text."""
     if NO_TEXT in printed:
@@ -86,7 +91,7 @@ def _told() -> Iterator[None]:
     try:
         yield
     except Unexpected as error:
-        raise something_else(error.what) from None
+        raise Endless(*something_else(error.what).texts) from None
     except ProgramMissing as error:
         raise Fault(str(error)) from None
 
@@ -95,7 +100,7 @@ class Program(acquire.Program):
     """The program at a path."""
 
     def __init__(self, path: str) -> None:
-        super().__init__(path, quiet=True)
+        super().__init__(path, quiet=True, most=MOST_PRINTED)
 
     @classmethod
     def found(cls, named: str | os.PathLike[str] | None = None) -> Program:
@@ -145,7 +150,7 @@ class Run(acquire.Run):
         """Starts it, and writes what has to come first. Where a clock is given, no line is waited
         for longer than it has left."""
         with _told():
-            super().__init__(program.started(words, () if lock is None else (lock,)))
+            super().__init__(program.started(words, () if lock is None else (lock,)), program.most)
         self._clock = clock
         if given:
             self.write(given)
