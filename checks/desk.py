@@ -8,8 +8,8 @@ usage: checks/desk.py PROGRAM [PART ..]
 Each part is a file in checks/desk_parts and says in a line what it looked at. DESK_TIMES=8 plays eight times as many drawn sessions
 and times the comparison of plans for smaller cases as well, DESK_CASES=1000 lets that many cases change, and DESK_KILLS=200 kills as
 often. What the parts need is installed by apt-get where that is possible: python3-rich, tmux, a SAT solver, chromium and poppler-utils.
-That is said before, and NO_INSTALL=1 forbids it; what can't be had is passed over, and a line says so. Parts run side by side, each in a
-process of its own, and the last line says how much time of a processor all took.
+That is said before, and NO_INSTALL=1 forbids it; what can't be had is passed over, which the last line says. Parts run side by side, each in a
+process of its own, and the last line says how much time of a processor all took, and what was passed over.
 """
 
 from __future__ import annotations
@@ -32,7 +32,7 @@ CLIENT = os.path.join(os.path.dirname(HERE), "python")     # through which desk 
 # those that take longest first
 PARTS = ("terminal", "kept", "captured", "pages", "changes", "refusals", "suspects", "known", "bounds", "sitting",
          "cases", "starts", "lacking", "taught", "plans", "screens", "says", "unseen", "meanings", "runs", "faults",
-         "forecast", "pace")
+         "forecast", "pace", "bare")
 NEEDS_RICH = ("terminal", "captured", "pages", "sitting", "taught", "screens", "says", "pace")
 # the bugs that the gate plants: a part, and which of its list
 GATE = (("bounds", 0), ("bounds", 1), ("suspects", 1), ("meanings", 0), ("meanings", 2), ("known", 0), ("changes", 0), ("kept", 0), ("runs", 0),
@@ -40,11 +40,13 @@ GATE = (("bounds", 0), ("bounds", 1), ("suspects", 1), ("meanings", 0), ("meanin
 # a command, and the Debian package that has it
 TOOLS = {"tmux": "tmux", "cadical": "cadical", "minisat": "minisat", "clasp": "clasp", "chromium": "chromium", "pdfinfo": "poppler-utils"}
 SOLVERS = ("cadical", "minisat", "clasp")
+# what isn't looked at where a command isn't there
+WANTED = {"tmux": "no terminal is looked at", "chromium": "no browser is looked at", "pdfinfo": "no page is counted"}
 PATIENCE = 1800     # seconds for a part
 
 
 def install() -> None:
-    """Installs what is missing where that can be, and says so before; lines on what is passed over."""
+    """Installs what is missing where that can be, and says so before."""
     missing = [package for command, package in TOOLS.items() if not shutil.which(command)]
     if importlib.util.find_spec("rich") is None:
         missing.append("python3-rich")
@@ -56,13 +58,16 @@ def install() -> None:
         for package in missing:     # one by one, so that what isn't to be had keeps no other off
             called("install", "-y", "--no-install-recommends", package)
     importlib.invalidate_caches()
-    for command, what in (("tmux", "no terminal is looked at"), ("chromium", "no browser is looked at"), ("pdfinfo", "no page is counted")):
-        if not shutil.which(command):
-            print(f"desk: passed over: {TOOLS[command]} isn't installed, so {what}", flush=True)
+
+
+def passed_over() -> list[str]:
+    """What can't be looked at here, and why."""
+    found = [f"{TOOLS[command]} isn't installed, so {what}" for command, what in WANTED.items() if not shutil.which(command)]
     if not any(map(shutil.which, SOLVERS)):
-        print("desk: passed over: no SAT solver is installed, so no plan is drawn", flush=True)
+        found.append("no SAT solver is installed, so no plan is drawn")
     if importlib.util.find_spec("rich") is None:
-        print(f"desk: passed over: python3-rich isn't installed, so the parts {', '.join(NEEDS_RICH)} aren't run", flush=True)
+        found.append(f"python3-rich isn't installed, so the parts {', '.join(NEEDS_RICH)} aren't run")
+    return found
 
 
 def called(*words: str) -> None:
@@ -114,8 +119,10 @@ def planted(program: str, bugs: list[tuple[str, int]]) -> list[str]:
 
 def bugs_of(wanted: list[str]) -> list[tuple[str, int]]:
     """Which bugs are planted: those of the gate, or each that a part lists; where parts are named, theirs alone."""
-    every = [(name, place) for name in PARTS for place in range(len(importlib.import_module(name).PLANTED))]
-    bugs = every if "all-planted" in wanted else list(GATE)
+    rich = importlib.util.find_spec("rich") is not None
+    parts = [name for name in PARTS if rich or name not in NEEDS_RICH]      # those that can be imported here
+    every = [(name, place) for name in parts for place in range(len(importlib.import_module(name).PLANTED))]
+    bugs = [bug for bug in every if "all-planted" in wanted or bug in GATE]
     named = [name for name in wanted if name in PARTS]
     return [bug for bug in bugs if not named or bug[0] in named]
 
@@ -129,6 +136,9 @@ def main() -> int:
     program, wanted = os.path.abspath(sys.argv[1]), sys.argv[2:]
     sys.path[:0] = [DESK, PARTS_FOLDER]
     install()
+    over = passed_over()
+    for what in over:
+        print(f"desk: passed over: {what}", flush=True)
     rich = importlib.util.find_spec("rich") is not None
     plants = "planted" in wanted or "all-planted" in wanted
     names = [] if plants else [name for name in wanted or PARTS if rich or name not in NEEDS_RICH]
@@ -139,14 +149,14 @@ def main() -> int:
                 print(said, flush=True)
             faults += found
     if plants or not wanted:
-        bugs = [bug for bug in bugs_of(wanted) if rich or bug[0] not in NEEDS_RICH]
+        bugs = bugs_of(wanted)
         unnoticed = planted(program, bugs)
         faults += unnoticed
         print(f"planted: {len(bugs)} bugs in desk, one at a time, and {len(bugs) - len(unnoticed)} were noticed")
     for fault in faults:
         print(f"FAULT {fault}", file=sys.stderr)
     used = resource.getrusage(resource.RUSAGE_CHILDREN)
-    print(f"desk: {len(faults)} faults, after {used.ru_utime + used.ru_stime:.0f} s of a processor")
+    print(f"desk: {len(faults)} faults, after {used.ru_utime + used.ru_stime:.0f} s of a processor" + (f"; passed over: {'; '.join(over)}" if over else ""))
     return 1 if faults else 0
 
 

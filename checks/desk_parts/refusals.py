@@ -31,7 +31,7 @@ PLANTED = [
     ("case/names.py", "if len(numbers) > MOST_FILLED:", "if False:"),
     ("case/files.py", "    if kind != stat.S_IFREG:\n", "    if False:\n"),
     ("program/talk.py", "    if NO_TEXT in printed:\n", "    if False:\n"),
-    ("../../python/acquire/process.py", "        if len(printed) > MOST_PRINTED:\n", "        if False:\n"),
+    ("../../python/acquire/process.py", "        if len(printed) > most:\n", "        if False:\n"),
     ("sitting/session.py", "if f\"answers {len(self.answers)}\" not in lines:", "if False:"),
     ("program/vocabulary.py",
      "if (\n"

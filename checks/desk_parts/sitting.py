@@ -34,9 +34,7 @@ PLANTED = [
     # an answer is turned round
     ("faces/questions.py", "asking.answer(key == \"y\")", "asking.answer(key == \"n\")"),
     # another answer is gone back to than the one that was chosen
-    ("faces/goback.py",
-     "[place for place in places if may_go_back(session, place)],",
-     "[place - 1 for place in places if may_go_back(session, place) and place],"),
+    ("faces/goback.py", "return \"\", key.place", "return \"\", max(key.place - 1, 0)"),
     # behind a broken plan only a single answer that explains it is shown
     ("sitting/judging.py", "    if places or plan.rule is None:\n        return places", "    return places"),
     # a second step back forgets what the first one took
@@ -44,7 +42,7 @@ PLANTED = [
     # what decides the question that waits is dropped for good
     ("sitting/session.py", "return self.mine + self.reasons", "return self.mine"),
     # letters stay at the first answers
-    ("faces/goback.py", "self._first += len(self._letters)", "self._first += 0"),
+    ("faces/letters.py", "self._first += len(self._letters)", "self._first += 0"),
     # rules that nobody saw kept don't come first
     ("sitting/judging.py", "        if allowed and said.unseen:", "        if False:"),
     # cells that are pointed at are judged with all others
@@ -56,7 +54,7 @@ PLANTED = [
     # a rule that nobody saw kept isn't marked
     ("faces/end.py", "return [f\"- {sentence.whole}\" for", "return [f\"- {sentence.text}\" for"),
     # one cell is enough to go on from
-    ("faces/point.py", "while len(chosen) < most:", "while len(chosen) < 1:"),
+    ("faces/point.py", "while len(found) < most:", "while len(found) < 1:"),
     # a thing isn't printed
     ("faces/plain.py", "for thing in sorted(picture.values)", "for thing in sorted(picture.values)[1:]"),
 ]

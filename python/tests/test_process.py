@@ -9,9 +9,8 @@ import tempfile
 import threading
 import time
 import unittest
-from unittest import mock
 
-from acquire import Deadline, Program, ProgramMissing, Session, TimeOver, Unexpected, process
+from acquire import Deadline, Program, ProgramMissing, Session, TimeOver, Unexpected
 
 THREE = {"variables": ["a", "b"], "domain": [1, 2], "relations": [{"name": "differ", "arity": 2, "formula": ["!=", "$0", "$1"]}], "scopes": "all"}
 PYTHON = os.path.dirname(os.path.dirname(os.path.abspath(__file__)))
