@@ -8,7 +8,7 @@ usage: checks/desk.py PROGRAM [PART ..]
 Each part is a file in checks/desk_parts and says in a line what it looked at. DESK_TIMES=8 plays eight times as many drawn sessions
 and times the comparison of plans for smaller cases as well, DESK_CASES=1000 lets that many cases change, and DESK_KILLS=200 kills as
 often. What the parts need is installed by apt-get where that is possible: python3-rich, tmux, a SAT solver, chromium and poppler-utils.
-That is said before, and NO_INSTALL=1 forbids it; what can't be had is passed over, which the last line says. Parts run side by side, each in a
+That is said before, and NO_INSTALL=1 forbids it; what can't be had is passed over. Parts run side by side, each in a
 process of its own, and the last line says how much time of a processor all took, and what was passed over.
 """
 
@@ -41,7 +41,11 @@ GATE = (("bounds", 0), ("bounds", 1), ("suspects", 1), ("meanings", 0), ("meanin
 TOOLS = {"tmux": "tmux", "cadical": "cadical", "minisat": "minisat", "clasp": "clasp", "chromium": "chromium", "pdfinfo": "poppler-utils"}
 SOLVERS = ("cadical", "minisat", "clasp")
 # what isn't looked at where a command isn't there
-WANTED = {"tmux": "no terminal is looked at", "chromium": "no browser is looked at", "pdfinfo": "no page is counted"}
+WANTED = {
+    "tmux": "no terminal is looked at",
+    "chromium": "no browser is looked at",
+    "pdfinfo": "no page is counted",
+}
 PATIENCE = 1800     # seconds for a part
 
 
@@ -62,11 +66,13 @@ def install() -> None:
 
 def passed_over() -> list[str]:
     """What can't be looked at here, and why."""
-    found = [f"{TOOLS[command]} isn't installed, so {what}" for command, what in WANTED.items() if not shutil.which(command)]
+    found = [f"{TOOLS[command]} isn't installed, so {what}"
+             for command, what in WANTED.items() if not shutil.which(command)]
     if not any(map(shutil.which, SOLVERS)):
         found.append("no SAT solver is installed, so no plan is drawn")
     if importlib.util.find_spec("rich") is None:
-        found.append(f"python3-rich isn't installed, so the parts {', '.join(NEEDS_RICH)} aren't run")
+        parts = ", ".join(NEEDS_RICH)
+        found.append(f"python3-rich isn't installed, so the parts {parts} aren't run")
     return found
 
 
@@ -120,8 +126,10 @@ def planted(program: str, bugs: list[tuple[str, int]]) -> list[str]:
 def bugs_of(wanted: list[str]) -> list[tuple[str, int]]:
     """Which bugs are planted: those of the gate, or each that a part lists; where parts are named, theirs alone."""
     rich = importlib.util.find_spec("rich") is not None
-    parts = [name for name in PARTS if rich or name not in NEEDS_RICH]      # those that can be imported here
-    every = [(name, place) for name in parts for place in range(len(importlib.import_module(name).PLANTED))]
+    # those that can be imported here
+    parts = [name for name in PARTS if rich or name not in NEEDS_RICH]
+    every = [(name, place) for name in parts
+             for place in range(len(importlib.import_module(name).PLANTED))]
     bugs = [bug for bug in every if "all-planted" in wanted or bug in GATE]
     named = [name for name in wanted if name in PARTS]
     return [bug for bug in bugs if not named or bug[0] in named]
@@ -156,7 +164,9 @@ def main() -> int:
     for fault in faults:
         print(f"FAULT {fault}", file=sys.stderr)
     used = resource.getrusage(resource.RUSAGE_CHILDREN)
-    print(f"desk: {len(faults)} faults, after {used.ru_utime + used.ru_stime:.0f} s of a processor" + (f"; passed over: {'; '.join(over)}" if over else ""))
+    seconds = used.ru_utime + used.ru_stime
+    said = f"; passed over: {'; '.join(over)}" if over else ""
+    print(f"desk: {len(faults)} faults, after {seconds:.0f} s of a processor{said}")
     return 1 if faults else 0
 
 

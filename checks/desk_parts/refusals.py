@@ -43,7 +43,9 @@ PLANTED = [
     ("hints/trials.py", "raise something_else(f\"{len(asked)} questions without an end\")", "pass"),
     ("commands/streams.py", "            name.encode(encoding)\n", "            name.encode()\n"),
     ("commands/streams.py", "        if sys.stdout is not None and fails(sys.stdout):\n", "        if False:\n"),
-    ("__main__.py", "    except BrokenPipeError:\n        return 1  # nobody reads it any more\n", ""),
+    ("__main__.py",
+     "    except BrokenPipeError:\n        return 1  # nobody reads it any more\n",
+     ""),
     ("commands/ask.py", "    return \"all answers are kept\" if stand >= given else", "    return \"all answers are kept\" if True else"),
     ("commands/ask.py", "    if importlib.util.find_spec(\"rich\") is None:\n", "    if False:\n"),
     ("commands/check.py", "    if importlib.util.find_spec(\"rich\") is None:\n", "    if False:\n"),
@@ -170,17 +172,25 @@ def broken_off(program: str) -> list[str]:
 
 
 def reader_gone(program: str) -> list[str]:
-    """Nobody reads what is printed any more: a command ends in silence with status 1, and `ask` says which answers are kept."""
+    """Nobody reads what is printed any more: a command ends in silence with status 1, and `ask` says
+    which answers are kept."""
+    broken = "desk: standard input or output: Broken pipe; all answers are kept\n"
     found = []
     with folder(hands.WARD) as path:
         hands.answered(path, program, hands.ward, most=3)
-        for call, said in ((f"check {path} --seconds 0.2", ""), (f"report {path} {path}.html", ""), (f"carry {path}", ""),
-                           (f"ask {path} --plain", "desk: standard input or output: Broken pipe; all answers are kept\n")):
+        for call, said in (
+            (f"check {path} --seconds 0.2", ""),
+            (f"report {path} {path}.html", ""),
+            (f"carry {path}", ""),
+            (f"ask {path} --plain", broken),
+        ):
             read, write = os.pipe()
             os.close(read)
             whole = {**os.environ, "DESK_ACQUIRE": program}
             whole.pop("PYTHONUNBUFFERED", None)
-            it = subprocess.run([*DESK, *call.split()], stdin=subprocess.DEVNULL, stdout=write, stderr=subprocess.PIPE, text=True, env=whole, check=False)
+            given, told = subprocess.DEVNULL, subprocess.PIPE
+            it = subprocess.run([*DESK, *call.split()], stdin=given, stdout=write, stderr=told,
+                                text=True, env=whole, check=False)
             os.close(write)
             if (it.returncode, it.stderr) != (1, said):
                 found.append(f"{call}: {it.returncode}, {it.stderr!r}")
@@ -396,7 +406,8 @@ def full_disk(program: str) -> list[str]:
     return []
 
 
-PARTS = (streams, descriptors, broken_off, reader_gone, apart, full_disk, rights, without_rich, sizes, kept, files, solvers, programs)
+PARTS = (streams, descriptors, broken_off, reader_gone, apart, full_disk, rights, without_rich,
+         sizes, kept, files, solvers, programs)
 
 
 def quick(program: str) -> list[str]:

@@ -247,8 +247,11 @@ def always(program: str) -> list[str]:
         if plain_values(again) != plain_values(first):
             found.append(f"after b: {again} and not {first}")
         it.say("s")
-        if not any("(said beforehand: Mon early and Mon late differ)" in line for line in it.sheet() or []):
+        shown = [line for line in it.sheet() or [] if "(said beforehand: " in line]
+        if not any("Mon early and Mon late differ)" in line for line in shown):
             found.append("s doesn't mark what was said beforehand")
+        if any(re.match("[a-z]  ", line) for line in shown):
+            found.append(f"a letter leads to what was said beforehand: {shown}")
         it.say("o")
         it.sheet()
         it.say("y" if hands.ward(plain_values(first)) else "n")

@@ -103,12 +103,12 @@ def started(words: Sequence[str], quiet: bool = False, keep_open: Sequence[int] 
                                                    stderr=subprocess.DEVNULL if quiet else None, process_group=0, pass_fds=keep_open))
 
 
-def called(words: Sequence[str], given: bytes = b"", deadline: Deadline | None = None, quiet: bool = False,
-           most: int = MOST_PRINTED) -> tuple[int, bytes]:
+def called(words: Sequence[str], given: bytes = b"", deadline: Deadline | None = None,
+           quiet: bool = False, most: int = MOST_PRINTED) -> tuple[int, bytes]:
     """Runs a program with all its input: its exit status, below 0 where a signal ended it, and what it printed.
 
-    Raises `TimeOver` where the deadline is over before its end, and `Unexpected` where it prints more than `most` bytes; it is killed
-    then.
+    Raises `TimeOver` where the deadline is over before its end, and `Unexpected` where it prints more
+    than `most` bytes; it is killed then.
     """
     process = started(words, quiet)
     with process:

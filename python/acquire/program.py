@@ -37,13 +37,13 @@ class Reply:
 class Program:
     """The program at a path (`path`), which is called once (`call`) or asked line by line (`run`)."""
 
-    def __init__(self, path: str | os.PathLike[str], stack: int | None = _STACK_KB, *, quiet: bool = False,
-                 most: int = MOST_PRINTED) -> None:
+    def __init__(self, path: str | os.PathLike[str], stack: int | None = _STACK_KB, *,
+                 quiet: bool = False, most: int = MOST_PRINTED) -> None:
         """Names the program; nothing is started yet.
 
         stack: the soft limit of its threads' stacks in KB, which a shell sets that then becomes the program. None leaves the caller's.
         quiet: what it says on standard error, as for a disk that is full, goes nowhere.
-        most: the bytes that one call may print, or a run at its end, before it counts as one without an end.
+        most: the bytes that one call may print, or a run at its end; above it has no end.
         """
         self.path = os.path.abspath(path)
         self.quiet, self.most = quiet, most

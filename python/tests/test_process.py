@@ -129,8 +129,8 @@ class StandIns(unittest.TestCase):
         run.close()
 
     def test_as_much_as_may_be_printed(self):
-        printed = self.program("head -c 100000 /dev/zero", most=100_000).call([], deadline=Deadline(LATE)).text
-        self.assertEqual(100_000, len(printed))
+        program = self.program("head -c 100000 /dev/zero", most=100_000)
+        self.assertEqual(100_000, len(program.call([], deadline=Deadline(LATE)).text))
 
     def test_a_line_without_an_end(self):
         run = self.program("exec tr '\\0' x </dev/zero").run([])
