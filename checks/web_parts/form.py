@@ -8,12 +8,11 @@ import os
 import re
 import subprocess
 import sys
-import time
 from collections.abc import Iterator, Sequence
 from dataclasses import dataclass, field
 
 import people
-from browser import Browser
+from browser import Browser, gone
 from served import DESK, Web
 
 # seconds of a person, by the keystroke-level model of Card, Moran and Newell: a key of an average typist, pointing, a click, the
@@ -56,55 +55,46 @@ class Typist:
         self.seconds += seconds
         self.did.append(what)
 
-    def element(self, selector: str):  # type: ignore[no-untyped-def]
-        """An element that can be seen; what it is hidden in is opened first."""
-        found = self.browser.wait(lambda: self.browser.all(selector))[0]
-        for one in found.find_elements("xpath", "ancestor::details[not(@open)]"):
-            summary = one.find_element("css selector", "summary")
-            self.browser.driver.execute_script("arguments[0].scrollIntoView({block: 'center'})", summary)
-            summary.click()
-            self._spent(MIND + POINT + CLICK, f"opens {summary.text}")
-        self.browser.driver.execute_script("arguments[0].scrollIntoView({block: 'center'})", found)
-        return found
+    def _opened(self, selector: str) -> None:
+        """Reckons what has to be opened before an element can be seen."""
+        element = self.browser.wait(lambda: self.browser.stands() and self.browser.all(selector))[0]
+        for one in element.find_elements("xpath", "ancestor::details[not(@open)]"):
+            self._spent(MIND + POINT + CLICK, f"opens {one.find_element('css selector', 'summary').text}")
 
     def types(self, name: str, text: str) -> None:
         """Types into a field by its name."""
-        element = self.element(f"[name='{name}']")
-        element.clear()
-        element.send_keys(text)
+        selector = f"[name='{name}']"
+        self._opened(selector)
+        self.browser.types(selector, text)
         self._spent(MIND + 2 * HAND + POINT + CLICK + KEY * len(text), f"types {text!r} into {name}")
 
     def clicks(self, selector: str) -> None:
-        """Clicks something, also where the page is just being drawn anew."""
-        def clicked() -> bool:
-            self.element(selector).click()
-            return True
-        self.browser.wait(clicked)
+        """Clicks something."""
+        self._opened(selector)
+        self.browser.clicks(selector)
         self._spent(MIND + POINT + CLICK, f"clicks {selector}")
 
+    def leads(self, selector: str) -> None:
+        """Clicks what leads to another page."""
+        self.browser.leads(lambda: self.clicks(selector))
+
     def ticks(self, name: str, text: str) -> None:
-        """Ticks a box; the page stands again when it is ticked."""
+        """Ticks a box."""
         selector = f"input[name='{name}'][value=\"{text}\"]"
-        self.clicks(selector)
-        self.browser.wait(lambda: self.browser.all(selector)[0].is_selected())
+        self._opened(selector)
+        self.browser.ticks(selector)
+        self._spent(MIND + POINT + CLICK, f"clicks {selector}")
 
     def chooses(self, name: str, text: str) -> None:
-        """Chooses one of a list by its first letters, as with a keyboard."""
-        def chosen() -> bool:
-            self.settled()
-            element = self.element(f"select[name='{name}']")
-            element.send_keys(text)
-            if self.browser.driver.execute_script("return arguments[0].selectedOptions[0].text", element) == text:
-                return True
-            time.sleep(1.5)     # until the browser has forgotten the letters
-            return bool(self.browser.driver.execute_script("return arguments[0].selectedOptions[0].text", element) == text)
-        self.browser.wait(chosen)
+        """Chooses one of a list."""
+        selector = f"select[name='{name}']"
+        self._opened(selector)
+        self.browser.chooses(selector, text)
         self._spent(2 * (POINT + CLICK) + MIND, f"chooses {text} in {name}")
 
     def settled(self) -> None:
         """Waits until the page is drawn for all that was typed."""
-        self.browser.wait(lambda: self.browser.driver.execute_script(
-            "return document.body.dataset.wanted === document.body.dataset.drawn"))
+        self.browser.settled()
 
 
 # ---------------------------------------------------------------- what each does
@@ -196,8 +186,7 @@ def at_form(program: str, name: str) -> Iterator[tuple[Web, Typist]]:
         browser.go(f"file://{web.file}")
         it = Typist(browser)
         it.types("new", name)
-        it.clicks("main form button")
-        browser.wait(lambda: browser.all("#fields"))
+        it.leads("main form button")
         yield web, it
 
 
@@ -263,6 +252,11 @@ def store(program: str) -> Faults:
     yield from walk(program, "store", people.STORE)
 
 
+def choir(program: str) -> Faults:
+    """A choir, with one who can't come every evening."""
+    yield from walk(program, "choir", people.CHOIR)
+
+
 def duty(program: str) -> Faults:
     """A roster, with names that have blanks, with what somebody can't do, steps, notes."""
     yield from walk(program, "duty", DUTY)
@@ -316,16 +310,6 @@ def reached(it: Typist, name: str, value: str) -> bool:
     return False
 
 
-def gone(element: object) -> bool:
-    """Whether a page with this element is shown no more."""
-    from selenium.common.exceptions import StaleElementReferenceException
-    try:
-        element.is_displayed()  # type: ignore[attr-defined]
-    except StaleElementReferenceException:
-        return True
-    return False
-
-
 def without_scripts(program: str) -> Faults:
     """A case in a browser that runs none: what fits stands there once it is saved."""
     with at_form(program, "three") as (web, it):
@@ -359,7 +343,7 @@ def without_scripts(program: str) -> Faults:
                 yield f"without scripts the file says {made!r}"
 
 
-TESTS = (seats, conference, holidays, store, duty, menu, by_keys, without_scripts)
+TESTS = (seats, conference, holidays, store, choir, duty, menu, by_keys, without_scripts)
 PLANTED = (
     # a word that is ticked isn't written
     ("fields.py", "several[builder.field].append(made)", "several[builder.field] = [made]", duty),

@@ -4,11 +4,23 @@
 const WAIT = 350;       // milliseconds after a key until the preview is asked for
 const LOOK = 700;       // between two looks at how far a forecast is
 const form = document.getElementById("fields");
+const state = document.body.dataset;
 let timer = 0;
 let wanted = 0;         // previews so far
+state.wanted = state.drawn = "0";       // the page stands where they are the same
 
 function typing(target) {
   return target !== null && (target.tagName === "TEXTAREA" || target.tagName === "INPUT" && target.type === "text");
+}
+
+// on a narrow page groups in which nothing is ticked are folded, until somebody opens them
+const narrow = matchMedia("(max-width: 40rem)");
+
+function fold(part, seen) {
+  for (const one of part.querySelectorAll("details[data-fold]")) {
+    const head = one.querySelector("summary").textContent;
+    one.open = seen.has(head) ? seen.get(head) : !narrow.matches || one.querySelector(":checked") !== null;
+  }
 }
 
 // what the server has drawn is put in place of what stood there, but for where somebody is typing
@@ -18,9 +30,12 @@ function put(page) {
     const now = page.getElementById(part.id);
     if (!now || part.innerHTML === now.innerHTML || part.contains(active) && typing(active)) continue;
     const open = [...part.querySelectorAll("details")].map(one => one.open);
+    const folds = [...part.querySelectorAll("details[data-fold]")];
+    const seen = new Map(folds.map(one => [one.querySelector("summary").textContent, one.open]));
     part.replaceChildren(...now.childNodes);
     const details = [...part.querySelectorAll("details")];
     if (details.length === open.length) details.forEach((one, place) => { one.open = one.open || open[place]; });
+    fold(part, seen);
   }
   if (!active.isConnected) {
     const again = active.id ? document.getElementById(active.id) : document.querySelector(`[name="${active.name}"][value="${CSS.escape(active.value)}"]`);
@@ -44,12 +59,12 @@ async function preview() {
   } catch (error) {
     // the next change asks again
   }
-  document.body.dataset.drawn = String(mine);
+  state.drawn = String(mine);
 }
 
 function soon(milliseconds) {
   wanted += 1;
-  document.body.dataset.wanted = String(wanted);
+  state.wanted = String(wanted);
   clearTimeout(timer);
   timer = setTimeout(preview, milliseconds);
 }
@@ -76,6 +91,7 @@ function longer(target) {
 const PLACE = "desk " + location.pathname;
 
 if (form) {
+  fold(form, new Map());
   const place = sessionStorage.getItem(PLACE);
   sessionStorage.removeItem(PLACE);
   if (place !== null && !location.hash) scrollTo({top: Number(place), behavior: "instant"});
