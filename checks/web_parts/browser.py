@@ -100,9 +100,10 @@ class Browser:
         self.sized(width, height, dark)
 
     def sized(self, width: int, height: int, dark: bool = False) -> None:
-        """Gives the page a size, and a light or a dark screen."""
+        """Gives the page a size, and a light or a dark screen. Nothing glides, so that what is scrolled to stands at once."""
         self.driver.execute_cdp_cmd("Emulation.setDeviceMetricsOverride", {"width": width, "height": height, "deviceScaleFactor": 1, "mobile": width < 500})
-        self.driver.execute_cdp_cmd("Emulation.setEmulatedMedia", {"features": [{"name": "prefers-color-scheme", "value": "dark" if dark else "light"}]})
+        self.driver.execute_cdp_cmd("Emulation.setEmulatedMedia", {"features": [
+            {"name": "prefers-color-scheme", "value": "dark" if dark else "light"}, {"name": "prefers-reduced-motion", "value": "reduce"}]})
 
     def __enter__(self) -> Browser:
         return self

@@ -274,6 +274,7 @@ ask: all
 words: different, before
 """
 MOST_TABS = 150
+MOST_HIGH = 7000        # of a roster's form on a phone
 
 
 def by_keys(program: str) -> Faults:
@@ -310,6 +311,65 @@ def reached(it: Typist, name: str, value: str) -> bool:
     return False
 
 
+PHONE = (360, 640)
+# whether what has the focus is hidden, below the bar at the bottom or beside the page; nothing once the form is left
+HIDDEN = """
+const at = document.activeElement, bar = document.querySelector('.save'), box = at.getBoundingClientRect();
+if (bar.contains(at)) return null;
+const x = Math.min(box.left + box.width / 2, innerWidth - 2);
+for (const y of [box.top + 2, box.top + Math.min(box.height, 60) - 3]) {
+  const there = document.elementFromPoint(x, y);
+  if (y < 0 || y > innerHeight || !there || bar.contains(there)) return `${at.tagName} ${at.name || at.textContent.trim().slice(0, 40)}`;
+}
+return '';"""
+
+
+def seen(program: str) -> Faults:
+    """What the keyboard leads to is never hidden below the bar that saves, on a phone and on a low screen."""
+    with Web(program, {"x.case": people.WARD}) as web, Browser() as browser:
+        browser.go(f"file://{web.file}")
+        browser.at("#new-name")
+        for width, height in (PHONE, (1000, 500)):
+            browser.sized(width, height)
+            browser.go(f"http://{web.host}{web.path}/case/x.case")
+            browser.at("#title-text").click()
+            steps = 0
+            while (hidden := browser.driver.execute_script(HIDDEN)) is not None and steps < MOST_TABS:
+                if hidden:
+                    yield f"at {width} by {height} this is hidden: {hidden}"
+                browser.key("\ue004")
+                steps += 1
+            if not 20 < steps < MOST_TABS:
+                yield f"at {width} by {height} the bar comes after {steps} steps"
+
+
+FOLDED = "return [...document.querySelectorAll('#ask details[data-fold]')].map(one => [one.querySelector('summary').textContent, one.open])"
+
+
+def on_a_phone(program: str) -> Faults:
+    """On a narrow page groups in which nothing is ticked are folded, and stay as they were put when the page is drawn anew."""
+    with Web(program, {"x.case": people.WARD}) as web, Browser() as browser:
+        browser.go(f"file://{web.file}")
+        browser.at("#new-name")
+        high = []
+        for width in (1000, 360):
+            browser.sized(width, 900)
+            browser.go(f"http://{web.host}{web.path}/case/x.case")
+            browser.settled()
+            folded = dict(browser.driver.execute_script(FOLDED))
+            if folded != {"By day": True, "By shift": width > 360}:
+                yield f"at {width} the groups are {folded}"
+            high.append(browser.driver.execute_script("return document.documentElement.scrollHeight"))
+        if high[1] > MOST_HIGH:
+            yield f"on a phone the form is {high[1]} high"
+        browser.driver.execute_script("for (const one of document.querySelectorAll('#ask details[data-fold]')) one.open = !one.open")
+        browser.types("#title-text", "Another")
+        browser.ticks("input[name=ask][value=all]")
+        browser.settled()
+        if (folded := dict(browser.driver.execute_script(FOLDED))) != {"By day": False, "By shift": True}:
+            yield f"after the page was drawn anew the groups are {folded}"
+
+
 def without_scripts(program: str) -> Faults:
     """A case in a browser that runs none: what fits stands there once it is saved."""
     with at_form(program, "three") as (web, it):
@@ -343,12 +403,17 @@ def without_scripts(program: str) -> Faults:
                 yield f"without scripts the file says {made!r}"
 
 
-TESTS = (seats, conference, holidays, store, choir, duty, menu, by_keys, without_scripts)
+TESTS = (seats, conference, holidays, store, choir, duty, menu, by_keys, seen, on_a_phone, without_scripts)
 PLANTED = (
     # a word that is ticked isn't written
     ("fields.py", "several[builder.field].append(made)", "several[builder.field] = [made]", duty),
     # where somebody was is forgotten when the page is drawn anew
     ("static/case.js", "if (again) again.focus({preventScroll: true});", "", by_keys),
+    # the bar that saves covers what the keyboard leads to
+    ("static/case.css", "html:has(.save) { scroll-padding: 1rem 0 6rem; }", "", seen),
+    # groups are never folded, and what was opened is folded again
+    ("static/case.js", "  fold(form, new Map());\n", "", on_a_phone),
+    ("static/case.js", "seen.has(head) ? seen.get(head) : ", "", on_a_phone),
     # what is ticked in the file isn't ticked on the page
     ("templates/fields.html", "{% if on %} checked{% endif %}> <span>", "> <span>", without_scripts),
 )
