@@ -338,7 +338,7 @@ def too_large(program: str) -> Faults:
     with Web(program, {"x.case": CASE}) as web, Browser() as browser:
         browser.go(f"file://{web.file}")
         browser.at("#new-name")
-        for letters in (5_000_000, 60_000_000):
+        for letters in (5_000_000, 12_000_000):
             browser.go(f"http://{web.host}{web.path}/case/x.case")
             browser.settled()
             browser.driver.execute_script("document.getElementById('text-all').value = 'x'.repeat(arguments[0])", letters)

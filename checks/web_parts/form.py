@@ -142,10 +142,16 @@ def filled(it: Typist, text: str) -> None:
         head, _, said = line.partition(": ")
         key, _, name = head.partition(" ")
         it.settled()
-        if key in rows:
-            field_name = {"thing": "own", "only": "only"}[key]
-            it.types(f"{field_name}-{rows[key]}-name", name)
-            it.types(f"{field_name}-{rows[key]}-text", said)
+        if key == "thing":
+            it.types(f"own-{rows[key]}-name", name)
+            it.types(f"own-{rows[key]}-more", said)
+            it.clicks(f"#own-{rows[key]}-add")
+            it.browser.wait(lambda: len(it.browser.all(f"input[name='own-{rows[key]}-tick']")) == len(said.split()))
+            rows[key] += 1
+        elif key == "only":
+            it.chooses(f"only-{rows[key]}-name", name)
+            for piece in (pieces(said) if "," in said else said.split()):
+                it.ticks(f"only-{rows[key]}-tick", piece)
             rows[key] += 1
         elif key in ("things", "values"):
             names(it, key, said)

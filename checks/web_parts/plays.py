@@ -66,8 +66,9 @@ def made(browser: Browser, person: Person) -> None:
             browser.types(f"#{field}-side-{place}-text", members)
     for place, line in enumerate(line for line in person.text.splitlines() if line.startswith("only ")):
         name, _, some = line.removeprefix("only ").partition(": ")
-        browser.types(f"#only-{place}-name", name)
-        browser.types(f"#only-{place}-text", some)
+        browser.chooses(f"#only-{place}-name", name)
+        for one in some.split(", "):
+            browser.ticks(f'input[name=only-{place}-tick][value="{one}"]')
     for field in ("ask", "words"):
         for text in person.of(field).split(", "):
             browser.ticks(f'input[type=checkbox][name={field}][value="{text}"]')

@@ -103,6 +103,14 @@ if (form) {
   form.addEventListener("change", () => soon(0));
 }
 
+// a value that is added is drawn at once; the Enter key in another row or field saves, as it does without this
+if (form) form.addEventListener("click", event => {
+  const add = event.target.closest("[data-add]");
+  if (!add || document.activeElement.closest(".row") !== add.closest(".row")) return;
+  event.preventDefault();
+  soon(0);
+});
+
 // a line of the text that has a fault
 addEventListener("click", event => {
   const link = event.target.closest("a[data-line]");
