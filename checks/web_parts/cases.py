@@ -131,7 +131,7 @@ def drawn(draw: random.Random) -> tuple[str, list[str], list[str]]:
     for thing in limited:
         some = draw.sample(values, draw.randint(2, len(values)))
         lines.append(f"only {thing}: " + draw.choice([", ".join(some), " ".join(sorted(some)), f"{values[0]} .. {values[-1]}", values[0].split()[0] if slots else some[0]]))
-    own = [] if grid else draw.sample(["frame", "the wheels"], draw.randint(0, 2))
+    own = [] if grid or slots else draw.sample(["frame", "the wheels"], draw.randint(0, 2))
     lines += [f"thing {thing}: " + draw.choice(["steel carbon", "steel, of wood", "1 .. 4", '"of wood"']) for thing in own]
     draw.shuffle(lines)
     return "\n".join([*lines, "ask: each", "words: same", ""]), limited, own
@@ -318,7 +318,7 @@ def copies(program: str) -> Faults:
             if web.get(f"/case/{urllib.parse.quote(name)}.case").status != 200:
                 yield f"{name}: its page isn't shown"
         page = web.get("/").text
-        rows = [re.sub(r"<.*?>|\s+", " ", row).split() for row in re.findall(r"<tr>(.*?)</tr>", page, re.DOTALL)[1:]]
+        rows = [re.sub(r"<.*?>|\s+", " ", row).split() for row in re.findall(r"<tr\b.*?>(.*?)</tr>", page, re.DOTALL)[1:]]
         if len(rows) != 6 or "<b>" in page:
             yield f"the list has {rows}"
         states = {"x": "ready", "bad": "to mend", "my": "to mend"}

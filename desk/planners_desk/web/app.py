@@ -1,10 +1,11 @@
 """The application behind the pages.
 
-Its parts: `security` decides who may come in, `refusing` what is too large, `entrance` lets a browser
-in, `cases` shows the cases of the folder and each as a form, `pages` shows a sitting. A page is made of
-a template that extends `base.html`; it names its case as `name`, so that the head leads to its form at
-`cases.show` and its questions at `sitting.show`. `cases.index` is the first page. What a page says of a
-word that is missing leads to `cases.show` with `add=WORD`, which ticks that word.
+Its parts: `security` decides who may come in, `refusing` what is too large, `entrance` lets a
+browser in, `cases` shows the cases of the folder and each as a form, `pages` shows a sitting. A
+page is made of a template that extends `base.html`; it names its case as `name`, so that the head
+leads to its form at `cases.show` and its questions at `sitting.show`. `cases.index` is the first
+page. What a page says of a word that is missing leads to `cases.show` with `add=WORD`, which ticks
+that word.
 """
 
 from __future__ import annotations
