@@ -88,9 +88,9 @@ class Browser:
         from selenium.webdriver.chrome.options import Options
         from selenium.webdriver.chrome.service import Service
         options = Options()
-        self._home = tempfile.mkdtemp(prefix="desk-browser-")
+        self.home = tempfile.mkdtemp(prefix="desk-browser-")
         for word in ("--headless=new", "--no-sandbox", "--disable-gpu", "--disable-dev-shm-usage", "--no-first-run", "--disable-extensions",
-                     "--disable-background-networking", "--force-device-scale-factor=1", "--hide-scrollbars", f"--user-data-dir={self._home}",
+                     "--disable-background-networking", "--force-device-scale-factor=1", "--hide-scrollbars", f"--user-data-dir={self.home}",
                      f"--window-size={width},{height}"):
             options.add_argument(word)
         options.binary_location = shutil.which("chromium") or ""
@@ -115,7 +115,7 @@ class Browser:
         """Ends it."""
         with contextlib.suppress(Exception):
             self.driver.quit()
-        shutil.rmtree(self._home, ignore_errors=True)
+        shutil.rmtree(self.home, ignore_errors=True)
 
     # ---- looking
 

@@ -16,7 +16,7 @@ from collections.abc import Iterator
 from browser import Browser, broke_off
 from people import WARD
 from refused import CASE, EVIL
-from served import Web
+from served import Web, processes
 
 GRID = """title: Two days
 things: day Mon Tue x shift early late night
@@ -367,12 +367,14 @@ def finds(program):
 def breaks_off(_: str) -> Faults:
     """A test in which the driver breaks off is run once more, which is said; one that finds something, or has an error of its own, isn't."""
     with Browser() as browser:
-        os.kill(browser.driver.service.process.pid, signal.SIGKILL)
+        browser.go("data:text/html,<h1>one</h1>")
+        for number in processes(browser.home):
+            os.kill(number, signal.SIGKILL)
         try:
-            browser.at("h1")
+            browser.wait(lambda: browser.all("h2"), 5)
         except Exception as error:      # pylint: disable=broad-exception-caught # which one it is is looked at
             if not broke_off(error):
-                yield f"where the driver is killed the error is {error!r}"
+                yield f"where the browser is killed the error is {error!r}"
     if broke_off(AssertionError()) or broke_off(OSError()):
         yield "an error of desk's is taken for one of the driver"
     path = os.path.join(os.path.dirname(os.path.dirname(os.path.realpath(__file__))), "web.py")
