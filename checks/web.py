@@ -7,7 +7,8 @@ usage: checks/web.py PROGRAM [PART ..]
 Each part is a file in checks/web_parts. `refused` makes requests by hand, and `cases` those of cases; `sittings` answers, kills and
 goes on; `clicks`, `plays` and `form` drive a real browser; `pace` measures. What they need is installed by apt-get where that is possible: python3-flask, python3-waitress,
 chromium, chromium-driver and python3-selenium. That is said before, and NO_INSTALL=1 forbids it; what can't be had is passed over,
-and the last line says so.
+and the last line says so. Where the browser or its driver breaks off in a test, as when it dies, the test is run once more, which is
+said; one that finds a fault never is.
 """
 
 from __future__ import annotations
@@ -32,6 +33,7 @@ MODULES = {"flask": "python3-flask", "waitress": "python3-waitress", "selenium":
 COMMANDS = {"chromium": "chromium", "chromedriver": "chromium-driver"}
 PATIENCE = 1800         # seconds for a test
 SIDE_BY_SIDE = 3
+BROKE_OFF = 75          # status of a test in which the browser's driver broke off
 
 
 def missing() -> list[str]:
@@ -56,24 +58,38 @@ def install() -> None:
 
 
 def tested(part: str, test: str, program: str, folder: str = DESK) -> list[str]:
-    """Runs one test in a process of its own; its faults."""
-    code = (f"import sys; sys.path.insert(0, {PARTS_FOLDER!r}); import {part} as it\n"
-            f"faults = list(it.{test}({program!r}))\n"
-            "print(*('FAULT ' + str(fault).replace(chr(10), ' | ') for fault in faults), sep=chr(10))")
+    """Runs one test in a process of its own, once more where the browser's driver breaks off; its faults."""
+    status, faults = ran(part, test, program, folder)
+    if status == BROKE_OFF:
+        print(f"web: the browser's driver broke off, so the test is run once more: {faults[-1]}", flush=True)
+        _, faults = ran(part, test, program, folder)
+    return faults
+
+
+def ran(part: str, test: str, program: str, folder: str) -> tuple[int, list[str]]:
+    """Runs one test: its status, and its faults."""
+    code = (f"import sys; sys.path.insert(0, {PARTS_FOLDER!r}); import browser, {part} as it\n"
+            "try:\n"
+            f"    for fault in it.{test}({program!r}): print('FAULT ' + str(fault).replace(chr(10), ' | '), flush=True)\n"
+            "except Exception as error:\n"
+            "    if not browser.there() or not browser.broke_off(error): raise\n"
+            f"    print(f'{{type(error).__name__}}: {{error}}', file=sys.stderr); sys.exit({BROKE_OFF})\n")
     environment = {**os.environ, "DESK_FOLDER": folder, "PYTHONDONTWRITEBYTECODE": "1"}
     environment.pop("DESK_ACQUIRE", None)
     try:
-        ran = subprocess.run([sys.executable, "-c", code], env=environment, stdin=subprocess.DEVNULL, capture_output=True, text=True,
-                             timeout=PATIENCE, check=False)
+        done = subprocess.run([sys.executable, "-c", code], env=environment, stdin=subprocess.DEVNULL, capture_output=True, text=True,
+                              timeout=PATIENCE, check=False)
     except subprocess.TimeoutExpired:
-        return [f"{part}.{test}: it isn't done after {PATIENCE} s"]
-    for line in ran.stdout.splitlines():
+        return 0, [f"{part}.{test}: it isn't done after {PATIENCE} s"]
+    faults = [f"{part}.{test}: {line.removeprefix('FAULT ')}" for line in done.stdout.splitlines() if line.startswith("FAULT ")]
+    if done.returncode == BROKE_OFF and faults:     # it has found something before
+        return 0, faults
+    for line in done.stdout.splitlines():
         if line and not line.startswith("FAULT "):
             print(line, flush=True)
-    faults = [f"{part}.{test}: {line.removeprefix('FAULT ')}" for line in ran.stdout.splitlines() if line.startswith("FAULT ")]
-    if ran.returncode:
-        faults.append(f"{part}.{test} broke off: {ran.stderr.strip()[-600:]}")
-    return faults
+    if done.returncode:
+        faults.append(f"{part}.{test} broke off: {' | '.join(done.stderr.strip().splitlines())[-600:]}")
+    return done.returncode, faults
 
 
 def planted(program: str, parts: list[str]) -> tuple[int, list[str]]:

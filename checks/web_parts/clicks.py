@@ -4,14 +4,19 @@ from __future__ import annotations
 
 import contextlib
 import http.server
+import importlib.util
+import io
+import os
+import signal
+import tempfile
 import threading
 import time
 from collections.abc import Iterator
 
-from browser import Browser
+from browser import Browser, broke_off
 from people import WARD
 from refused import CASE, EVIL
-from served import Web
+from served import Web, processes
 
 GRID = """title: Two days
 things: day Mon Tue x shift early late night
@@ -265,7 +270,10 @@ for(const e of document.querySelectorAll('progress'))if(!e.labels.length&&!e.get
 const ids=[...document.querySelectorAll('[id]')].map(e=>e.id);ids.filter((id,i)=>ids.indexOf(id)!==i).forEach(id=>out.push('twice the id '+id));
 for(const e of document.querySelectorAll('[aria-labelledby]'))for(const id of e.getAttribute('aria-labelledby').split(' '))if(!ids.includes(id))out.push('no '+id);
 if(document.documentElement.scrollWidth>innerWidth)out.push('it is '+document.documentElement.scrollWidth+' wide in '+innerWidth);
-for(const e of document.querySelectorAll('button,a.button'))if(e.checkVisibility()){const r=e.getBoundingClientRect();if(r.height<24)out.push('"'+e.textContent.trim()+'" is '+r.height+' high');}
+for(const e of document.querySelectorAll('button,a.button,summary,nav a,table.cases a,select,textarea,input[type=text],label.tick,label.cell,.kinds label'))if(e.checkVisibility()){
+ const r=e.getBoundingClientRect();if(r.height<24||r.width<24)out.push('"'+e.textContent.trim().slice(0,30)+'" is '+r.width+' by '+r.height);}
+const rem=parseFloat(getComputedStyle(document.documentElement).fontSize);
+for(const e of document.querySelectorAll('main p:not(.buttons), main li'))if(e.checkVisibility()&&e.getBoundingClientRect().width>48*rem+1)out.push('a line of '+e.getBoundingClientRect().width+': '+e.textContent.trim().slice(0,30));
 return out;
 """.replace("LEAST", str(LEAST_CONTRAST))
 
@@ -300,6 +308,97 @@ def read(program: str) -> Faults:
                 yield f"the browser complains: {errors}"
 
 
+def cases(program: str) -> Faults:
+    """So can the pages of cases: the list, a new name that is wrong, and a form, empty, filled in, and with faults."""
+    with Web(program, {"x.case": WARD, "bad.case": "things: a\nhello\nask: al\nwords: diferent\n"}) as web, Browser() as browser:
+        browser.go(f"file://{web.file}")
+        browser.at("#new-name")
+        yield from looked_at(browser, "the list")
+        browser.sized(360, 900)
+        wide = browser.driver.execute_script("const e=document.querySelector('table.cases').parentElement; return e.scrollWidth - e.clientWidth")
+        if wide > 0:
+            yield f"at 360 the list is {wide} wider than the page"
+        browser.types("#new-name", "a/b")
+        browser.leads(lambda: browser.click("Make it"))
+        yield from looked_at(browser, "a wrong name")
+        browser.types("#new-name", "new")
+        browser.leads(lambda: browser.click("Make it"))
+        yield from looked_at(browser, "an empty form")
+        for name in ("x", "bad"):
+            browser.go(f"http://{web.host}{web.path}/case/{name}.case")
+            browser.settled()
+            browser.driver.execute_script("document.querySelectorAll('details').forEach(one => { one.open = true; })")
+            yield from looked_at(browser, f"the form of {name}")
+        if errors := [one for one in browser.errors() if " 422 " not in one]:
+            yield f"the browser complains: {errors}"
+
+
+def too_large(program: str) -> Faults:
+    """A form that is too large leads to a page that says what to do, also while the browser still sends it."""
+    with Web(program, {"x.case": CASE}) as web, Browser() as browser:
+        browser.go(f"file://{web.file}")
+        browser.at("#new-name")
+        for letters in (5_000_000, 12_000_000):
+            browser.go(f"http://{web.host}{web.path}/case/x.case")
+            browser.settled()
+            browser.driver.execute_script("document.getElementById('text-all').value = 'x'.repeat(arguments[0])", letters)
+            browser.leads(lambda: browser.click("Save the text"))
+            if "This can't be shown" not in browser.head() or "a million bytes at most" not in browser.text():
+                yield f"{letters} letters lead to {browser.head()!r} {browser.text()[:300]!r}"
+
+
+STAND_IN = """
+import os
+from selenium.common.exceptions import NoSuchElementException, WebDriverException
+def turns(program, error, most):
+    with open(program, 'a') as file: file.write('x')
+    if os.path.getsize(program) <= most: raise error
+    return ()
+def once(program): return turns(program, WebDriverException('it has died'), 1)
+def always(program): return turns(program, WebDriverException('it has died'), 9)
+def asserts(program): return turns(program, AssertionError('it is otherwise'), 9)
+def lacks(program): return turns(program, NoSuchElementException('no such field'), 9)
+def finds(program):
+    yield 'something is wrong'
+    turns(program, WebDriverException('it has died'), 9)
+"""
+
+
+def breaks_off(_: str) -> Faults:
+    """A test in which the driver breaks off is run once more, which is said; one that finds something, or has an error of its own, isn't."""
+    with Browser() as browser:
+        browser.go("data:text/html,<h1>one</h1>")
+        for number in processes(browser.home):
+            os.kill(number, signal.SIGKILL)
+        try:
+            browser.wait(lambda: browser.all("h2"), 5)
+        except Exception as error:      # pylint: disable=broad-exception-caught # which one it is is looked at
+            if not broke_off(error):
+                yield f"where the browser is killed the error is {error!r}"
+    if broke_off(AssertionError()) or broke_off(OSError()):
+        yield "an error of desk's is taken for one of the driver"
+    path = os.path.join(os.path.dirname(os.path.dirname(os.path.realpath(__file__))), "web.py")
+    spec = importlib.util.spec_from_file_location("web", path)
+    assert spec and spec.loader
+    web = importlib.util.module_from_spec(spec)
+    spec.loader.exec_module(web)
+    with tempfile.TemporaryDirectory() as folder:
+        with open(os.path.join(folder, "stand_in.py"), "w", encoding="utf-8") as file:
+            file.write(STAND_IN)
+        before = os.environ.get("PYTHONPATH")
+        os.environ["PYTHONPATH"] = folder
+        for test, runs, faults in (("once", 2, 0), ("always", 2, 1), ("asserts", 1, 1), ("lacks", 1, 1), ("finds", 1, 1)):
+            counted = os.path.join(folder, test)
+            with contextlib.redirect_stdout(io.StringIO()) as said:
+                found = web.tested("stand_in", test, counted)
+            if (os.path.getsize(counted), len(found), "is run once more" in said.getvalue()) != (runs, faults, runs > 1):
+                yield f"{test} is run {os.path.getsize(counted)} times, with {found}, and {said.getvalue()!r} is said"
+        if before is None:
+            del os.environ["PYTHONPATH"]
+        else:
+            os.environ["PYTHONPATH"] = before
+
+
 def judged(browser: Browser) -> Faults:
     """The pages of the end: a plan that is said to be wrong, one that the rules refuse, and the report."""
     browser.does("Look at plans")
@@ -319,7 +418,7 @@ def judged(browser: Browser) -> Faults:
     yield from looked_at(browser, "the report")
 
 
-TESTS = (presses, tabs, foreign, names, keyboard, read)
+TESTS = (presses, tabs, foreign, names, keyboard, read, cases, too_large, breaks_off)
 PLANTED = (
     ("static/page.js", "event.repeat || ", "", presses),
     ("sittings.py", "            if number != self._number or self._over:\n", "            if self._over:\n", tabs),
@@ -331,4 +430,8 @@ PLANTED = (
     ("static/style.css", "--dim: #566072", "--dim: #9aa3b0", read),
     ("templates/question.html", "<label for=\"bar\">", "<label>", read),
     ("static/style.css", ".wide { overflow-x: auto; max-width: 100%;", ".wide {", read),
+    ("static/style.css", "h1, p, li, summary, .fault, .note, .taught { max-width: 48rem; }", "", cases),
+    ("static/style.css", "button.small { padding: .1rem .5rem; font-size: .85rem; min-height: 1.7rem; }", "button.small { padding: 0; font-size: .85rem; min-height: 0; }", read),
+    ("static/case.css", "table.cases td { display: block;", "table.cases td {", cases),
+    ("server.py", "    server.channel_class = Channel\n", "", too_large),
 )

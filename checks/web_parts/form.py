@@ -8,12 +8,11 @@ import os
 import re
 import subprocess
 import sys
-import time
 from collections.abc import Iterator, Sequence
 from dataclasses import dataclass, field
 
 import people
-from browser import Browser
+from browser import Browser, gone
 from served import DESK, Web
 
 # seconds of a person, by the keystroke-level model of Card, Moran and Newell: a key of an average typist, pointing, a click, the
@@ -56,55 +55,46 @@ class Typist:
         self.seconds += seconds
         self.did.append(what)
 
-    def element(self, selector: str):  # type: ignore[no-untyped-def]
-        """An element that can be seen; what it is hidden in is opened first."""
-        found = self.browser.wait(lambda: self.browser.all(selector))[0]
-        for one in found.find_elements("xpath", "ancestor::details[not(@open)]"):
-            summary = one.find_element("css selector", "summary")
-            self.browser.driver.execute_script("arguments[0].scrollIntoView({block: 'center'})", summary)
-            summary.click()
-            self._spent(MIND + POINT + CLICK, f"opens {summary.text}")
-        self.browser.driver.execute_script("arguments[0].scrollIntoView({block: 'center'})", found)
-        return found
+    def _opened(self, selector: str) -> None:
+        """Reckons what has to be opened before an element can be seen."""
+        element = self.browser.wait(lambda: self.browser.stands() and self.browser.all(selector))[0]
+        for one in element.find_elements("xpath", "ancestor::details[not(@open)]"):
+            self._spent(MIND + POINT + CLICK, f"opens {one.find_element('css selector', 'summary').text}")
 
     def types(self, name: str, text: str) -> None:
         """Types into a field by its name."""
-        element = self.element(f"[name='{name}']")
-        element.clear()
-        element.send_keys(text)
+        selector = f"[name='{name}']"
+        self._opened(selector)
+        self.browser.types(selector, text)
         self._spent(MIND + 2 * HAND + POINT + CLICK + KEY * len(text), f"types {text!r} into {name}")
 
     def clicks(self, selector: str) -> None:
-        """Clicks something, also where the page is just being drawn anew."""
-        def clicked() -> bool:
-            self.element(selector).click()
-            return True
-        self.browser.wait(clicked)
+        """Clicks something."""
+        self._opened(selector)
+        self.browser.clicks(selector)
         self._spent(MIND + POINT + CLICK, f"clicks {selector}")
 
+    def leads(self, selector: str) -> None:
+        """Clicks what leads to another page."""
+        self.browser.leads(lambda: self.clicks(selector))
+
     def ticks(self, name: str, text: str) -> None:
-        """Ticks a box; the page stands again when it is ticked."""
+        """Ticks a box."""
         selector = f"input[name='{name}'][value=\"{text}\"]"
-        self.clicks(selector)
-        self.browser.wait(lambda: self.browser.all(selector)[0].is_selected())
+        self._opened(selector)
+        self.browser.ticks(selector)
+        self._spent(MIND + POINT + CLICK, f"clicks {selector}")
 
     def chooses(self, name: str, text: str) -> None:
-        """Chooses one of a list by its first letters, as with a keyboard."""
-        def chosen() -> bool:
-            self.settled()
-            element = self.element(f"select[name='{name}']")
-            element.send_keys(text)
-            if self.browser.driver.execute_script("return arguments[0].selectedOptions[0].text", element) == text:
-                return True
-            time.sleep(1.5)     # until the browser has forgotten the letters
-            return bool(self.browser.driver.execute_script("return arguments[0].selectedOptions[0].text", element) == text)
-        self.browser.wait(chosen)
+        """Chooses one of a list."""
+        selector = f"select[name='{name}']"
+        self._opened(selector)
+        self.browser.chooses(selector, text)
         self._spent(2 * (POINT + CLICK) + MIND, f"chooses {text} in {name}")
 
     def settled(self) -> None:
         """Waits until the page is drawn for all that was typed."""
-        self.browser.wait(lambda: self.browser.driver.execute_script(
-            "return document.body.dataset.wanted === document.body.dataset.drawn"))
+        self.browser.settled()
 
 
 # ---------------------------------------------------------------- what each does
@@ -152,10 +142,16 @@ def filled(it: Typist, text: str) -> None:
         head, _, said = line.partition(": ")
         key, _, name = head.partition(" ")
         it.settled()
-        if key in rows:
-            field_name = {"thing": "own", "only": "only"}[key]
-            it.types(f"{field_name}-{rows[key]}-name", name)
-            it.types(f"{field_name}-{rows[key]}-text", said)
+        if key == "thing":
+            it.types(f"own-{rows[key]}-name", name)
+            it.types(f"own-{rows[key]}-more", said)
+            it.clicks(f"#own-{rows[key]}-add")
+            it.browser.wait(lambda: len(it.browser.all(f"input[name='own-{rows[key]}-tick']")) == len(said.split()))
+            rows[key] += 1
+        elif key == "only":
+            it.chooses(f"only-{rows[key]}-name", name)
+            for piece in (pieces(said) if "," in said else said.split()):
+                it.ticks(f"only-{rows[key]}-tick", piece)
             rows[key] += 1
         elif key in ("things", "values"):
             names(it, key, said)
@@ -196,8 +192,7 @@ def at_form(program: str, name: str) -> Iterator[tuple[Web, Typist]]:
         browser.go(f"file://{web.file}")
         it = Typist(browser)
         it.types("new", name)
-        it.clicks("main form button")
-        browser.wait(lambda: browser.all("#fields"))
+        it.leads("main form button")
         yield web, it
 
 
@@ -263,6 +258,11 @@ def store(program: str) -> Faults:
     yield from walk(program, "store", people.STORE)
 
 
+def choir(program: str) -> Faults:
+    """A choir, with one who can't come every evening."""
+    yield from walk(program, "choir", people.CHOIR)
+
+
 def duty(program: str) -> Faults:
     """A roster, with names that have blanks, with what somebody can't do, steps, notes."""
     yield from walk(program, "duty", DUTY)
@@ -280,6 +280,7 @@ ask: all
 words: different, before
 """
 MOST_TABS = 150
+MOST_HIGH = 7000        # of a roster's form on a phone
 
 
 def by_keys(program: str) -> Faults:
@@ -316,14 +317,63 @@ def reached(it: Typist, name: str, value: str) -> bool:
     return False
 
 
-def gone(element: object) -> bool:
-    """Whether a page with this element is shown no more."""
-    from selenium.common.exceptions import StaleElementReferenceException
-    try:
-        element.is_displayed()  # type: ignore[attr-defined]
-    except StaleElementReferenceException:
-        return True
-    return False
+PHONE = (360, 640)
+# whether what has the focus is hidden, below the bar at the bottom or beside the page; nothing once the form is left
+HIDDEN = """
+const at = document.activeElement, bar = document.querySelector('.save'), box = at.getBoundingClientRect();
+if (bar.contains(at)) return null;
+const x = Math.min(box.left + box.width / 2, innerWidth - 2);
+for (const y of [box.top + 2, box.top + Math.min(box.height, 60) - 3]) {
+  const there = document.elementFromPoint(x, y);
+  if (y < 0 || y > innerHeight || !there || bar.contains(there)) return `${at.tagName} ${at.name || at.textContent.trim().slice(0, 40)}`;
+}
+return '';"""
+
+
+def seen(program: str) -> Faults:
+    """What the keyboard leads to is never hidden below the bar that saves, on a phone and on a low screen."""
+    with Web(program, {"x.case": people.WARD}) as web, Browser() as browser:
+        browser.go(f"file://{web.file}")
+        browser.at("#new-name")
+        for width, height in (PHONE, (1000, 500)):
+            browser.sized(width, height)
+            browser.go(f"http://{web.host}{web.path}/case/x.case")
+            browser.at("#title-text").click()
+            steps = 0
+            while (hidden := browser.driver.execute_script(HIDDEN)) is not None and steps < MOST_TABS:
+                if hidden:
+                    yield f"at {width} by {height} this is hidden: {hidden}"
+                browser.key("\ue004")
+                steps += 1
+            if not 20 < steps < MOST_TABS:
+                yield f"at {width} by {height} the bar comes after {steps} steps"
+
+
+FOLDED = "return [...document.querySelectorAll('#ask details[data-fold]')].map(one => [one.querySelector('summary').textContent, one.open])"
+
+
+def on_a_phone(program: str) -> Faults:
+    """On a narrow page groups in which nothing is ticked are folded, and stay as they were put when the page is drawn anew."""
+    with Web(program, {"x.case": people.WARD}) as web, Browser() as browser:
+        browser.go(f"file://{web.file}")
+        browser.at("#new-name")
+        high = []
+        for width in (1000, 360):
+            browser.sized(width, 900)
+            browser.go(f"http://{web.host}{web.path}/case/x.case")
+            browser.settled()
+            folded = dict(browser.driver.execute_script(FOLDED))
+            if folded != {"By day": True, "By shift": width > 360}:
+                yield f"at {width} the groups are {folded}"
+            high.append(browser.driver.execute_script("return document.documentElement.scrollHeight"))
+        if high[1] > MOST_HIGH:
+            yield f"on a phone the form is {high[1]} high"
+        browser.driver.execute_script("for (const one of document.querySelectorAll('#ask details[data-fold]')) one.open = !one.open")
+        browser.types("#title-text", "Another")
+        browser.ticks("input[name=ask][value=all]")
+        browser.settled()
+        if (folded := dict(browser.driver.execute_script(FOLDED))) != {"By day": False, "By shift": True}:
+            yield f"after the page was drawn anew the groups are {folded}"
 
 
 def without_scripts(program: str) -> Faults:
@@ -359,12 +409,17 @@ def without_scripts(program: str) -> Faults:
                 yield f"without scripts the file says {made!r}"
 
 
-TESTS = (seats, conference, holidays, store, duty, menu, by_keys, without_scripts)
+TESTS = (seats, conference, holidays, store, choir, duty, menu, by_keys, seen, on_a_phone, without_scripts)
 PLANTED = (
     # a word that is ticked isn't written
     ("fields.py", "several[builder.field].append(made)", "several[builder.field] = [made]", duty),
     # where somebody was is forgotten when the page is drawn anew
     ("static/case.js", "if (again) again.focus({preventScroll: true});", "", by_keys),
+    # the bar that saves covers what the keyboard leads to
+    ("static/case.css", "html:has(.save) { scroll-padding: 1rem 0 6rem; }", "", seen),
+    # groups are never folded, and what was opened is folded again
+    ("static/case.js", "  fold(form, new Map());\n", "", on_a_phone),
+    ("static/case.js", "seen.has(head) ? seen.get(head) : ", "", on_a_phone),
     # what is ticked in the file isn't ticked on the page
     ("templates/fields.html", "{% if on %} checked{% endif %}> <span>", "> <span>", without_scripts),
 )

@@ -144,10 +144,37 @@ def store(shown: Shown) -> bool:
             and pairs(shown, far, lambda one, other: abs(int(one[5:]) - int(other[5:])) >= 2))
 
 
+# ---------------------------------------------------------------- a choir
+
+CHOIR = """title: Choir, singing by twos and threes
+things: Ada Ben Cleo Dov Ella Finn Gwen
+values: evening Mon Tue Thu x hour 7 8
+only Gwen: Tue 7, Tue 8
+ask: all
+words: same, same evening, different evening, earlier evening
+known: at most 3 of them Tue 7 on all
+note: the small room holds three
+plan: scopes
+"""
+EVENINGS = ("Mon", "Tue", "Thu")
+
+
+def choir(shown: Shown) -> bool:
+    """Ada and Ben sing a duet; Cleo and Dov share the child that somebody stays with; Ella teaches Finn's part on an evening before;
+    Gwen drives Ben home."""
+    def evening(slot: str) -> int:
+        return EVENINGS.index(slot.split()[0])
+    return (pairs(shown, [("Ada", "Ben")], lambda one, other: one == other)
+            and pairs(shown, [("Cleo", "Dov")], lambda one, other: evening(one) != evening(other))
+            and pairs(shown, [("Ella", "Finn")], lambda one, other: evening(one) < evening(other))
+            and pairs(shown, [("Ben", "Gwen"), ("Ada", "Gwen")], lambda one, other: evening(one) == evening(other)))
+
+
 EVERY = (
     Person("ward.case", WARD, ward, ("early, late and night differ", "night and early on the next day differ", "night is never Ann")),
     Person("seats.case", SEATS, seats, ("Ada and Bo have the same table", "Cy and Dürr have a different table", "Eve and Fay are next to each other")),
     Person("conference.case", CONFERENCE, conference, ("opening has an earlier hour than each of", "maths and stars have a different hour")),
     Person("holidays.case", HOLIDAYS, holidays, ("each two of Ana, Bea and Cem differ", "Ana and Dan are the same")),
     Person("store.case", STORE, store, ("each of nitric-acid and sulfuric-acid differs from each of bleach, ammonia and lye", "sodium and water are at least 2 apart")),
+    Person("choir.case", CHOIR, choir, ("Ada and Ben are the same", "Cleo and Dov have a different evening", "Ella has an earlier evening than Finn")),
 )

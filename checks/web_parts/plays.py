@@ -19,7 +19,6 @@ from served import DESK, Web
 
 PICTURES = os.environ.get("DESK_PICTURES", "")
 WIDTHS = (360, 800, 1600)
-MOST_TRIES = 8          # of a click on what is drawn anew meanwhile
 
 Faults = Iterator[str]
 
@@ -50,83 +49,35 @@ def shown(browser: Browser, person: Person) -> Shown:
     return found
 
 
-def tried(do: Callable[[], None]) -> None:
-    """Does something with what may be drawn anew meanwhile."""
-    from selenium.common.exceptions import WebDriverException
-    for turn in range(MOST_TRIES):
-        try:
-            do()
-            return
-        except WebDriverException:
-            if turn == MOST_TRIES - 1:
-                raise
-            time.sleep(0.3)
-
-
-def filled(browser: Browser, field: str, text: str) -> None:
-    """Types a text into a field, whose part of the form is opened where it is folded."""
-    def fill() -> None:
-        element = browser.wait(lambda: browser.driver.find_element("id", field))
-        unfolded(browser, element)
-        element.clear()
-        element.send_keys(text)
-    tried(fill)
-
-
-def unfolded(browser: Browser, element: object) -> None:
-    """Opens what is folded around an element, and scrolls to it."""
-    browser.driver.execute_script("for(let e=arguments[0].parentElement;e;e=e.parentElement)if(e.tagName==='DETAILS'&&!e.open)e.querySelector('summary').click();"
-                                  "arguments[0].scrollIntoView({block:'center'});", element)
-
-
-def chosen(browser: Browser, selector: str) -> None:
-    """Clicks what a selector finds first."""
-    element = browser.wait(lambda: browser.all(selector))[0]
-    unfolded(browser, element)
-    element.click()
-
-
-def ticked(browser: Browser, field: str, text: str) -> None:
-    """Ticks a box by what it stands for."""
-    selector = f'input[type=checkbox][name={field}][value="{text}"]'
-
-    def tick() -> None:
-        box = browser.wait(lambda: browser.all(selector))[0]
-        unfolded(browser, box)
-        if not box.is_selected():
-            box.click()
-        assert browser.all(selector)[0].is_selected()
-    tried(tick)
-
-
 def made(browser: Browser, person: Person) -> None:
     """Makes the case in the form, from an empty one."""
-    filled(browser, "new-name", person.name.removesuffix(".case"))
-    browser.click("Make it")
-    browser.wait(lambda: browser.all("#things-text"))
-    filled(browser, "title-text", person.of("title"))
+    browser.types("#new-name", person.name.removesuffix(".case"))
+    browser.leads(lambda: browser.click("Make it"))
+    browser.types("#title-text", person.of("title"))
     for field in ("things", "values"):
         sides = person.of(field).split(" x ")
         if len(sides) == 1:
-            filled(browser, f"{field}-text", "\n".join(sides[0].split()) if ".." not in sides[0] else sides[0])
+            browser.types(f"#{field}-text", "\n".join(sides[0].split()) if ".." not in sides[0] else sides[0])
             continue
-        tried(lambda field=field: chosen(browser, f"input[name={field}-kind][value=grid]"))
+        browser.clicks(f"input[name={field}-kind][value=grid]")
         for place, side in enumerate(sides):
             name, _, members = side.partition(" ")
-            filled(browser, f"{field}-side-{place}-name", name)
-            filled(browser, f"{field}-side-{place}-text", members)
+            browser.types(f"#{field}-side-{place}-name", name)
+            browser.types(f"#{field}-side-{place}-text", members)
+    for place, line in enumerate(line for line in person.text.splitlines() if line.startswith("only ")):
+        name, _, some = line.removeprefix("only ").partition(": ")
+        browser.chooses(f"#only-{place}-name", name)
+        for one in some.split(", "):
+            browser.ticks(f'input[name=only-{place}-tick][value="{one}"]')
     for field in ("ask", "words"):
         for text in person.of(field).split(", "):
-            ticked(browser, field, text)
+            browser.ticks(f'input[type=checkbox][name={field}][value="{text}"]')
     for field in ("always", "known"):
         if person.of(field):
-            filled(browser, f"{field}-other", person.of(field))
-
-    def choose() -> None:
-        choice = browser.driver.find_element("id", "plan-choice")
-        unfolded(browser, choice)
-        choice.find_element("css selector", f"option[value={person.of('plan')}]").click()
-    tried(choose)
+            browser.types(f"#{field}-other", person.of(field))
+    if person.of("note"):
+        browser.types("#notes-text", person.of("note"))
+    browser.clicks(f"#plan-choice option[value={person.of('plan')}]")
 
 
 def pictured(browser: Browser, name: str) -> None:
@@ -201,7 +152,7 @@ def played(program: str, person: Person) -> Faults:
     began = time.monotonic()
     with Web(program, {}) as web, Browser() as browser:
         browser.go(f"file://{web.file}")
-        browser.wait(lambda: browser.all("#new-name"))
+        browser.at("#new-name")
         made(browser, person)
         pictured(browser, f"{person.name}-form")
         browser.click("Save, and")
@@ -243,8 +194,8 @@ def _of(person: Person) -> Callable[[str], Faults]:
     return test
 
 
-ward, seats, conference, holidays, store = map(_of, EVERY)
-TESTS = (ward, seats, conference, holidays, store)
+ward, seats, conference, holidays, store, choir = map(_of, EVERY)
+TESTS = (ward, seats, conference, holidays, store, choir)
 PLANTED = (
     ("tables.py", "if self._values.get(thing.place) == value:", "if self._values.get(thing.place) == value - 1:", holidays),
     ("questions.py", 'self.asking.answer(step.do == "y")', 'self.asking.answer(step.do != "y")', holidays),

@@ -13,7 +13,7 @@ import time
 import urllib.parse
 from collections.abc import Callable, Iterator
 
-from served import Reply, Web
+from served import PATIENCE, Reply, Web
 
 CASE = """title: Three
 things: a b c
@@ -33,6 +33,8 @@ HEADERS = {"content-security-policy": ("default-src 'none'", "script-src 'self'"
                                        "base-uri 'none'"),
            "x-content-type-options": ("nosniff",), "x-frame-options": ("DENY",), "referrer-policy": ("same-origin",),
            "cross-origin-opener-policy": ("same-origin",), "cross-origin-resource-policy": ("same-origin",), "cache-control": ("no-store",)}
+
+MOST_SENT = 4_000_000       # bytes of a form
 
 Faults = Iterator[str]
 
@@ -249,13 +251,6 @@ def by_form(program: str) -> Faults:
             reply = web.get(path)
             if reply.status != status or "To the first page" not in reply.text or "Traceback" in reply.text:
                 yield f"{path} has status {reply.status}"
-        reply = web.ask("POST", web.path + "/ask/x.case/step", b"sheet=" + b"1" * 5_000_000, Origin=f"http://{web.host}", Content_Type="application/x-www-form-urlencoded")
-        if reply.status != 413:
-            yield f"a form of five million bytes has status {reply.status}"
-        with socket.create_connection(("127.0.0.1", web.port), timeout=30) as connection:      # of somebody who mustn't come in
-            connection.sendall(f"POST /x HTTP/1.1\r\nHost: {web.host}\r\nContent-Length: 900000000\r\n\r\n".encode())
-            if b" 413 " not in (said := connection.recv(200)):
-                yield f"a body of 900 million bytes is read: {said!r}"
         if web.shows("x.case"):
             yield "a wrong form has answered"
         web.end()
@@ -263,7 +258,53 @@ def by_form(program: str) -> Faults:
             yield f"the terminal has {web.errors[:500]!r} {web.said!r}"
 
 
-TESTS: tuple[Callable[[str], Faults], ...] = (by_token, by_file, by_name, by_page, by_headers, by_names, by_form)
+def by_size(program: str) -> Faults:
+    """What is too large is refused by a page that says what to do, before it has come; a stranger gets a stranger's page."""
+    with Web(program, {"x.case": CASE}) as web:
+        stranger = opened(web, f"POST {web.path}/case/x.case/text HTTP/1.1", "Content-Length: 900000000")
+        outside = opened(web, "POST /x HTTP/1.1", "Content-Length: 900000000")
+        if " 403 " not in stranger or " 404 " not in outside or "To the first page" not in stranger + outside:
+            yield f"900 million bytes of a stranger are answered by {stranger[:200]!r} and {outside[:200]!r}"
+        web.enter()
+        web.begin("x.case")
+        own = (f"Cookie: desk={web.cookie}", f"Origin: http://{web.host}", "Sec-Fetch-Site: same-origin")
+        for length in (MOST_SENT + 1, 8_000_001, 900_000_000):
+            said = opened(web, f"POST {web.path}/ask/x.case/step HTTP/1.1", f"Content-Length: {length}", *own)
+            if " 413 " not in said or "To the first page" not in said or "a million bytes at most" not in said or "connection: close" not in said.lower():
+                yield f"{length} bytes that never come are answered by {said[:300]!r}"
+            if lacking := [name for name in HEADERS if name not in said.lower()]:
+                yield f"the page of what is too large hasn't {lacking}"
+        chunk = b"f4240\r\n" + b"1" * 1_000_000 + b"\r\n"
+        said = opened(web, f"POST {web.path}/ask/x.case/step HTTP/1.1", "Transfer-Encoding: chunked", *own, body=chunk * 12)
+        if " 413 " not in said or "To the first page" not in said:
+            yield f"12 million bytes in pieces are answered by {said[:300]!r}"
+        hidden = f"GET {web.path}/ask/x.case HTTP/1.1\r\nHost: {web.host}\r\nCookie: desk={web.cookie}\r\n\r\n".encode()
+        said = opened(web, f"POST {web.path}/ask/x.case/step HTTP/1.1", "Content-Length: 9000000", *own, body=hidden * 1000)
+        if said.count("HTTP/1.1 ") != 1 or " 413 " not in said:
+            yield f"what is thrown away is answered: {said.count('HTTP/1.1 ')} times"
+        for length, status in ((MOST_SENT, 400), (MOST_SENT + 1, 413), (60_000_000, 413)):
+            reply = web.ask("POST", web.path + "/ask/x.case/step", b"sheet=" + b"1" * (length - 6), Origin=f"http://{web.host}",
+                            Content_Type="application/x-www-form-urlencoded")
+            if reply.status != status or "To the first page" not in reply.text:
+                yield f"{length} bytes of a form have status {reply.status}"
+        if web.shows("x.case") or web.get("/ask/x.case").status != 200:
+            yield "something too large has answered, or the server doesn't go on"
+
+
+def opened(web: Web, line: str, *heads: str, body: bytes = b"") -> str:
+    """What a request is answered by of which no more is sent than this."""
+    with socket.create_connection(("127.0.0.1", web.port), timeout=PATIENCE) as connection:
+        try:
+            connection.sendall("\r\n".join([line, f"Host: {web.host}", *heads, "", ""]).encode() + body)
+        except OSError:
+            return "no more is taken, and nothing is answered"
+        said = b""
+        while part := connection.recv(1 << 16):
+            said += part
+    return said.decode(errors="replace")
+
+
+TESTS: tuple[Callable[[str], Faults], ...] = (by_token, by_file, by_name, by_page, by_headers, by_names, by_form, by_size)
 
 # a measure that is left out: the file, what stands there, what stands there instead, and the test that has to notice
 PLANTED = (
@@ -283,6 +324,10 @@ PLANTED = (
     ("templates/question.html", '<h1 id="head">{{ sheet.head }}</h1>', '<h1 id="head">{{ sheet.head|safe }}</h1>', by_names),
     ("pages.py", "    if not (text.isascii() and text.isdecimal() and len(text) <= DIGITS + 1):\n", "    if False:\n", by_form),
     ("lines.py", "0 <= step.place < len(session.answers)\n", "True\n", by_form),
-    ("server.py", "            max_request_body_size=2 * MOST_SENT,  # what is larger isn't even read\n", "", by_form),
-    ("app.py", '    app.config["MAX_CONTENT_LENGTH"] = MOST_SENT\n', "", by_form),
+    ("server.py", "            max_request_body_size=MOST_SENT + 1,  # from which on it is too large\n", "", by_size),
+    ("server.py", "max_request_body_size=MOST_SENT + 1,", "max_request_body_size=MOST_SENT,", by_size),
+    ("server.py", "    server.channel_class = Channel\n", "", by_size),
+    ("refusing.py", "        self.close_on_finish = channel.refused = True\n", "        channel.refused = True\n", by_size),
+    ("refusing.py", "        if self.refused and self.until is None:\n", "        if False:\n", by_size),
+    ("app.py", "    guard(app, known)\n    refuse_larger(app)\n", "    refuse_larger(app)\n    guard(app, known)\n", by_size),
 )

@@ -1,1 +1,1 @@
-"""`desk web`: a case, its questions and its rules as pages in the browser, on this machine alone."""
+"""`desk web`: a case, its questions and rules as pages in the browser, on this machine alone."""

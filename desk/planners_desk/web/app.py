@@ -1,9 +1,11 @@
 """The application behind the pages.
 
-Its parts: `security` decides who may come in, `entrance` lets a browser in, `cases` (where it is there) shows the cases of the folder
-and each as a form, `pages` shows a sitting. A page is made of a template that extends `base.html`; it names its case as `name`, so that
-the head leads to its form at `cases.show` and its questions at `sitting.show`. `cases.index` is the first page.
-What a page says of a word that is missing leads to `cases.show` with `add=WORD`, which ticks that word.
+Its parts: `security` decides who may come in, `refusing` what is too large, `entrance` lets a
+browser in, `cases` shows the cases of the folder and each as a form, `pages` shows a sitting. A
+page is made of a template that extends `base.html`; it names its case as `name`, so that the head
+leads to its form at `cases.show` and its questions at `sitting.show`. `cases.index` is the first
+page. What a page says of a word that is missing leads to `cases.show` with `add=WORD`, which ticks
+that word.
 """
 
 from __future__ import annotations
@@ -17,18 +19,17 @@ from ..report.markup import Html
 from . import cases, pages
 from .entrance import Entrance
 from .folder import Folder
+from .refusing import refuse_larger
 from .security import Secrets, guard
 from .sittings import Sittings
 
-MOST_SENT = (
-    4_000_000  # bytes of a form: a case has a million at most, and its letters may take three each
-)
 WHAT_TO_DO = {
     400: "Go back to the page before, and try again from there.",
-    403: "Open the file that `desk web` named when it began, or begin it again: all answers are kept.",
+    403: "Open the file that `desk web` named when it began, or begin it again: "
+    "all answers are kept.",
     404: "Go to the first page, and on from there.",
     405: "Go to the first page, and on from there.",
-    413: "A case has a million bytes at most.",
+    413: "Go back to the page before, and take something out: a case has a million bytes at most.",
     421: "Open the file that `desk web` named when it began.",
     500: "All answers are kept. End desk with Ctrl-C where it was begun, and begin it again.",
 }
@@ -37,12 +38,12 @@ WHAT_TO_DO = {
 def application(known: Secrets, folder: Folder, sittings: Sittings, entrance: Entrance) -> Flask:
     """The application of a server."""
     app = Flask(__name__)
-    app.config["MAX_CONTENT_LENGTH"] = MOST_SENT
     app.config["SEND_FILE_MAX_AGE_DEFAULT"] = 3600
     app.jinja_env.trim_blocks = app.jinja_env.lstrip_blocks = True
     app.jinja_env.filters["report"] = report
     app.extensions["desk_folder"], app.extensions["desk_sittings"] = folder, sittings
     guard(app, known)
+    refuse_larger(app)
     app.register_blueprint(entrance.blueprint(folder.first))
     app.register_blueprint(cases.blueprint)
     app.register_blueprint(pages.blueprint)

@@ -3,6 +3,7 @@ with its sentence and an example."""
 
 from __future__ import annotations
 
+import dataclasses
 import itertools
 from collections.abc import Iterable, Iterator, Sequence
 from dataclasses import dataclass, field
@@ -71,6 +72,14 @@ class Family:
 
 
 @dataclass(frozen=True)
+class Limit:
+    """What some things can take, and what is left of it."""
+
+    every: tuple[str, ...]
+    left: tuple[str, ...]
+
+
+@dataclass(frozen=True)
 class Choices:
     """All that is offered."""
 
@@ -82,11 +91,14 @@ class Choices:
     labels: tuple[str, ...] = ()  # values, and members of their grid
     chosen: tuple[str, ...] = ()  # `frame=steel` for each thing with values of its own
     phrases: tuple[str, ...] = field(default=())  # which things a rule may be about
+    own: tuple[tuple[str, ...], ...] = ()  # for each thing with values of its own, these
+    only: tuple[Limit | None, ...] = ()  # for each row of `only`; None where it can't be read
 
 
 def choices(form: Form, name: str) -> Choices:
     """What is offered beside the fields of a form."""
     case = shaped(form, name)
+    own_values = tuple(tuple(dict.fromkeys(forms.names_of(row.text))) for row in form.own)
     if case is None:
         bare = [
             Tick("all", "all", "each two of them"),
@@ -96,6 +108,7 @@ def choices(form: Form, name: str) -> Choices:
         return Choices(
             ask=(Family("", tuple(bare)),),
             words=(Family("", tuple(Tick(word, word) for word in TWO)),),
+            own=own_values,
         )
     asked = list(_asked(case, form.ask))
     sizes = {len(things) for things in asked}
@@ -111,25 +124,57 @@ def choices(form: Form, name: str) -> Choices:
         seen.labels,
         tuple(f"{thing.name}={case.values[value]}" for thing in own for value in thing.allowed),
         phrases(case),
+        own_values,
+        tuple(limits(form, name)),
     )
+
+
+def limits(form: Form, name: str) -> Iterator[Limit | None]:
+    """What the things of each row of `only` can take, and what is left of it; None where it can't
+    be read."""
+    case = parsed(dataclasses.replace(form, only=()), name)
+    for row in form.only:
+        now = parsed(dataclasses.replace(form, only=(row,)), name) if row.text else case
+        things = meant(case, row.name) if case else []
+        if case is None or now is None or not things:
+            yield None
+            continue
+        every = {value for thing in things for value in case.things[thing].allowed}
+        left = {value for thing in things for value in now.things[thing].allowed if row.text}
+        yield Limit(
+            tuple(case.values[value] for value in sorted(every)),
+            tuple(case.values[value] for value in sorted(left)),
+        )
+
+
+def meant(case: Case, name: str) -> list[int]:
+    """The things of a name, or of a member of the grid's sides."""
+    found = [thing.place for thing in case.things if thing.name == name]
+    for k, part in enumerate(case.thing_parts):
+        if not found and name in part.members:
+            found = [thing.place for thing in case.things if part.members[thing.at[k]] == name]
+    return found
 
 
 def shaped(form: Form, name: str) -> Case | None:
     """The things and values of a form, and nothing else; None where they have a fault."""
-    for only in (form.only, ()):
-        shape = Form(
-            things=form.things,
-            own=form.own,
-            values=form.values,
-            only=only,
-            ask=("each",),
-            words=("same",),
-        )
-        try:
-            return casefile.parse(forms.written(shape), name)
-        except Fault:
-            continue
-    return None
+    return parsed(form, name) or parsed(dataclasses.replace(form, only=()), name)
+
+
+def parsed(form: Form, name: str) -> Case | None:
+    """The same, with `only` as it is."""
+    shape = Form(
+        things=form.things,
+        own=form.own,
+        values=form.values,
+        only=form.only,
+        ask=("each",),
+        words=("same",),
+    )
+    try:
+        return casefile.parse(forms.written(shape), name)
+    except Fault:
+        return None
 
 
 # ---------------------------------------------------------------- which things go together

@@ -15,7 +15,8 @@ from werkzeug.exceptions import Forbidden
 from .security import COOKIE, Secrets, same
 
 PAGE = """<!DOCTYPE html>
-<html lang="en"><head><meta charset="utf-8"><title>desk</title><meta name="referrer" content="no-referrer">
+<html lang="en"><head><meta charset="utf-8"><title>desk</title>
+<meta name="referrer" content="no-referrer">
 <meta http-equiv="refresh" content="0; url={url}"></head>
 <body><p><a href="{url}">Open desk</a></p></body></html>
 """
@@ -25,8 +26,8 @@ USED = "This way in was used already, or belongs to a desk that has ended."
 class Entrance:
     """The file, and the token that it holds; a context manager, which removes it at the end.
 
-    Each token lets one browser in. The file then has another one, so that it can be opened again, and no address out of a
-    history or a list of processes is worth anything.
+    Each token lets one browser in. The file then has another one, so that it can be opened again,
+    and no address out of a history or a list of processes is worth anything.
     """
 
     def __init__(self, known: Secrets) -> None:
@@ -86,7 +87,8 @@ class Entrance:
 
         @made.get("/enter")
         def enter() -> Response:
-            """Lets a browser in. The next page is asked for by this one, so that the cookie goes with it."""
+            """Lets a browser in. The next page is asked for by this one, so that the cookie goes
+            with it."""
             known = same(request.cookies.get(COOKIE, ""), self._known.key)
             if not known and not self.takes(request.args.get("token", "")):
                 raise Forbidden(USED)

@@ -9,7 +9,7 @@ from dataclasses import dataclass
 from ..case import letters
 from . import choices
 from .faults import At
-from .forms import MOST_SIDES, OTHER, Form, Listed, Row, pieces_of, plain
+from .forms import MOST_SIDES, OTHER, Form, Listed, Row, names_of, pieces_of, plain
 
 MOST_ROWS = 256  # of things with values of their own, and of `only`
 MOST_IN_GROUP = 4
@@ -86,9 +86,9 @@ def posted(sent: Sent) -> tuple[Form, list[At]]:
     form = Form(
         title=plain(_one(sent, "title")),
         things=_listed(sent, "things"),
-        own=_rows(sent, "own", MOST_ROWS),
+        own=_ticked(sent, "own", MOST_ROWS),
         values=_listed(sent, "values"),
-        only=_rows(sent, "only", MOST_ROWS),
+        only=_ticked(sent, "only", MOST_ROWS),
         **{name: tuple(dict.fromkeys(some)) for name, some in several.items()},
         notes=tuple(filter(None, map(plain, _lines(_one(sent, "notes"))))),
         plan=plain(_one(sent, "plan")),
@@ -144,6 +144,34 @@ def _rows(sent: Sent, name: str, most: int) -> tuple[Row, ...]:
         for place in range(most)
     )
     return tuple(row for row in rows if row.name or row.text)
+
+
+def _ticked(sent: Sent, name: str, most: int) -> tuple[Row, ...]:
+    """Rows of a name and of names that are ticked, or one more of which is typed; where no ticks
+    were shown, what was typed. What was ticked already is left as it is written."""
+    rows = []
+    for place in range(most):
+        key = f"{name}-{place}"
+        row = Row(plain(_one(sent, f"{key}-name")), plain(_joined(_one(sent, f"{key}-text"))))
+        had, ticks = sent.get(f"{key}-had", ()), sent.get(f"{key}-tick", ())
+        more = names_of(plain(_joined(_one(sent, f"{key}-more")))) if name == "own" else []
+        if had or ticks or more:
+            kept = [one for one in had if one in ticks]
+            now = list(dict.fromkeys([*kept, *ticks, *more]))
+            if now != list(had):
+                row = Row(row.name, together(now, name == "own"))
+            if not (row.name or now):
+                continue
+        if row.name or row.text:
+            rows.append(row)
+    return tuple(rows)
+
+
+def together(some: Sequence[str], new: bool) -> str:
+    """Names as a line has them. A single one with blanks in it is quoted, where it is new."""
+    if not any(" " in name for name in some):
+        return " ".join(some)
+    return f'"{some[0]}"' if new and len(some) == 1 else ", ".join(some)
 
 
 def sent_of(form: Form) -> dict[str, list[str]]:

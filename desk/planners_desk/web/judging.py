@@ -1,4 +1,4 @@
-"""The end of a sitting in a browser: answers that clash, or rules, plans to judge, and the report."""
+"""The end of a sitting in a browser: answers that clash, or rules, plans to judge, the report."""
 
 from __future__ import annotations
 
@@ -21,9 +21,10 @@ from .tables import table_of
 
 MOST_ANSWERS = 40
 LIFTED = (
-    "It may also be that no answer was wrong: {words} {speak} of fewer things than are asked about together, and where whole plans are "
-    "asked about first, a right no to a part of one can then end so. Where one group is asked about at a time it can't: choose that way of "
-    "asking in the case, for a new session."
+    "It may also be that no answer was wrong: {words} {speak} of fewer things than are asked about "
+    "together, and where whole plans are asked about first, a right no to a part of one can then "
+    "end so. Where one group is asked about at a time it can't: choose that way of asking in the "
+    "case, for a new session."
 )
 LOOKING = "looking for a word that would explain the answers"
 
@@ -154,7 +155,9 @@ class Judging:
     def _plans(self, found: Sequence[Sentence]) -> int | None:
         """Has plans judged, one after the other; the place of an answer to go back to, or None."""
         try:
-            for shown in judging.plans(self.session, found, lambda most: reporting.clock(self.owner, most)):
+            for shown in judging.plans(
+                self.session, found, lambda most: reporting.clock(self.owner, most)
+            ):
                 done, place = self._one(shown)
                 if done or place is not None:
                     return place
@@ -164,7 +167,8 @@ class Judging:
         return None
 
     def _one(self, shown: Plan) -> tuple[bool, int | None]:
-        """Has one plan judged: whether that was enough, and the place of an answer to go back to."""
+        """Has one plan judged: whether that was enough, and the place of an answer to go back
+        to."""
         while True:
             do = self.owner.put(self._judge(shown)).do
             if do == "y":
@@ -202,7 +206,8 @@ class Judging:
         )
 
     def _otherwise(self, shown: Plan) -> tuple[str, int | None]:
-        """What can be done about a plan that the person judges otherwise: what they do, and the place to go back to."""
+        """What can be done about a plan that the person judges otherwise: what they do, and the
+        place to go back to."""
         do, cells = self._cells(shown)
         if do != "o":
             return do, None
@@ -222,7 +227,10 @@ class Judging:
             if step.do != "o":
                 return step.do, None
         if judging.said_beforehand(session, shown):
-            said = "It stands in the case among what you know beforehand. If it isn't so, take it out there; your other answers are taken over."
+            said = (
+                "It stands in the case among what you know beforehand. If it isn't so, take it out "
+                "there; your other answers are taken over."
+            )
             return (
                 self.owner.put(
                     sheets.Unsayable("You said this rule beforehand", (f"{shown.title}.", said))
@@ -232,7 +240,8 @@ class Judging:
         return self._missing(shown, values, cells), None
 
     def _cells(self, shown: Plan) -> tuple[str, Things]:
-        """The cells of an allowed plan that are wrong, none where it isn't known or a rule says it; and what the person does."""
+        """The cells of an allowed plan that are wrong, none where it isn't known or a rule says it;
+        and what the person does."""
         most = max(self.session.vocabulary.arities)
         known = shown.known_cells(most)
         if known is not None:

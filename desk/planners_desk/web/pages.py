@@ -24,7 +24,10 @@ from .sittings import Owner, Sittings, State, Step
 
 DOES = frozenset(("y", "n", "b", "q", "o", "back to", "plans", "report", "answers", "end"))
 DIGITS = 9  # of a number in a form
-LATE = "That came too late: another answer stood already, perhaps from another tab. Nothing was changed by it."
+LATE = (
+    "That came too late: another answer stood already, perhaps from another tab. "
+    "Nothing was changed by it."
+)
 
 blueprint = Blueprint("sitting", __name__, url_prefix="/ask/<name>")
 
@@ -116,7 +119,8 @@ def owner_of(name: str) -> Owner:
 
 @blueprint.get("/state")
 def state(name: str) -> Response:
-    """The number of what is shown now, for a page that waits; how far it is, where something takes a while."""
+    """The number of what is shown now, for a page that waits; how far it is, where something takes
+    a while."""
     owner = sittings().of(folder().path_of(name))
     if owner is None:
         return jsonify(number=-1)

@@ -1,8 +1,8 @@
 """Who may: no page but desk's own, no other name for this machine, no other user of it.
 
-A browser comes in once by a token, and is known by a cookie from then on. The cookie is sent to paths
-below this server's own alone, which nobody can guess: cookies don't tell ports of a machine apart, so
-that another user's server on it would get one that is sent everywhere.
+A browser comes in once by a token, and is known by a cookie from then on. The cookie is sent to
+paths below this server's own alone, which nobody can guess: cookies don't tell ports of a machine
+apart, so that another user's server on it would get one that is sent everywhere.
 """
 
 from __future__ import annotations
@@ -29,7 +29,7 @@ HEADERS = {
     "Content-Security-Policy": POLICY,
     "X-Content-Type-Options": "nosniff",
     "X-Frame-Options": "DENY",
-    "Referrer-Policy": "same-origin",  # with no-referrer browsers send `Origin: null` for our own forms
+    "Referrer-Policy": "same-origin",  # else browsers send `Origin: null` for our own forms
     "Cross-Origin-Opener-Policy": "same-origin",
     "Cross-Origin-Resource-Policy": "same-origin",
     "Cache-Control": "no-store",

@@ -13,10 +13,11 @@ from waitress.server import create_server  # type: ignore[import]
 from ..case.model import Fault
 from ..program.talk import Program
 from . import opening
-from .app import MOST_SENT, application
+from .app import application
 from .entrance import Entrance
 from .folder import Folder
 from .forecast import Forecasts
+from .refusing import MOST_SENT, Channel
 from .security import Below, Secrets
 from .sheets import Sheet
 from .sittings import Owner, Sittings
@@ -45,7 +46,7 @@ def serve(place: str, port: int, browser: bool, program: Program, budget: int | 
             host=LOOPBACK,
             port=port,
             threads=THREADS,
-            max_request_body_size=2 * MOST_SENT,  # what is larger isn't even read
+            max_request_body_size=MOST_SENT + 1,  # from which on it is too large
             ident=None,
             clear_untrusted_proxy_headers=True,
         )
@@ -53,10 +54,12 @@ def serve(place: str, port: int, browser: bool, program: Program, budget: int | 
         raise Fault(
             f"port {port} of {LOOPBACK}: {error.strerror}; take another one, or leave --port out"
         ) from None
+    server.channel_class = Channel
     known.host = f"{LOOPBACK}:{server.effective_port}"
     with entrance:
         print(
-            f"desk: the cases of {folder.path} are shown on a page, and nobody else on this machine can see it.\n"
+            f"desk: the cases of {folder.path} are shown on a page, "
+            "and nobody else on this machine can see it.\n"
             f"desk: this file leads there: {entrance.file}\n"
             f"desk: and so does this address, once: {entrance.address}\n"
             "desk: Ctrl-C ends it; all answers are kept",
@@ -74,7 +77,8 @@ def serve(place: str, port: int, browser: bool, program: Program, budget: int | 
 
 
 def opened(file: str) -> None:
-    """Opens a browser, where there is a screen. What it prints isn't ours, and the token is in the file, not among its words."""
+    """Opens a browser, where there is a screen. What it prints isn't ours, and the token is in the
+    file, not among its words."""
     if sys.platform.startswith("linux") and not (
         os.environ.get("DISPLAY") or os.environ.get("WAYLAND_DISPLAY") or os.environ.get("BROWSER")
     ):

@@ -1,4 +1,4 @@
-"""What a page shows of a sitting: each sheet is plain data, made by the thread that owns the sitting."""
+"""What a page shows of a sitting: each sheet is plain data, made by the thread that owns it."""
 
 from __future__ import annotations
 

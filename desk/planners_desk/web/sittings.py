@@ -1,8 +1,8 @@
 """Sittings that are shown in a browser: one thread owns each, and requests hand it steps.
 
 A session is one writer's: so one thread opens it, holds its lock, talks with the program, and makes
-what pages show. A request waits until its step is done, so that a page which shows the next question
-stands for an answer that is kept.
+what pages show. A request waits until its step is done, so that a page which shows the next
+question stands for an answer that is kept.
 """
 
 from __future__ import annotations
@@ -81,9 +81,8 @@ class Owner:
             pass
         except Fault as fault:
             last = Stopped("desk can't go on", fault.texts, True)
-        except (
-            Exception
-        ) as error:  # pylint: disable=broad-exception-caught # told on the page, never in the terminal
+        # told on the page, never in the terminal
+        except Exception as error:  # pylint: disable=broad-exception-caught
             last = Stopped(
                 "desk can't go on",
                 (f"An error of its own: {error!r}. All answers are kept.",),
@@ -134,7 +133,8 @@ class Owner:
             return State(self._number, self._sheet, self._waits, self._over)
 
     def take(self, number: int, step: Step) -> bool:
-        """Hands over a step for the sheet with a number; False where another sheet stands by now, or another step was first."""
+        """Hands over a step for the sheet with a number; False where another sheet stands by now,
+        or another step was first."""
         with self._condition:
             if number != self._number or self._over:
                 return False

@@ -1,14 +1,29 @@
-// The form of a case: what things, values, groups and words come to is drawn as one types. Each page works without it.
+// The form of a case: what things, values, groups and words come to is drawn as one types. Each
+// page works without it.
 "use strict";
 
 const WAIT = 350;       // milliseconds after a key until the preview is asked for
 const LOOK = 700;       // between two looks at how far a forecast is
 const form = document.getElementById("fields");
+const state = document.body.dataset;
 let timer = 0;
 let wanted = 0;         // previews so far
+state.wanted = state.drawn = "0";       // the page stands where they are the same
 
 function typing(target) {
-  return target !== null && (target.tagName === "TEXTAREA" || target.tagName === "INPUT" && target.type === "text");
+  return target !== null
+    && (target.tagName === "TEXTAREA" || target.tagName === "INPUT" && target.type === "text");
+}
+
+// on a narrow page groups in which nothing is ticked are folded, until somebody opens them
+const narrow = matchMedia("(max-width: 40rem)");
+
+function fold(part, seen) {
+  for (const one of part.querySelectorAll("details[data-fold]")) {
+    const head = one.querySelector("summary").textContent;
+    const ticked = one.querySelector(":checked") !== null;
+    one.open = seen.has(head) ? seen.get(head) : ticked || !narrow.matches;
+  }
 }
 
 // what the server has drawn is put in place of what stood there, but for where somebody is typing
@@ -16,14 +31,21 @@ function put(page) {
   const active = document.activeElement;
   for (const part of document.querySelectorAll("[data-live]")) {
     const now = page.getElementById(part.id);
-    if (!now || part.innerHTML === now.innerHTML || part.contains(active) && typing(active)) continue;
+    if (!now || part.innerHTML === now.innerHTML) continue;
+    if (part.contains(active) && typing(active)) continue;
     const open = [...part.querySelectorAll("details")].map(one => one.open);
+    const folds = [...part.querySelectorAll("details[data-fold]")];
+    const seen = new Map(folds.map(one => [one.querySelector("summary").textContent, one.open]));
     part.replaceChildren(...now.childNodes);
     const details = [...part.querySelectorAll("details")];
-    if (details.length === open.length) details.forEach((one, place) => { one.open = one.open || open[place]; });
+    if (details.length === open.length) {
+      details.forEach((one, place) => { one.open = one.open || open[place]; });
+    }
+    fold(part, seen);
   }
   if (!active.isConnected) {
-    const again = active.id ? document.getElementById(active.id) : document.querySelector(`[name="${active.name}"][value="${CSS.escape(active.value)}"]`);
+    const again = active.id ? document.getElementById(active.id)
+      : document.querySelector(`[name="${active.name}"][value="${CSS.escape(active.value)}"]`);
     if (again) again.focus({preventScroll: true});
   }
 }
@@ -36,7 +58,8 @@ async function preview() {
   const mine = wanted;
   const sent = filled();
   try {
-    const response = await fetch(form.dataset.preview, {method: "POST", cache: "no-store", body: sent,
+    const response = await fetch(form.dataset.preview, {
+      method: "POST", cache: "no-store", body: sent,
       headers: {"Content-Type": "application/x-www-form-urlencoded"}});
     const text = response.ok ? await response.text() : "";
     if (mine !== wanted) return;
@@ -44,12 +67,12 @@ async function preview() {
   } catch (error) {
     // the next change asks again
   }
-  document.body.dataset.drawn = String(mine);
+  state.drawn = String(mine);
 }
 
 function soon(milliseconds) {
   wanted += 1;
-  document.body.dataset.wanted = String(wanted);
+  state.wanted = String(wanted);
   clearTimeout(timer);
   timer = setTimeout(preview, milliseconds);
 }
@@ -76,6 +99,7 @@ function longer(target) {
 const PLACE = "desk " + location.pathname;
 
 if (form) {
+  fold(form, new Map());
   const place = sessionStorage.getItem(PLACE);
   sessionStorage.removeItem(PLACE);
   if (place !== null && !location.hash) scrollTo({top: Number(place), behavior: "instant"});
@@ -87,13 +111,23 @@ if (form) {
   form.addEventListener("change", () => soon(0));
 }
 
+// a value that is added is drawn at once; the Enter key in another row or field saves, as it does
+// without this
+if (form) form.addEventListener("click", event => {
+  const add = event.target.closest("[data-add]");
+  if (!add || document.activeElement.closest(".row") !== add.closest(".row")) return;
+  event.preventDefault();
+  soon(0);
+});
+
 // a line of the text that has a fault
 addEventListener("click", event => {
   const link = event.target.closest("a[data-line]");
   if (!link) return;
   const text = document.getElementById("text-all");
   const lines = text.value.split("\n");
-  const begin = lines.slice(0, link.dataset.line - 1).reduce((sum, line) => sum + line.length + 1, 0);
+  const before = lines.slice(0, link.dataset.line - 1);
+  const begin = before.reduce((sum, line) => sum + line.length + 1, 0);
   event.preventDefault();
   text.focus();
   text.setSelectionRange(begin, begin + (lines[link.dataset.line - 1] || "").length);

@@ -1,7 +1,9 @@
-// Keys, one answer for one press, and pages that follow what is shown elsewhere. Each page works without it, but for the keys.
+// Keys, one answer for one press, and pages that follow what is shown elsewhere. Each page works
+// without it, but for the keys.
 "use strict";
 
-const LEAST = 200;      // milliseconds that a page stands before a key counts, so that no key meant for the page before does
+// milliseconds that a page stands before a key counts, so that none meant for the page before does
+const LEAST = 200;
 const PAUSE = 1000;     // between two looks at whether something else is shown by now
 const BUSY = 300;       // the same where something takes a while
 const body = document.body;
@@ -13,10 +15,12 @@ function typing(target) {
 }
 
 addEventListener("keydown", event => {
-  if (sent || event.repeat || event.ctrlKey || event.altKey || event.metaKey || typing(event.target)) return;
+  if (sent || event.repeat || typing(event.target)) return;
+  if (event.ctrlKey || event.altKey || event.metaKey) return;
   if (performance.now() - began < LEAST) return;
   const key = event.key.toLowerCase();
-  const button = [...document.querySelectorAll("button[data-key]")].find(one => one.dataset.key === key);
+  const buttons = [...document.querySelectorAll("button[data-key]")];
+  const button = buttons.find(one => one.dataset.key === key);
   if (button) {
     event.preventDefault();
     button.click();
@@ -57,12 +61,15 @@ function later(milliseconds) {
 }
 
 function seen() {
-  return document.hidden ? new Promise(done => document.addEventListener("visibilitychange", done, {once: true})) : null;
+  return document.hidden && new Promise(done => {
+    document.addEventListener("visibilitychange", done, {once: true});
+  });
 }
 
 function told(state) {
   const text = document.getElementById("text");
-  if (text && state.text && text.textContent !== state.text + " ..") text.textContent = state.text + " ..";
+  const says = state.text + " ..";
+  if (text && state.text && text.textContent !== says) text.textContent = says;
   const share = document.getElementById("share");
   if (share && state.share !== null) {
     share.max = 1;
