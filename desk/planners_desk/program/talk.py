@@ -27,7 +27,18 @@ REASONS = {
 }
 NO_TEXT = "\ufffd"  # what stands for bytes that are no text
 
-__all__ = ["MOST_PRINTED", "Clock", "Endless", "Program", "Reply", "Run", "TimeOver", "is_question", "said", "something_else"]
+__all__ = [
+    "MOST_PRINTED",
+    "Clock",
+    "Endless",
+    "Program",
+    "Reply",
+    "Run",
+    "TimeOver",
+    "is_question",
+    "said",
+    "something_else",
+]
 
 
 class Clock(Deadline):
