@@ -41,6 +41,12 @@ PLANTED = [
     ("sitting/session.py", "*(self._aside.every if self._aside else ())", ""),
     # what decides the question that waits is dropped for good
     ("sitting/session.py", "return self.mine + self.reasons", "return self.mine"),
+    # an answer that the case itself gives can be gone back to
+    ("sitting/answers.py", "place if may_go_back(session, place) else None,", "place,"),
+    # behind each sentence are the answers behind the first
+    ("faces/views.py", "found[key.place])", "found[0])"),
+    # it isn't asked whether to go back
+    ("faces/goback.py", "if sure(session, face, key.place):", "if True:"),
     # letters stay at the first answers
     ("faces/letters.py", "self._first += len(self._letters)", "self._first += 0"),
     # rules that nobody saw kept don't come first
@@ -67,7 +73,8 @@ def run(program: str) -> list[str]:
 
 def quick(program: str) -> list[str]:
     """The same in little."""
-    return looked(program, (keys, odd_one, contradicted, refused_twice, from_rules, behind_sentences, from_answers, step_by_step, never_seen, pointed))
+    return looked(program, (keys, always, odd_one, contradicted, refused_twice, from_rules,
+                            behind_sentences, from_answers, step_by_step, never_seen, pointed))
 
 
 def looked(program: str, rows: Iterable[object]) -> list[str]:
@@ -480,12 +487,12 @@ def from_rules(program: str) -> list[str]:
         sat(it, hands.ward, most=40)
         it.say("r")
         rules = it.sheet() or []
-        letter = next((line.split()[0] for line in rules if line.endswith("Tue: each two of early, late and night differ")
-                       or "differ" in line and line[0].isalpha() and line[1:3] == "  "), "")
-        it.say(letter)
+        said = [line for line in rules if "differ" in line and re.match("[a-z]  ", line)]
+        it.say(said[-1][0])
         behind = it.sheet() or []
         numbers = [int(m[1]) for line in behind if (m := re.match(r"[a-z]  (\d+)\. ", line))]
-        if behind[0] != "The answers behind it" or not numbers or not any(". no: " in line for line in behind):
+        told = behind[:2] == ["The answers behind it", said[-1][3:]] and len(said) > 1
+        if not told or not numbers or not any(". no: " in line for line in behind):
             it.end()
             return [f"{rules}, then {behind}"]
         it.say(letter_of(behind, numbers[0]))
