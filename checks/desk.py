@@ -36,7 +36,7 @@ PARTS = ("terminal", "kept", "captured", "pages", "changes", "refusals", "suspec
 NEEDS_RICH = ("terminal", "captured", "pages", "sitting", "taught", "screens", "says", "pace")
 # the bugs that the gate plants: a part, and which of its list
 GATE = (("bounds", 0), ("bounds", 1), ("suspects", 1), ("meanings", 0), ("meanings", 2), ("known", 0), ("changes", 0), ("kept", 0), ("runs", 0),
-        ("faults", 0), ("starts", 0), ("unseen", 0), ("screens", 0), ("pages", 0))
+        ("faults", 0), ("starts", 0), ("unseen", 0), ("screens", 0), ("pages", 0), ("bare", 3))
 # a command, and the Debian package that has it
 TOOLS = {"tmux": "tmux", "cadical": "cadical", "minisat": "minisat", "clasp": "clasp", "chromium": "chromium", "pdfinfo": "poppler-utils"}
 SOLVERS = ("cadical", "minisat", "clasp")

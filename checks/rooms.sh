@@ -1,5 +1,6 @@
 #!/usr/bin/env bash
-# The package of desk: its types, and its tests that need no program; that its rooms import downward is one of them.
+# The package of desk: its types, and its tests that need no program; that its rooms import downward, and that no line is wider than
+# pyproject.toml has it, are two of them.
 #
 # usage: checks/rooms.sh
 set -u

@@ -10,7 +10,7 @@ import unittest
 from planners_desk.case import casefile
 from planners_desk.case.picture import CHOSEN, Picture
 from planners_desk.faces import letters
-from planners_desk.faces.face import Block, Sheet
+from planners_desk.faces.face import Sheet
 from planners_desk.faces.letters import LETTERS, MORE, Letters
 from planners_desk.faces.plain import picture_lines
 from planners_desk.sitting.answers import Given, listed
@@ -52,11 +52,6 @@ def some(count: int, inset: bool = False, cut: bool = False) -> Some:
     """So many answers to choose from, by their places from 100 on."""
     given = (Given(k, k % 2 == 0, f"thing {k}", "", 100 + k) for k in range(count))
     return listed(given, inset, cut)
-
-
-def lines(sheet: Sheet) -> tuple[Block, ...]:
-    """What stands on a sheet."""
-    return sheet.blocks
 
 
 def gives_letters(source: str) -> bool:
@@ -110,7 +105,7 @@ class Lists(unittest.TestCase):
                 face = Typed(*[MORE[0]] * turns, LETTERS[at])
                 target = Letters(listing.targets, KEYS).put(face, "Head", [listing])
                 self.assertEqual(target, Target(Kind.ANSWER, 100 + place))
-                shown = lines(face.sheets[-1])
+                shown = face.sheets[-1].blocks
                 self.assertEqual(shown[place], f"{LETTERS[at]}  {listing.items[place].text}")
                 self.assertEqual(
                     [line[:3] for line in map(str, shown)],
@@ -144,7 +139,7 @@ class Lists(unittest.TestCase):
         chosen = Letters(listing.targets, KEYS).put(face, "Head", twice)
         self.assertEqual(chosen, Target(Kind.ANSWER, 101))
         self.assertEqual(
-            lines(face.sheets[0]),
+            face.sheets[0].blocks,
             ("a  0. yes: thing 0", "c  1. no: thing 1", "  c  1. no: thing 1"),
         )
 
@@ -156,7 +151,7 @@ class Lists(unittest.TestCase):
         self.assertEqual(Letters(listing.targets, KEYS).put(face, "Head", [listing]), "q")
         self.assertEqual(face.sheets[0].keys, KEYS)
         self.assertEqual(
-            lines(face.sheets[0]), ("   3. no: thing 3 (said beforehand: it differs)",)
+            face.sheets[0].blocks, ("   3. no: thing 3 (said beforehand: it differs)",)
         )
 
     def test_a_list_that_is_cut(self) -> None:
@@ -164,7 +159,7 @@ class Lists(unittest.TestCase):
         face = Typed(MORE[0], "q")
         listing = some(20, cut=True)
         Letters(listing.targets, KEYS).put(face, "Head", [listing])
-        first, second = map(lines, face.sheets)
+        first, second = (sheet.blocks for sheet in face.sheets)
         self.assertEqual((len(first), first[-1]), (18, "and 3 others"))
         self.assertEqual(len(second), 4)
         self.assertEqual((second[0], second[-1]), ("a  17. no: thing 17", "and 17 others"))
