@@ -7,6 +7,7 @@
 # byte, or the program another one than the gate has tried, nothing is made. In the end the file is unpacked in an empty folder, and
 # the program runs the first example there.
 set -u
+umask 022
 [ $# -eq 1 ] || { sed -n '2,/^set/s/^#.\{0,1\}//p' "$0" >&2; exit 2; }
 home=$(cd -P -- "$(dirname -- "$0")" && pwd) || exit 2
 folder=$(cd -- "$1" && pwd) || exit 2
@@ -39,7 +40,7 @@ room=$(mktemp -d) || exit 1
 to=$room/$name
 "$home/tools/install.sh" "$to" / >/dev/null || exit 1
 "$home/tools/third_party.py" --texts "$to/share/doc/acquire/licences" || refuse "the licences of the libraries can't be read in the kit"
-mkdir "$to/example" && cp "$home/examples/first/input" "$home/examples/first/printed" "$to/example/" || exit 1
+mkdir "$to/example" && cp "$home/examples/first/input" "$home/examples/first/printed" "$to/example/" && chmod 644 "$to"/example/* || exit 1
 cat >"$to/VERSION" <<END
 version $(cat "$home/VERSION")
 commit $commit
@@ -51,8 +52,8 @@ cat >"$to/README" <<END
 acquire finds the constraints that you have in mind: it shows small examples,
 you answer yes or no, and it prints the constraints that your answers follow.
 
-This is version $(cat "$home/VERSION") for Linux on x86-64, with the GNU C library from 2.34 on (Debian
-12, Ubuntu 22.04). It was proved and built by
+This is version $(cat "$home/VERSION") for Linux on x86-64, with the GNU C library from 2.34
+on (Debian 12, Ubuntu 22.04). It was proved and built by
 $kit
 from commit $commit.
 The gate's last line was: $said
@@ -69,7 +70,8 @@ Check the program, and put it where your system looks for it:
 Then \`man acquire\` has its words and formats, and share/doc/acquire all pages,
 examples and licences. Who judges plans and would rather see tables and
 sentences begins with \`desk\`, which is beside it and not proved. It needs
-Python 3.11, python3-rich and a SAT solver:
+Python from 3.11 on, at a terminal python3-rich, for its page in the browser
+python3-flask and python3-waitress, and for sample plans a SAT solver:
 share/doc/acquire/desk/README.md.
 Who wants the proof done again takes the sources of that commit and the kit,
 and runs .ci/run there.

@@ -61,15 +61,32 @@ no_words() {
 wrong_words() {
     for words in j "j shwo" run "--unproved j shwo" "j run --help" "j run more" "j run --budget" "j run --budget=0" "j run --budget five" \
         "j show --budget 5" "j new --plan fast" "j new --plan" "j new --plan multi --plan multi" "j try" ":memory: demo" \
-        "--fast j run" ":memory: demo --number 4294967296" "j run --budget 1000000001" "j run --number 3"; do
+        "--fast j run" ":memory: demo --number 4294967296" "j run --budget 1000000001" "j run --number 3" "help help" "help j" \
+        "j --unproved run" "--" "-- j" "-- --help" "-- j -- run" "j run -- --budget 5"; do
         report "wrong words: $words" "$usage 1 0 " "$(bare ./acquire $words 2>"$room/said") $? $(builds) $(cat "$room/said")"
     done
+}
+
+# Words that the program would take, and a journal that isn't there: nothing is built for them either.
+# shellcheck disable=SC2086
+no_file() {
+    for words in "help run" "nobody run --budget 5" "nobody show" "nobody back" "nobody reduce" "nobody cnf" "--unproved nobody model" \
+        "tools/nobody certify" "-- nobody play" "nobody -- show"; do
+        report "no file: $words" "refused journal no session 3 0 1" \
+            "$(bare ./acquire $words 2>"$room/said") $? $(builds) $(grep -c "^acquire: no file is named [a-z/]*: new makes one" "$room/said")"
+    done
+    ln -s nothing leads_nowhere
+    for words in "nobody new" ":memory: show" ":memory: check" "nowhere/nobody run" "leads_nowhere run" "j show" \
+        "$(printf 'long%.0s' {1..64}) run"; do
+        report "a build is tried: $words" " 70" "$(bare ./acquire $words 2>"$room/said") $?"
+    done
+    rm leads_nowhere
 }
 
 # shellcheck disable=SC2086
 other_words() {
     for words in "help run" "--plan multi j new" "j new --plan=multi" "j run --budget +7" "j run --budget 007" "j run --budget 1000000000" \
-        ":memory: demo --number 0 --budget 5" ":memory: check" "j reduce --budget=1" "j play" "-- j run"; do
+        ":memory: demo --number 0 --budget 5" ":memory: check" "j reduce --budget=1" "j play" "-- j run" "j -- run" "nobody run"; do
         report "words for the program: $words" "one $here $words" "$(./acquire $words 2>&1)"
     done
 }
@@ -88,6 +105,7 @@ echo "1a2b3c4 of 2026-11-29" >tools/commit
 report "version of an archive" "acquire 1.2.3, commit 1a2b3c4 of 2026-11-29" "$(./acquire --version | head -n 1)"
 no_words
 wrong_words
+no_file
 mv "$room/top" "$room/a 'b"
 command=$("$room/a 'b/acquire" --help | sed -n 's/^  \(.*acquire.*\) run$/\1/p')
 report "a path with blanks can be copied" "$usage" "$(sh -c "$command" 2>&1)"

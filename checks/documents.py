@@ -14,7 +14,8 @@ heading. Beside that:
 - in docs/definitions.md a word stands in the file that its row names;
 - docs/calls.md has each public call with a clause of the crates that the program stands on, and each law, and names no other call;
 - in docs/promises.md a definition is one of the crate whose clause is cited beside it, or of one that this crate uses;
-- README.md has the figures of the tables of docs/performance.md;
+- README.md has the figures of the tables of docs/performance.md, and in that section no others;
+- no line of text has more than 130 columns, and in the pages that a user reads first no sentence more than 40 words;
 - THIRD-PARTY.md is what tools/third_party.py makes, where the kit that it names is there.
 
 That a command prints what a page shows under it is seen by checks/examples.sh.
@@ -481,8 +482,15 @@ def rows_under(head):
     return {row[0]: row[1:] for row in rows}
 
 
-def figure_faults(page):
-    """Whether README.md has the figures of the tables of docs/performance.md."""
+def longest_waits(column):
+    """The longest wait of each row of the table of full tables, in seconds, in one column of it or, for None, in any."""
+    rows = rows_under("| case | variables, scopes, constraints | `scopes` | `quacq` | `multi` |")
+    wait = lambda cell: float(cell.split("; ")[1].removeprefix(">"))
+    return {case: max(map(wait, row[1:] if column is None else [row[column]])) for case, row in rows.items()}
+
+
+def due_figures():
+    """The sentences of README.md on what was measured, with the figures of docs/performance.md and the limits of docs/formats.md."""
     asked = rows_under("| task | variables, scopes, candidates | `scopes` | `quacq` | `multi` |")
     of = lambda task, column: asked[task][column].split(" of ")[0]
     candidates = lambda task: asked[task][0].split(", ")[2]
@@ -492,17 +500,48 @@ def figure_faults(page):
     ruler = next(int(row[6]) for case, row in done.items() if "Golomb" in case)
     waits = [float(row[7]) for row in done.values()]
     memory = [float(row[8].removesuffix(" MB")) for row in done.values()]
-    due = [
-        f"A roster with {candidates('roster')} possible constraints takes {of('roster', 2)} questions.",
-        f"100 exams with {candidates('100 exams')} take {of('100 exams', 2)}, and {of('100 exams', 1)} in plan `scopes`.",
-        f"a question took {min(others)} to {max(others)} us of a processor ({ruler / 1000:.2f} ms on a Golomb ruler)",
-        f"nobody waited for more than {max(waits):.0f} ms, and {min(memory)} to {max(memory)} MB were enough",
-    ]
-    said = " ".join(text_of("README.md").split())
+    full = longest_waits(None)
+    longest = lambda word: max(wait for case, wait in full.items() if word in case)
+    yield f"A roster with {candidates('roster')} possible constraints takes {of('roster', 2)} questions."
+    yield f"100 exams with {candidates('100 exams')} take {of('100 exams', 2)}, and {of('100 exams', 1)} in plan `scopes`."
+    yield f"a question took {min(others)} to {max(others)} us of a processor ({ruler / 1000:.2f} ms on a Golomb ruler)"
+    yield f"nobody waited for more than {max(waits):.0f} ms, and {min(memory)} to {max(memory)} MB were enough"
+    yield f"of a Sudoku one waits for {longest('Sudoku')} s of a processor and more, of a league for {longest('by teams')} s"
+    yield f"with 1,800 constraints between 128 variables for {longest('1,800 mixed'):.0f} s."
+    yield f"Plan `scopes` has {'no such wait' if max(longest_waits(1).values()) < 0.01 else 'such waits too'}"
+    budget, limits = " ".join(text_of("docs/performance.md").split()), text_of("docs/formats.md")
+    wait = re.search("0.06 s under 1,000, with 1,800 it was ([0-9.]+) s", budget)
+    yield f"under a `--budget` of 1,000 none was above {wait[1] if wait else 'what docs/performance.md no longer says'} s."
+    most = [re.search(f"{words} ([0-9,]+) {what}", limits)[1] for words, what in (("1 to", "names"), ("1 to", "values"), ("at most", "scopes"))]
+    yield f"The largest languages have {most[0]} variables, {most[1]} values and {most[2]} scopes."
+
+
+def figure_faults(page):
+    """Whether README.md has the figures of the tables, and in that section no others."""
     number = next(number for number, line in page.lines if line == "## Numbers")
-    for text in due:
+    said = " ".join(text_of(page.name).split("\n## Numbers\n")[1].split("\n## ")[0].split())
+    for text in due_figures():
         if text not in said:
-            yield number, f"the tables of docs/performance.md have: {text}"
+            yield number, f"the tables of docs/performance.md and docs/formats.md have: {text}"
+        said = said.replace(text, "")
+    if left := re.findall("[0-9][0-9.,]*", said):
+        yield number, f"no table is known for {left[0]}"
+
+
+def width_faults(page):
+    """Lines of text longer than a screen; a row of a table or a picture can't be broken."""
+    for number, line in page.lines:
+        if len(line) > 130 and not line.startswith(("|", "![")):
+            yield number, f"the line has {len(line)} columns, and 130 are the most"
+
+
+def sentence_faults(page):
+    """Sentences too long to be quoted."""
+    for number, text in page.blocks():
+        plain = re.sub(r"`[^`]*`|\]\([^)]*\)", "x", text)
+        for sentence in re.split(r"[.!?][*`)]*\s| \| ", plain):
+            if (count := len(re.findall(r"[^\s]*\w[^\s]*", sentence))) > 40:
+                yield number, f"a sentence has {count} words, and 40 are the most: {' '.join(sentence.split()[:8])} .."
 
 
 def third_party_faults(page):
@@ -528,6 +567,8 @@ def main():
     parts += [("docs/calls.md", lambda page: call_faults(sources, page))]
     parts += [("docs/promises.md", lambda page: citing_faults(sources, page))]
     parts += [("README.md", figure_faults), ("THIRD-PARTY.md", third_party_faults)]
+    parts += [(name, width_faults) for name in pages]
+    parts += [(name, sentence_faults) for name in ("README.md", "docs/guide.md", "docs/guarantees.md", "docs/troubleshooting.md")]
     failed = 0
     for name, faults in parts:
         found = list(faults(pages[name]))

@@ -78,7 +78,8 @@ report "its files" "README SHA256 VERSION bin/acquire example/input example/prin
     "$(cd "$room/unpacked/$name" && find . -type f ! -path './share/doc/*' | sed 's/^..//' | LC_ALL=C sort | tr '\n' ' ' | sed 's/ $//')"
 report "its licences" "LICENSE-APACHE LICENSE-MIT" "$(cd "$room/unpacked/$name/share/doc/acquire" && echo LICENSE*)"
 cp "$room/made/$name.tar.gz" "$room/first" && rm "$room"/made/*
-release >"$room/status"
+# (the second time for somebody whose files nobody else may read)
+(umask 077 && chmod -R go= examples docs man README.md && release >"$room/status")
 report "the same twice" 0 "$(cmp "$room/first" "$room/made/$name.tar.gz"; echo $?)"
 rm "$room"/made/*
 

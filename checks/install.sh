@@ -34,9 +34,10 @@ all() {
     printf '%s\n' "$pages" "755 bin/acquire" "755 lib/acquire/acquire" "644 lib/acquire/version" "644 lib/acquire/help" "644 share/man/man1/acquire.1" \
         "644 share/bash-completion/completions/acquire" "644 share/zsh/site-functions/_acquire" "$@" | LC_ALL=C sort -k 2 | tr '\n' ' '
 }
-report "built" 0 "$(install install PREFIX="$room/to"; echo $?)"
+report "built" 0 "$(umask 077; install install PREFIX="$room/to"; echo $?)"
 report "what is put" "$(all)" "$(files "$room/to")"
 report "the proved program" "$(sha256sum <crates/acquire/out/acquire)" "$(sha256sum <"$room/to/lib/acquire/acquire")"
+report "others may read it" "" "$(find "$room/to" -type d ! -perm 755)"
 report "the manual" "" "$(cmp "$top/man/acquire.1" "$room/to/share/man/man1/acquire.1")"
 report "it runs" "one $room/top j run" "$("$room/to/bin/acquire" j run)"
 report "words are passed on as they are" "one $room/top a  b --help run" "$("$room/to/bin/acquire" "a  b" --help run)"

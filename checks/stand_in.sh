@@ -75,7 +75,8 @@ END
 chmod +x "$kit/bin/rt" "$kit"/toolchain/bin/*
 PATH=$kit/bin:$PATH
 
-# A repository of three crates, of which the program needs two. Nothing is built there.
+# A repository of three crates, of which the program needs two. Nothing is built there. It has the files that the checks name as journals,
+# since no command begins a build to say that there is no file.
 unbuilt() {
     cd "$room" && rm -rf "$room/top"
     mkdir -p "$room/top/examples/first" "$room"/top/crates/{low,acquire,beside}/{src,specs,must-fail}
@@ -83,7 +84,7 @@ unbuilt() {
     cd "$room/top" || exit 1
     printf 'low: # the lowest\nbeside: low\nacquire: low json\n' >crates.txt
     echo 1.2.3 >VERSION
-    touch HANDLES examples/first/{input,printed} crates/beside/src/lib.rt crates/acquire/src/main.rt crates/low/specs/Lib.antt
+    touch HANDLES j first second during stopped examples/first/{input,printed} crates/beside/src/lib.rt crates/acquire/src/main.rt crates/low/specs/Lib.antt
     echo one >crates/low/src/lib.rt
     echo first kit >"$kit/bin/kit"
     rm -f "$kit/bin/asked" "$kit"/bin/links_* "$kit/toolchain/bin/words"

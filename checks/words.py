@@ -1,11 +1,12 @@
 #!/usr/bin/env python3
-"""The script `acquire` refuses the lists of words that the program refuses, and builds nothing for them.
+"""What the script `acquire` answers without a build is what the program says.
 
 usage: checks/words.py PROGRAM [NUMBER]
 
-NUMBER lists of words (800) are drawn: some plain, some with a word more, less or changed. Each is given to PROGRAM, and to a copy of
-the script beside which nothing is built and no kit is there: it prints the usage line exactly where the program does, and else
-says that it can't build. The script's own words, and what stands behind `--`, are left out.
+NUMBER lists of words (800) are drawn: some plain, some with a word more, less or changed, and some with `--`. Each is given to
+PROGRAM, and to a copy of the script beside which nothing is built and no kit is there. Where the program prints the usage line, or
+finds no session since no file has the journal's name, the script prints the same, with the same status; and else it says that it
+can't build. For half of the lists each word is the name of a file, without a byte. The script's own words are left out.
 """
 
 import os
@@ -27,8 +28,9 @@ VALUES = {
     "--number": ["0", "4294967295", "4294967296", "000", "+5", "x", "1_0"],
 }
 JOURNALS = ["j", "run", "help", ":memory:", ":memory:", "some journal", "-j", "-"]
-OTHERS = ["more", "--fast", "-x", "--plan", "--budget", "--number", "--plan=", "-", "shwo"]
-NOT_BUILT = 70
+OTHERS = ["more", "--fast", "-x", "--plan", "--budget", "--number", "--plan=", "-", "--", "--", "shwo"]
+NO_SESSION = ("refused journal no session\n", 3)
+NOT_BUILT = ("", 70)
 
 
 def drawn(draws):
@@ -64,26 +66,42 @@ def unbuilt(room):
     return f"{room}/top/acquire", {"PATH": f"{room}/tools"}
 
 
+def with_files(room):
+    """A folder in which each word that may come is a file without a byte."""
+    folder = f"{room}/files"
+    os.mkdir(folder)
+    for name in {*JOURNALS, *OPTIONS, *OTHERS, *(value for values in VALUES.values() for value in values)} - {":memory:", ""}:
+        with open(f"{folder}/{name}", "wb"):
+            pass
+    return folder
+
+
 def main():
     if len(sys.argv) not in (2, 3):
         sys.exit(__doc__)
     program = os.path.abspath(sys.argv[1])
     number = int(sys.argv[2]) if len(sys.argv) == 3 else 800
-    draws, failed, refused = random.Random(20), 0, 0
+    draws, failed, refused, missed = random.Random(20), 0, 0, 0
     with tempfile.TemporaryDirectory() as room:
         script, environment = unbuilt(room)
-        how = {"cwd": room, "stdin": subprocess.DEVNULL, "capture_output": True, "text": True, "timeout": 120}
+        folder = with_files(room)
+        how = {"stdin": subprocess.DEVNULL, "capture_output": True, "text": True, "timeout": 120}
         for _ in range(number):
-            words = drawn(draws)
+            words, there = drawn(draws), draws.random() < 0.5
             if words in ([], ["help"]):
                 continue
-            due = subprocess.run([program, *words], **how).stdout.startswith("usage: ")
-            said = subprocess.run([script, *words], env=environment, **how)
-            refused += due
-            if (said.stdout.startswith("usage: "), said.returncode) != (due, 1 if due else NOT_BUILT):
+            at = folder if there else room
+            ran = subprocess.run([program, *words], cwd=at, **how)
+            said = subprocess.run([script, *words], cwd=at, env=environment, **how)
+            due = (ran.stdout, ran.returncode)
+            is_refused = due[0].startswith("usage: ")
+            is_missed = due == NO_SESSION and not there and ":memory:" not in words
+            refused += is_refused
+            missed += is_missed
+            if (said.stdout, said.returncode) != (due if is_refused or is_missed else NOT_BUILT):
                 failed += 1
-                print(f"words: {words}: the program {'refuses' if due else 'takes'} them, and the script prints {said.stdout + said.stderr!r}, status {said.returncode}")
-    print(f"words: {number} lists of words, {refused} of which the program refuses; {failed} failed")
+                print(f"words: {words}, {'' if there else 'no '}files: the program prints {due}, and the script {said.stdout + said.stderr!r}, status {said.returncode}")
+    print(f"words: {number} lists of words, {refused} of which the program refuses, {missed} without a file; {failed} failed")
     sys.exit(1 if failed else 0)
 
 

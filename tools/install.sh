@@ -7,6 +7,7 @@
 # bin/acquire is a small start over lib/acquire/acquire, which is the proved program: it has a help and a version, gives the threads
 # small stacks, and passes everything else on as it is. The pages stand as they do in the repository, so that their links lead on.
 set -u
+umask 022
 remove=
 if [ "${1-}" = --remove ]; then
     remove=yes

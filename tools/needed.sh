@@ -25,7 +25,7 @@ fi
 echo "tools: installing by apt-get, which NO_INSTALL=1 would forbid:$missing"
 apt-get update >/dev/null 2>&1
 for package in $missing; do
-    DEBIAN_FRONTEND=noninteractive apt-get install -y --no-install-recommends "$package" >/dev/null 2>&1 ||
+    DEBIAN_FRONTEND=noninteractive apt-get -o DPkg::Lock::Timeout=300 install -y --no-install-recommends "$package" >/dev/null 2>&1 ||
         echo "tools: $package could not be installed, and checks that want it pass over what they can't do"
 done
 exit 0

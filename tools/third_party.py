@@ -18,10 +18,11 @@ import sys
 TOP = os.path.join(os.path.dirname(os.path.abspath(__file__)), "..")
 HEAD = """# Third parties
 
-What the program `acquire` links besides the crates of this repository, which are under [MIT](LICENSE-MIT) or [Apache 2.0](LICENSE-APACHE)
-as you choose. Made by `tools/third_party.py` with `{kit}`: the libraries are the kit's,
-ports of Rust crates or its own, and each one's licence is the one that lies beside its sources there; a release has these texts in
-share/doc/acquire/licences. The C library is the system's. `desk` links nothing; it calls Python's `rich` (MIT), `flask` (BSD 3-clause) and `waitress` (ZPL 2.1), which the system installs.
+What the program `acquire` links besides the crates of this repository, which are under [MIT](LICENSE-MIT) or
+[Apache 2.0](LICENSE-APACHE) as you choose. Made by `tools/third_party.py` with `{kit}`:
+the libraries are the kit's, ports of Rust crates or its own, and each one's licence is the one that lies beside its sources
+there. A release has these texts in share/doc/acquire/licences. The C library is the system's. `desk` links nothing; it calls
+Python's `rich` (MIT), `flask` (BSD 3-clause) and `waitress` (ZPL 2.1), which the system installs.
 
 | library | what the kit says of it | licence texts in the kit |
 |---|---|---|

@@ -1,6 +1,6 @@
 # shellcheck shell=sh
 # Whether the program can take a list of words, so that nothing is built for one that it can't. `acquire` reads this in.
-# docs/formats.md says what is taken. Where it is the program's affair, as with what stands behind `--`, the words may be right.
+# docs/formats.md says what is taken.
 
 # Whether a word is a number from $2 to $3, as the program reads one.
 is_number() {
@@ -48,13 +48,14 @@ fits() {
     done
 }
 
+# Leaves JOURNAL and COMMAND as `journal` and `command`. What stands behind `--` is no option.
 may_be_taken() {
-    journal='' command='' count=0 given=
+    journal='' command='' count=0 given='' behind=
     while [ $# -gt 0 ]; do
-        case $1 in
-        --) return 0 ;;
-        --*=*) takes_option "${1%%=*}" "${1#*=}" || return 1 ;;
-        -?*)
+        case $behind:$1 in
+        :--) behind=yes ;;
+        :--*=*) takes_option "${1%%=*}" "${1#*=}" || return 1 ;;
+        :-?*)
             takes_option "$1" "${2-}" || return 1
             shift
             ;;
@@ -70,4 +71,14 @@ may_be_taken() {
         shift
     done
     [ "$count" -eq 2 ] && fits "$journal" "$command"
+}
+
+# Whether the command wants a session, and no file has the journal's name. What the program says then is known without it.
+# (A folder that isn't there or lets nobody in, and a link that leads nowhere, are faults of another kind; so is a name too long.)
+lacks_session() {
+    case $command in
+    new | check | try | demo) return 1 ;;
+    esac
+    [ "$journal" != :memory: ] && [ "${#journal}" -lt 256 ] && [ ! -e "$journal" ] && [ ! -L "$journal" ] &&
+        [ -x "$(dirname -- "$journal")" ]
 }
