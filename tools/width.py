@@ -1,17 +1,20 @@
 #!/usr/bin/env python3
-"""Breaks the long lines of Rattle sources, specifications and proofs, each at its outermost operators.
+"""Breaks the long lines of sources, specifications and proofs, each at its outermost operators.
 
-usage: tools/width.py [--check] [--without-proofs] [FILE-OR-FOLDER..]       (all of crates/ where none is named)
+usage: tools/width.py [--check] [--without-proofs] [FILE-OR-FOLDER..]
 
-A line over 100 columns is broken; all others stay as they are. A clause or a statement goes on behind `→`, `=`, `in` and `λ x.`,
-before `×`, `⊎`, `↔`, `∙` and lesser operators, and else before an argument, with as few lines and as little depth as it can. A record,
-a tuple or cases that fit in no line get a line for each part. An import goes on in a second import of the same module, since `rt fmt`
-would give each name a line. A paragraph of comments is filled anew where a line of it is over. The indentation is that of `rt fmt`,
-which is run on a copy.
+All of crates/ is meant where nothing is named. A line over 100 columns is broken; all others stay
+as they are. A clause or a statement goes on behind `→`, `=`, `in` and `λ x.`, before `×`, `⊎`, `↔`,
+`∙` and lesser operators, and else before an argument, with as few lines and as little depth as it
+can. A record, a tuple or cases that fit in no line get a line for each part. An import goes on in a
+second import of the same module, since `rt fmt` would give each name a line. A paragraph of
+comments is filled anew where a line of it is over. The indentation is that of `rt fmt`, which is
+run on a copy.
 
-A text that an edit (`must-fail/`, `checks/wrong_bodies/`, `checks/must_not_compile/`) names as `old:` stays on one line. Each file is
-read again at the end: its words are the same, and so are those of its comments. With --check nothing is written, each file that
-would change is named, and the status is 1 if there is one.
+A text that an edit (`must-fail/`, `checks/wrong_bodies/`, `checks/must_not_compile/`) names as
+`old:` stays on one line. Each file is read again at the end: its words are the same, and so are
+those of its comments. With --check nothing is written, each file that would change is named, and
+the status is 1 if there is one.
 """
 
 import glob
@@ -39,12 +42,13 @@ BEHIND = {"→": 0, "in": 0, "=": 0.5, "↦": 1, "←": 1}
 BEFORE = {"×": 1, "⊎": 1, "↔": 1, "∙": 1, "then": 2, "else": 2, "++": 6, "∷": 8}
 BEFORE |= dict.fromkeys(("≡", "≢", "≤", "<", "=="), 12) | dict.fromkeys(("+", "-", "*"), 14)
 # What stands with the word behind it.
-WITH_NEXT = {"λ", "let", "elim", "as", "record", "Type", "abbrev", "pub", "open", "unfoldable", "unfolding", "module", "data", "pattern", "¬", "ruleset", "{", "["}
-WITH_LAST = {"→", "=", ":", "as", "in", "where", "}", "}.", "]", "[", "{", ";", "↦", "←"}
+WITH_NEXT = set("λ ¬ { [ let elim as record data Type module abbrev pub open".split())
+WITH_NEXT |= set("unfoldable unfolding pattern ruleset".split())
+WITH_LAST = set("→ = : as in where } }. ] [ { ; ↦ ←".split())
 
 
 def words_of(text):
-    """The words of a text, with the place of each. A text in quotes is one, with what stands at it."""
+    """The places of a text's words. What stands in quotes is one, with what stands at it."""
     found, end = [], -1
     for it in WORD.finditer(text):
         if it.start() == end:
@@ -73,7 +77,11 @@ class Line:
         for word in self.words:
             depths.append(depth)
             if not word.startswith('"'):
-                depth += sum((it in "({⟦") - (it in ")}⟧") for it in word) + (word == "[") - (word == "]")
+                depth += (
+                    sum((it in "({⟦") - (it in ")}⟧") for it in word)
+                    + (word == "[")
+                    - (word == "]")
+                )
         # A break before a word lies as deep as the brackets that are open there.
         self.depths = [it - min(depths) for it in depths]
         names = False
@@ -94,7 +102,13 @@ class Line:
         if i == 0:
             return NEVER
         last, word = self.words[i - 1], self.words[i]
-        if last.lstrip("(⟦{") in WITH_NEXT or word in WITH_LAST or word == "(" or last.endswith(("(", "⟦")) or self.is_head(i):
+        if (
+            last.lstrip("(⟦{") in WITH_NEXT
+            or word in WITH_LAST
+            or word == "("
+            or last.endswith(("(", "⟦"))
+            or self.is_head(i)
+        ):
             return NEVER
         if last in BEHIND:
             return BEHIND[last]
@@ -107,7 +121,12 @@ class Line:
         if last == ":":
             return 12
         # The name of what is applied doesn't stand alone.
-        is_first = i == 1 or last.startswith(("(", "{")) or self.words[i - 2] in BEHIND | BEFORE or self.words[i - 2].endswith(".")
+        is_first = (
+            i == 1
+            or last.startswith(("(", "{"))
+            or self.words[i - 2] in BEHIND | BEFORE
+            or self.words[i - 2].endswith(".")
+        )
         return (13 if word.startswith(("(", "{", "λ", "⟦", '"')) else 16) + 8 * is_first
 
     def is_head(self, i):
@@ -115,8 +134,9 @@ class Line:
         return self.is_clause and "{" not in self.text[: self.spans[i - 1][0]]
 
     def find_groups(self):
-        """The outermost tuples, records and cases, each by its first and last word and where its parts begin, with `None` for an end
-        within a word. `rt fmt` gives each part a line where one has a break."""
+        """The outermost tuples, records and cases, each by its first and last word, and the places
+        of its brackets and of what parts it. `rt fmt` gives each part a line where one has a break.
+        """
         stack, found = [], []
         for i, word in enumerate(self.words):
             if word.startswith('"'):
@@ -124,16 +144,29 @@ class Line:
             marks = word if word in ("[", "]", "|") else re.sub(r"[^(){},;⟦⟧]", " ", word)
             for at, mark in enumerate(marks):
                 if mark in "([{⟦":
-                    is_record = mark == "{" and "record" in self.words[max(0, i - 2) : i] + self.words[max(0, i - 1) : i]
+                    is_record = (
+                        mark == "{"
+                        and "record"
+                        in self.words[max(0, i - 2) : i] + self.words[max(0, i - 1) : i]
+                    )
                     stack.append([mark, i, at, False, is_record or self.opens_record(i), []])
                 elif mark in ",;|" and stack:
                     stack[-1][3] = True
                     stack[-1][5].append((i, at))
                 elif mark in ")]}⟧" and stack:
                     kind, first, column, parted, is_record, parts = stack.pop()
-                    whole = kind == "(" and parted or kind == "{" and is_record or kind == "[" and parted
+                    whole = (
+                        kind == "("
+                        and parted
+                        or kind == "{"
+                        and is_record
+                        or kind == "["
+                        and parted
+                    )
                     if whole:
-                        found = [it for it in found if not (first <= it[0] and it[1] <= i)] + [(first, i, (kind, column, at, parts))]
+                        found = [it for it in found if not (first <= it[0] and it[1] <= i)] + [
+                            (first, i, (kind, column, at, parts))
+                        ]
         return found
 
     def opens_record(self, i):
@@ -148,36 +181,37 @@ class Line:
         return False
 
     def best(self):
-        """The cheapest breaks, by the words before which they stand, and whether all lines fit."""
+        """The cheapest breaks, by the words before which they stand."""
         count = len(self.words)
-        end = [b for _, b in self.spans]
         costs, breaks = [0.0] + [float("inf")] * count, [0] * (count + 1)
         for j in range(1, count + 1):
             for i in range(j - 1, -1, -1):
-                wide = end[j - 1] - (0 if i == 0 else self.spans[i][0] - self.further)
+                wide = self.width(i, j)
                 if wide > WIDTH and costs[j] < NEVER:
                     break
-                cost = costs[i] + LINE + (0 if i == 0 else self.costs[i] + DEEPER * self.depths[i])
-                cost += 200 + 5 * (wide - WIDTH) if wide > WIDTH else 0 if j == count else 3 * ((WIDTH - wide) / WIDTH) ** 2
+                cost = costs[i] + LINE + (self.costs[i] + DEEPER * self.depths[i] if i else 0)
+                if wide > WIDTH:
+                    cost += 200 + 5 * (wide - WIDTH)
+                elif j < count:
+                    cost += 3 * ((WIDTH - wide) / WIDTH) ** 2
                 if cost < costs[j]:
                     costs[j], breaks[j] = cost, i
-        found, j = [], count
-        while j:
-            j = breaks[j]
-            found.append(j)
-        found = [it for it in reversed(found) if it]
-        pieces = list(zip([0] + found, found + [count]))
-        fit = all(end[j - 1] - (0 if i == 0 else self.spans[i][0] - self.further) <= WIDTH for i, j in pieces)
-        return found, fit, pieces
+        found = [breaks[count]]
+        while found[0]:
+            found.insert(0, breaks[found[0]])
+        found = found[1:]
+        return found
+
+    def width(self, i, j):
+        """How wide a line is of the words from i to before j."""
+        return self.spans[j - 1][1] - (self.spans[i][0] - self.further if i else 0)
 
     def broken(self):
-        found, fit, pieces = self.best()
-        if not fit:
-            for i, j in pieces:
-                if self.spans[j - 1][1] - (0 if i == 0 else self.spans[i][0] - self.further) > WIDTH:
-                    inside = [it for it in self.groups if i <= it[0] and it[1] < j]
-                    if inside:
-                        return self.opened(max(inside, key=lambda it: self.spans[it[1]][1] - self.spans[it[0]][0]))
+        found = self.best()
+        for i, j in zip([0] + found, found + [len(self.words)]):
+            inside = [it for it in self.groups if i <= it[0] and it[1] < j]
+            if self.width(i, j) > WIDTH and inside:
+                return self.opened(max(inside, key=lambda it: self.width(it[0], it[1] + 1)))
         if any(self.costs[it] >= NEVER for it in found):
             found = [it for it in found if self.costs[it] < NEVER]
         lines, places = [], [0] + [self.spans[it][0] for it in found] + [len(self.text)]
@@ -186,7 +220,8 @@ class Line:
         return lines
 
     def opened(self, group):
-        """The line with a line for each part of a group; `rt fmt` indents them, and sets what ends the last one."""
+        """The line with a line for each part of a group. `rt fmt` indents them, and sets what ends
+        the last one."""
         first, last, (kind, column, at, parts) = group
         start = self.spans[first][0] + column + 1
         stop = self.spans[last][0] + at
@@ -196,7 +231,11 @@ class Line:
         cuts.append(stop)
         deep = " " * (self.further + 4)
         texts = [self.text[a:b].strip() for a, b in zip(cuts, cuts[1:])]
-        return [self.text[:start].rstrip()] + [deep + it for it in texts if it] + [" " * self.further + self.text[stop:].strip()]
+        return (
+            [self.text[:start].rstrip()]
+            + [deep + it for it in texts if it]
+            + [" " * self.further + self.text[stop:].strip()]
+        )
 
 
 class Source:
@@ -227,7 +266,11 @@ class Source:
             else:
                 is_ours = depth > 0 or CLAUSE.match(line) is not None
                 if is_ours:
-                    depth += sum(it.count("{") - it.count("}") for it in WORD.findall(code_of(line)) if not it.startswith('"'))
+                    depth += sum(
+                        it.count("{") - it.count("}")
+                        for it in WORD.findall(code_of(line))
+                        if not it.startswith('"')
+                    )
             if len(line) <= WIDTH:
                 out.append(line)
             elif use := USE.fullmatch(line):
@@ -240,7 +283,8 @@ class Source:
         return "\n".join(out)
 
     def further(self, i):
-        """The column at which line i goes on: its own where it goes on a line itself, else four further."""
+        """The column at which line i goes on: its own where it goes on a line itself, else four
+        further."""
         column = indent(self.lines[i])
         if CLAUSE.match(self.lines[i]):
             return column + 4
@@ -265,23 +309,41 @@ class Source:
         found = []
         for it in rows:
             whole = f"{head}{{{', '.join(it)}}}{end}"
-            found += [whole] if len(whole) <= WIDTH else [head + "{"] + [f"  {name}," for name in it] + ["}" + end]
-        return found if all(any(line[a:b] in it for it in found) for a, b in self.spans(line)) else [line]
+            found += (
+                [whole]
+                if len(whole) <= WIDTH
+                else [head + "{"] + [f"  {name}," for name in it] + ["}" + end]
+            )
+        return (
+            found
+            if all(any(line[a:b] in it for it in found) for a, b in self.spans(line))
+            else [line]
+        )
 
     def goes_on(self, line, later):
-        """Whether a comment goes on in the next line: a break that was made since the next word had no room."""
+        """Whether a comment goes on in the next line: a break that was made since the next word had
+        no room."""
         here, there = COMMENT.match(line), COMMENT.match(later)
         if not there or here.group(1) != there.group(1):
             return False
         text, more = line[len(here.group(1)) :], later[there.end() :]
-        if text.startswith(FIXED) or more.startswith(FIXED) or ITEM.match(more) or len(there.group(2)) != hang_of(text):
+        if (
+            text.startswith(FIXED)
+            or more.startswith(FIXED)
+            or ITEM.match(more)
+            or len(there.group(2)) != hang_of(text)
+        ):
             return False
         return len(line) + 1 + len(more.split(" ")[0]) > WIDTH
 
     def filled(self, lines):
         head = COMMENT.match(lines[0]).group(1)
         texts = [it[len(head) :] for it in lines]
-        if all(len(it) <= WIDTH for it in lines) or any(self.spans(it) for it in lines) or texts[0].startswith(FIXED):
+        if (
+            all(len(it) <= WIDTH for it in lines)
+            or any(self.spans(it) for it in lines)
+            or texts[0].startswith(FIXED)
+        ):
             return lines
         hang = head + " " * hang_of(texts[0])
         words = [word for it in texts for word in it.split()]
@@ -310,9 +372,15 @@ def indent(line):
 
 
 def sense(path, text):
-    """What a file says: its words without the breaks, and those of its comments. Imports of one module side by side are one."""
+    """What a file says: its words without the breaks, and those of its comments. Imports of one
+    module side by side are one."""
     code, comments = [], []
-    text = re.sub(r"^( *[^\n{]*\buse [^\s{]+\.\{)\n([^{}]*)\n\}", lambda it: it[1] + re.sub(r",? *\n *", ", ", it[2].strip()).rstrip(",") + "}", text, flags=re.M)
+    text = re.sub(
+        r"^( *[^\n{]*\buse [^\s{]+\.\{)\n([^{}]*)\n\}",
+        lambda it: it[1] + re.sub(r",? *\n *", ", ", it[2].strip()).rstrip(",") + "}",
+        text,
+        flags=re.M,
+    )
     for line in text.split("\n"):
         if comment := COMMENT.match(line):
             comments += line[comment.end() :].split()
@@ -327,7 +395,8 @@ def sense(path, text):
         else:
             joined.append(line)
     words = " ".join(text[a:b] for text in joined for a, b in words_of(text))
-    # Where a part has a line of its own `rt fmt` ends the last one as the others, and begins the first case as the others.
+    # Where a part has a line of its own `rt fmt` ends the last one as the others, and begins the
+    # first case as the others.
     for mark, end in (",", ")"), (",", "}"), (";", "}"):
         words = re.sub(rf"\{mark} ?\{end}", f" {end}", words)
     words = re.sub(r"\[ \| ", "[ ", words)
@@ -337,7 +406,12 @@ def sense(path, text):
 def edits():
     """For each file the texts that an edit finds in it."""
     found = {}
-    for pattern in ("crates/*/must-fail", "checks/wrong_bodies/*", "checks/wrong_bodies/same/*", "checks/must_not_compile"):
+    for pattern in (
+        "crates/*/must-fail",
+        "checks/wrong_bodies/*",
+        "checks/wrong_bodies/same/*",
+        "checks/must_not_compile",
+    ):
         for path in glob.glob(f"{TOP}/{pattern}/*.edit"):
             crate, file = path.split("/")[-3 if "/must-fail/" in path else -2], None
             for line in open(path, encoding="utf-8").read().split("\n"):
@@ -356,12 +430,14 @@ def laid_out(texts):
     with tempfile.TemporaryDirectory() as room:
         names = {}
         for n, path in enumerate(texts):
-            names[path] = f"{room}/{'specs' if path.endswith('.antt') else 'src'}/n{n}{path[path.rindex('.'):]}"
+            folder, end = ("specs", "antt") if path.endswith(".antt") else ("src", "rt")
+            names[path] = f"{room}/{folder}/n{n}.{end}"
             os.makedirs(os.path.dirname(names[path]), exist_ok=True)
             with open(names[path], "w", encoding="utf-8") as file:
                 file.write(texts[path])
         ran = subprocess.run(["rt", "fmt"], cwd=room, capture_output=True, text=True)
-        faults = {path: it for path in texts for it in ran.stderr.split("\n") + ran.stdout.split("\n") if it.startswith(f"{names[path]}:")}
+        said = ran.stderr.split("\n") + ran.stdout.split("\n")
+        faults = {path: it for path in names for it in said if it.startswith(f"{names[path]}:")}
         found = {}
         for path, name in names.items():
             with open(name, encoding="utf-8") as file:
@@ -398,7 +474,9 @@ def formatted(paths):
         for text in kept.get(path, ()):
             if now[path].count(text) != old[path].count(text):
                 faults[path] = f"{path}: an edit's text doesn't stand there as before: {text}"
-    return {path: now[path] for path in now if now[path] != old[path] and path not in faults}, faults
+    return {
+        path: now[path] for path in now if now[path] != old[path] and path not in faults
+    }, faults
 
 
 def main():
@@ -411,7 +489,11 @@ def main():
         if os.path.isfile(it):
             paths.append(it)
         for where, folders, files in os.walk(it):
-            folders[:] = [name for name in folders if name != "out" and not ("--without-proofs" in options and name == "proofs")]
+            folders[:] = [
+                name
+                for name in folders
+                if name != "out" and not ("--without-proofs" in options and name == "proofs")
+            ]
             paths += [f"{where}/{name}" for name in files if name.endswith((".rt", ".antt"))]
     texts, faults = formatted(sorted(paths))
     for path in sorted(texts):
