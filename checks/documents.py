@@ -80,10 +80,13 @@ class Crate:
 
     def read_code(self, lines):
         """Reads a file in rt fmt's layout: items begin a line, and their members stand behind four blanks."""
-        kind = owner = call = None
+        kind = owner = call = clause = None
+        depth = 0  # of the braces of the clause that a line goes on with
         for line in lines:
             item = ITEM.match(line.strip())
-            if clause := CLAUSE.match(line):
+            if depth or CLAUSE.match(line):
+                clause = clause if depth else CLAUSE.match(line)
+                depth += line.count("{") - line.count("}")
                 if call:
                     self.clauses[call].add(clause[1] or "")
                     self.cited[clause[1]] |= set(re.findall(NAME, line))

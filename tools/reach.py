@@ -50,7 +50,7 @@ def reached(crate, file, function):
     source = open(os.path.join(TOP, "crates", crate, file), encoding="utf-8").read()
     start = source.index(f"fn {function}<") if f"fn {function}<" in source else source.index(f"fn {function}(")
     clauses = source[start : source.index("\n{", start)]
-    clauses = "\n".join(re.findall(r"(?:ensures|requires)[^{]*\{(.*)\}|^\s+[×→](.*)\}", clauses) and re.split(r"ensures|requires", clauses)[1:])
+    clauses = "\n".join(re.split(r"ensures|requires", clauses)[1:])
     modules, seen, todo = {}, set(), []
 
     def look(text, names, own):

@@ -63,8 +63,9 @@ pub(crate) fn of_triples(alloc: Global, arguments: &str) -> Option<String> {
     for v in 1..38 {
         write!(names, ",\"v{v}\"").ok()?;
     }
+    let relation = r#"{"name":"r","arity":3,"tuples":[]}"#;
     let text = format!(in alloc;
-        r#"{{"variables":[{names}],"domain":[1,2],"relations":[{{"name":"r","arity":3,"tuples":[]}}],"scopes":[{scopes}]}}"#
+        r#"{{"variables":[{names}],"domain":[1,2],"relations":[{relation}],"scopes":[{scopes}]}}"#
     ).ok()?;
     told(alloc, text.as_bytes())
 }

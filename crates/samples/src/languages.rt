@@ -110,7 +110,7 @@ fn vocabulary(
     let relations = listed(alloc, &parts)?;
     let scopes = scopes_text(alloc, n, scopes)?;
     format!(in alloc;
-        "{{\"variables\":{variables},\"domain\":[1,{d}],\"ranges\":{ranges},\"relations\":{relations},\"scopes\":{scopes}}}"
+        r#"{{"variables":{variables},"domain":[1,{d}],"ranges":{ranges},"relations":{relations},"scopes":{scopes}}}"#
     )
 }
 
