@@ -89,7 +89,8 @@ impl<F: NamedFile> Disk for FileDisk<F> {
         ensures cause { HasCause self.old.faults self.new.faults result }
         ensures kept { OnOk result (self.new.faults ≡ self.old.faults) }
 
-        // It fails only where the file does, and sees the length. What was seen stays where it fails, and the file in any case.
+        // It fails only where the file does, and sees the length. What was seen stays where it fails,
+        // and the file in any case.
         ensures failed { IsErr result → F.reads_fail self.old.file }
         ensures seen { OnOk result (IsLengthOf self.new.seen (F.content self.new.file)) }
         ensures still { OnErr result (self.new.seen ≡ self.old.seen) }
@@ -114,7 +115,8 @@ impl<F: NamedFile> Disk for FileDisk<F> {
         ensures cause { HasCause self.old.faults self.new.faults result }
         ensures kept { OnOk result (self.new.faults ≡ self.old.faults) }
 
-        // It fails only where the file does, or where a place behind the last number of 64 bits is to be read. It changes nothing.
+        // It fails only where the file does, or where a place behind the last number of 64 bits is
+        // to be read. It changes nothing.
         ensures failed { IsErr result → F.reads_fail self.old.file ⊎ (2 ^ 64 ≤ at + length buf.old) }
         ensures seen { self.new.seen ≡ self.old.seen }
         ensures file { self.new.file ≡ self.old.file }
@@ -135,8 +137,9 @@ impl<F: NamedFile> Disk for FileDisk<F> {
         ensures cause { HasCause self.old.faults self.new.faults result }
         ensures kept { OnOk result (self.new.faults ≡ self.old.faults) }
 
-        // It fails where the file has another length than the one last seen, and else only where the file does. The length that was
-        // seen stays where it fails, so the next write doesn't pass over what this one noticed.
+        // It fails where the file has another length than the one last seen, and else only where the
+        // file does. The length that was seen stays where it fails, so the next write doesn't pass
+        // over what this one noticed.
         ensures noticed { ForSome (F.content self.old.file) (λ bytes. IsSomeAnd self.old.seen (λ n. n ≢ length bytes) → IsErr result × (self.new.file ≡ self.old.file)) }
         ensures failed { IsErr result → F.reads_fail self.old.file ⊎ F.writes_fail self.old.file at (length bytes.now) ⊎ HasAnotherLength self.old.seen (F.content self.old.file) }
         ensures seen { OnOk result (IsLengthOf self.new.seen (F.content self.new.file)) }
