@@ -26,6 +26,8 @@ impl<R> Model for StdSource<R> {
 impl<R: Read> StdSource<R> {
     /// A source that reads from `inner`. It doesn't tell what is left.
     pub fn new(inner: R) -> StdSource<R>
+        ensures inner { result.inner ≡ inner }
+        ensures none_late { ⟦<StdSource<R> as Source>⟧.late result ≡ 0 }
         ensures no_faults { ⟦<StdSource<R> as Source>⟧.faults result ≡ 0 }
     {
         StdSource {
@@ -119,6 +121,7 @@ impl<W> Model for StdSink<W> {
 impl<W: Write> StdSink<W> {
     /// A sink that writes to `inner`. It doesn't tell what was written.
     pub fn new(inner: W) -> StdSink<W>
+        ensures inner { result.inner ≡ inner }
         ensures no_faults { ⟦<StdSink<W> as Sink>⟧.faults result ≡ 0 }
     {
         StdSink { inner, faults: 0 }

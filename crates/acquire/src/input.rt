@@ -38,7 +38,9 @@ fn next_byte<R: BufRead>(reader: &mut R) -> Result<Option<u8>, Error>
 
 impl<R: BufRead> Buffered<R> {
     /// The bytes of `inner`, of which none is read yet.
-    pub fn new(inner: R) -> Buffered<R> {
+    pub fn new(inner: R) -> Buffered<R>
+        ensures inner { result ≡ inner }
+    {
         Buffered { inner }
     }
 }

@@ -1,6 +1,6 @@
 //! A named file as a disk.
 
-ghost use Rattle.std.specs.Prelude.{◌≡◌, ◌≤◌, ◌≢◌, ◌⊎◌, ◌+◌, ◌-◌, ◌^◌, ◌++◌, min, max, Some, None, IsSome, IsNone, IsErr, IsSomeAnd, IfOk, OnOk, IfSome, length, take, drop};
+ghost use Rattle.std.specs.Prelude.{◌≡◌, ◌≤◌, ◌≢◌, ◌⊎◌, ◌+◌, ◌-◌, ◌^◌, ◌++◌, min, max, Some, None, IsSome, IsNone, IsErr, IsSomeAnd, IfOk, OnOk, OnErr, IfSome, length, take, drop};
 ghost use Rattle.std.specs.Option.{ForSome, ForNone};
 ghost use Rattle.disk_model.specs.Disk.{Torn, IsWritten, Follows, Only, AddsNothing, Elapses, AreCalls, Rose, HasCause};
 ghost use Rattle.file_disk.specs.Seen.{HasAnotherLength, IsLengthOf};
@@ -20,9 +20,10 @@ pub struct FileDisk<F> {
 }
 
 impl<F: NamedFile> FileDisk<F> {
-    /// The file as a disk that hasn't failed yet.
+    /// The file as a disk that hasn't failed yet and has seen no length.
     pub fn new(file: F) -> Self
         ensures file { result.file ≡ file }
+        ensures unseen { result.seen ≡ None }
         ensures no_faults { result.faults ≡ 0 }
     {
         FileDisk {
@@ -86,10 +87,14 @@ impl<F: NamedFile> Disk for FileDisk<F> {
         ensures time { Elapses (F.moment self.old.file) (F.moment self.new.file) (F.left_since self.old.file) (F.left_since self.new.file) (F.may_leave self.new.file) }
         ensures one_call { AreCalls 1 (2 ^ 64 - 1) (2 ^ 64 - 1) }
         ensures cause { HasCause self.old.faults self.new.faults result }
+        ensures kept { OnOk result (self.new.faults ≡ self.old.faults) }
 
-        // It fails only where the file does, and sees the length.
+        // It fails only where the file does, and sees the length. What was seen stays where it fails,
+        // and the file in any case.
         ensures failed { IsErr result → F.reads_fail self.old.file }
         ensures seen { OnOk result (IsLengthOf self.new.seen (F.content self.new.file)) }
+        ensures still { OnErr result (self.new.seen ≡ self.old.seen) }
+        ensures file { self.new.file ≡ self.old.file }
     {
         match self.file.length() {
             Ok(length) => {
@@ -108,10 +113,13 @@ impl<F: NamedFile> Disk for FileDisk<F> {
         ensures time { Elapses (F.moment self.old.file) (F.moment self.new.file) (F.left_since self.old.file) (F.left_since self.new.file) (F.may_leave self.new.file) }
         ensures one_call { AreCalls 1 (2 ^ 64 - 1) (2 ^ 64 - 1) }
         ensures cause { HasCause self.old.faults self.new.faults result }
+        ensures kept { OnOk result (self.new.faults ≡ self.old.faults) }
 
-        // It fails only where the file does, or where a place behind the last number of 64 bits is to be read.
+        // It fails only where the file does, or where a place behind the last number of 64 bits is
+        // to be read. It changes nothing.
         ensures failed { IsErr result → F.reads_fail self.old.file ⊎ (2 ^ 64 ≤ at + length buf.old) }
         ensures seen { self.new.seen ≡ self.old.seen }
+        ensures file { self.new.file ≡ self.old.file }
     {
         match read_whole(&self.file, at, buf) {
             Ok(count) => Ok(count),
@@ -127,11 +135,15 @@ impl<F: NamedFile> Disk for FileDisk<F> {
         ensures time { Elapses (F.moment self.old.file) (F.moment self.new.file) (F.left_since self.old.file) (F.left_since self.new.file) (F.may_leave self.new.file) }
         ensures one_call { AreCalls 1 (2 ^ 64 - 1) (2 ^ 64 - 1) }
         ensures cause { HasCause self.old.faults self.new.faults result }
+        ensures kept { OnOk result (self.new.faults ≡ self.old.faults) }
 
-        // It fails where the file has another length than the one last seen, and else only where the file does.
+        // It fails where the file has another length than the one last seen, and else only where the
+        // file does. The length that was seen stays where it fails, so the next write doesn't pass
+        // over what this one noticed.
         ensures noticed { ForSome (F.content self.old.file) (λ bytes. IsSomeAnd self.old.seen (λ n. n ≢ length bytes) → IsErr result × (self.new.file ≡ self.old.file)) }
         ensures failed { IsErr result → F.reads_fail self.old.file ⊎ F.writes_fail self.old.file at (length bytes.now) ⊎ HasAnotherLength self.old.seen (F.content self.old.file) }
         ensures seen { OnOk result (IsLengthOf self.new.seen (F.content self.new.file)) }
+        ensures still { OnErr result (self.new.seen ≡ self.old.seen) }
     {
         let Some(length) = self.length_as_seen() else {
             return Err(self.fault());
@@ -152,6 +164,7 @@ impl<F: NamedFile> Disk for FileDisk<F> {
         ensures time { Elapses (F.moment self.old.file) (F.moment self.new.file) (F.left_since self.old.file) (F.left_since self.new.file) (F.may_leave self.new.file) }
         ensures one_call { AreCalls 1 (2 ^ 64 - 1) (2 ^ 64 - 1) }
         ensures cause { HasCause self.old.faults self.new.faults result }
+        ensures kept { OnOk result (self.new.faults ≡ self.old.faults) }
 
         // It fails only where the file does.
         ensures failed { IsErr result → F.syncs_fail self.old.file }
