@@ -124,12 +124,14 @@ class Bench:
         self.used = {"compile": 0.0, "tables": 0.0}     # seconds of a processor
 
     def compile(self, names: list[str], edits: list[Edit], faults: dict[str, str]) -> list[Edit]:
-        """Builds these programs, and runs their tables with the right bodies. Edits that the
-        compiler refuses are faults, and none of what is given back."""
+        """Builds those of these programs that link a crate with a body, and runs their tables with
+        the right bodies. Edits that the compiler refuses are faults, and none of what is given
+        back."""
+        crates = {edit.crate for edit in edits}
         # the last ones take longest
         names = names[::-1]
         asked = self.pool.map(lambda name: ask(name, f"{self.room}/{name}"), names)
-        left = dict(zip(names, asked))
+        left = {name: it for name, it in zip(names, asked) if not it.linked.isdisjoint(crates)}
         while left:
             sources = Sources(f"{self.room}/sources", edits)
             said = self.pool.map(lambda program: self.make(program, sources), left.values())
