@@ -1,6 +1,6 @@
 #!/usr/bin/env bash
-# .ci/run with stand-ins for the kit and for the checks: what has passed is recorded, so that `acquire` proves nothing again and release.sh
-# makes a tar file; nothing else is.
+# .ci/run with stand-ins for the kit and for the checks: each script of checks/ is called once; what has passed is recorded, so that
+# `acquire` proves nothing again and release.sh makes a tar file; nothing else is.
 set -u
 top=$(cd "$(dirname "$0")/.." && pwd)
 what=gate
@@ -9,14 +9,14 @@ what=gate
 
 has git "nothing is tried" || exit 0
 
-# A commit of such a repository, with checks that look at nothing.
+# A commit of such a repository, with checks that look at nothing, but note that they are called.
 fresh() {
     unbuilt
     mkdir -p checks .ci "$room/made"
     cp "$top/.ci/run" .ci/
     cp -r "$top"/{man,completions,docs,Makefile,release.sh,.gitignore,README.md,LICENSE-MIT,LICENSE-APACHE} .
     for it in "$top"/checks/*; do
-        [ -x "$it" ] && [ -f "$it" ] && printf '#!/bin/sh\n' >"checks/${it##*/}"
+        [ -x "$it" ] && [ -f "$it" ] && printf '#!/bin/sh\necho "${0##*/}" >>"%s/called"\n' "$room" >"checks/${it##*/}"
     done
     chmod +x checks/*
     echo "first kit" >tools/kit
@@ -59,6 +59,7 @@ change_during() {
 here=$room/top
 fresh
 report "passed" "0 5 passed, 0 failed" "$(gate) $(sed -n 2p "$room/printed")"
+report "each check is called once" "$(ls checks)" "$(sort "$room/called")"
 report "how many proofs go side by side" "gate: $(tools/lanes.sh) proofs side by side" "$(head -n 1 "$room/printed")"
 report "where the time went" "processor minutes proof second proof edits compile run sum" "$(sed -n 3p "$room/printed" | tr -s ' ')"
 report "that is kept" 0 "$(tail -n +3 "$room/printed" | cmp -s - .ci/out/minutes; echo $?)"

@@ -2,7 +2,7 @@
 """Each wrong body is noticed by a row of a table or by one of the checks, or no run can show it.
 
 usage: checks/wrong_bodies.py [--write] [--every] [--room FOLDER] [--jobs N] [NAME ..]
-       checks/wrong_bodies.py --plants [--room FOLDER] [--jobs N] CRATE ..
+       checks/wrong_bodies.py --plants [--of N] [--seed N] [--room FOLDER] [--jobs N] CRATE ..
 
 A wrong body is an edit of crates/*/must-fail, which the prover refuses too, or of
 checks/wrong_bodies/CRATE; NAME chooses those of a crate, or one, as CRATE/SENTENCE. They are
@@ -27,20 +27,24 @@ done what tools/lanes.sh says, or --jobs. Where a build of the kit calls its too
 than is known here, nothing is tried, and the last line says so.
 
 With --plants the bodies are those that `rt plant` writes for all functions of these crates, also
-where it would not ask the prover. Those that no table notices are listed: one that means another
-thing than the right one wants a row, and is worth an edit then.
+where it would not ask the prover; with --of N of each crate, drawn by --seed. Those that no table
+notices are listed: one that means another thing than the right one wants a row, and is worth an
+edit then.
 """
 
 from __future__ import annotations
 
 import argparse
+import collections
 import os
+import random
 import shutil
 import subprocess
 import sys
 import tempfile
 import time
 from concurrent.futures import ThreadPoolExecutor
+from typing import BinaryIO
 
 HERE = os.path.dirname(os.path.realpath(__file__))
 sys.dont_write_bytecode = True
@@ -51,7 +55,7 @@ from edits import (TOP, BadEdit, Edit, Sources, find_edits, number, read_bodies,
                    together)
 from kept import Kept, sum_of_edit, sum_of_runs, sum_of_texts
 from plants import find_plants
-from programs import OtherKit, Program, Table, ask, build, check, run
+from programs import OtherKit, Program, Table, ask, build, check, numbers_in, run
 
 STORED = f"{HERE}/wrong_bodies/noticed.tsv"
 HEAD = ("# What notices each wrong body: a table and its first row that doesn't hold, a check and "
@@ -115,16 +119,19 @@ class Bench:
         self.programs: dict[str, Program] = {}
         self.tables = {name: Table(name) for name in TABLES}
         self.right: dict[str, tuple[str, str]] = {}  # what comes of a table with the right bodies
+        self.called: dict[str, set[int]] = {}   # the functions that a table calls then
         self.seconds: dict[str, int] = {}   # that a run of a table may take of a processor
         self.used = {"compile": 0.0, "tables": 0.0}     # seconds of a processor
 
     def compile(self, names: list[str], edits: list[Edit], faults: dict[str, str]) -> list[Edit]:
-        """Builds these programs, and runs their tables with the right bodies. Edits that the
-        compiler refuses are faults, and none of what is given back."""
+        """Builds those of these programs that link a crate with a body, and runs their tables with
+        the right bodies. Edits that the compiler refuses are faults, and none of what is given
+        back."""
+        crates = {edit.crate for edit in edits}
         # the last ones take longest
         names = names[::-1]
         asked = self.pool.map(lambda name: ask(name, f"{self.room}/{name}"), names)
-        left = dict(zip(names, asked))
+        left = {name: it for name, it in zip(names, asked) if not it.linked.isdisjoint(crates)}
         while left:
             sources = Sources(f"{self.room}/sources", edits)
             said = self.pool.map(lambda program: self.make(program, sources), left.values())
@@ -151,13 +158,16 @@ class Bench:
         if not said:
             self.programs[program.crate] = program
             if program.crate != PROGRAM:
-                self.right[program.crate] = self.first_row(program.crate, [])
+                with tempfile.TemporaryFile() as calls:
+                    self.right[program.crate] = self.first_row(program.crate, [], calls)
+                    self.called[program.crate] = numbers_in(calls)
         return said
 
-    def first_row(self, name: str, edits: list[Edit]) -> tuple[str, str]:
+    def first_row(self, name: str, edits: list[Edit],
+                  calls: BinaryIO | None = None) -> tuple[str, str]:
         """The first row of a table that doesn't hold with these bodies, and what came instead."""
         program, seconds = self.programs[name], self.seconds.get(name, 600)
-        row, came, used = run(program, self.tables[name], switch_of(edits), seconds)
+        row, came, used = run(program, self.tables[name], switch_of(edits), seconds, calls)
         self.used["tables"] += used
         if not edits:
             self.seconds[name] = 5 + int(4 * used)
@@ -171,6 +181,11 @@ class Bench:
         """Whether a program is built and has the crate of one of these bodies."""
         return name in self.programs and any(
             edit.crate in self.programs[name].linked for edit in edits)
+
+    def calls(self, name: str, edits: list[Edit]) -> bool:
+        """Whether a table calls a function that one of these bodies changes."""
+        return name in self.called and any(
+            not self.called[name].isdisjoint(edit.functions.values()) for edit in edits)
 
     def right_faults(self, checks: bool) -> dict[str, str]:
         """What doesn't hold with the right bodies, by the tables, and by the checks too, which
@@ -186,7 +201,7 @@ class Bench:
     def lookers(self, edits: list[Edit]) -> list[str]:
         """The tables and checks that may notice one of these bodies, in turn."""
         checks = [name for name in CHECKS if name not in SLOW and self.links(PROGRAM, edits)]
-        return [name for name in TABLES if self.links(name, edits)] + checks
+        return [name for name in TABLES if self.calls(name, edits)] + checks
 
     def sees(self, name: str, edits: list[Edit]) -> Line | None:
         """What a table or a check notices of these bodies."""
@@ -304,8 +319,8 @@ def judge(said: argparse.Namespace, bench: Bench) -> tuple[int, int, dict[str, s
     if said.write:
         write_lines({name: line for name, line in lines.items()
                      if name in known and not known[name].same})
-    else:
-        kept.write({it.name: sums[it.name] for it in due if it.name not in wrong}, set(known))
+        sums = sums_of(edits, lines)
+    kept.write({it.name: sums[it.name] for it in due if it.name not in wrong}, set(known))
     if not said.names:
         wrong.update({name: "it has a line, and is no edit" for name in set(lines) - set(known)})
     return count, before, {**faults, **wrong}
@@ -313,18 +328,26 @@ def judge(said: argparse.Namespace, bench: Bench) -> tuple[int, int, dict[str, s
 
 def tell_plants(said: argparse.Namespace, bench: Bench) -> None:
     """Lists the plants of some crates that no table notices, and counts all."""
-    edits = [edit for crate in said.names for edit in find_plants(crate)]
+    edits = []
+    for crate in said.names:
+        plants = find_plants(crate)
+        chosen = random.Random(f"{said.seed} {crate}").sample(range(len(plants)), len(plants))
+        edits += [plants[place] for place in sorted(chosen[:said.of])]
     number(edits)
     refused: dict[str, str] = {}
+    # Many don't compile, which one program tells of all.
+    edits = bench.compile(["program_rows"], edits, refused)
     edits = bench.compile([*TABLES], edits, refused)
     if faults := bench.right_faults(False):
         raise SystemExit("\n".join(f"wrong_bodies: {it}: {why}" for it, why in faults.items()))
-    count = 0
+    count = collections.Counter()
     for edit, line in zip(edits, bench.pool.map(lambda edit: bench.notices([edit]), edits)):
+        by = line[0] if line else "nothing" if bench.lookers([edit]) else "no table calls it"
+        count[by] += 1
         if not line:
-            count += 1
-            print(edit.name, flush=True)
-    print(f"wrong_bodies: {len(edits)} plants, of which no table notices {count}; "
+            print(f"{edit.name}: {by}", flush=True)
+    told = ", ".join(f"{by} {many}" for by, many in count.most_common())
+    print(f"wrong_bodies: {len(edits)} plants by what notices them: {told}; "
           f"{len(refused)} that don't compile")
 
 
@@ -341,6 +364,8 @@ def read_words() -> argparse.Namespace:
     words.add_argument("--write", action="store_true")
     words.add_argument("--every", action="store_true")
     words.add_argument("--plants", action="store_true")
+    words.add_argument("--of", type=int)
+    words.add_argument("--seed", type=int, default=1)
     words.add_argument("--room")
     words.add_argument("--jobs", type=int, default=lanes())
     words.add_argument("names", nargs="*")

@@ -168,7 +168,9 @@ class Sources:
     def __init__(self, folder: str, edits: list[Edit]):
         self.folder = folder
         self.crates = {edit.crate for edit in edits}
+        # the lines of each body, and those of each function with all its bodies
         self.places: dict[str, list[tuple[int, int, Edit]]] = collections.defaultdict(list)
+        self.around: dict[str, list[tuple[int, int, Edit]]] = collections.defaultdict(list)
         shutil.rmtree(folder, ignore_errors=True)
         for crate in sorted(self.crates):
             shutil.copytree(f"{TOP}/crates/{crate}/src", f"{folder}/{crate}/src")
@@ -184,10 +186,13 @@ class Sources:
             arms = [(edit, body) for edit, body in bodies if body.braces == braces]
             function = arms[0][0].functions[arms[0][1]]
             written += right[place : braces[0] + 1] + [f"match libc::getpgid({function}) {{"]
+            first = len(written)
             for edit, body in arms:
                 self.add(written, file, edit, f"{edit.number} => {{\n{body.text}\n}}")
             written += ["_ => {", *right[braces[0] + 1 : braces[1]], "}", "}", right[braces[1]]]
-            written += dict.fromkeys(body.copy for _, body in arms if body.copy)
+            for copy in dict.fromkeys(body.copy for _, body in arms if body.copy):
+                written += copy.split("\n")
+            self.around[file] += [(first, len(written), edit) for edit, _ in arms]
             place = braces[1] + 1
         written += right[place:]
         for edit, body in bodies:
@@ -213,10 +218,12 @@ class Sources:
         return sums.hexdigest()
 
     def blamed(self, said: str) -> dict[str, str]:
-        """The edits in whose lines the compiler finds an error, each with the first one."""
+        """The edits in whose lines the compiler finds an error, each with the first one. Where it
+        finds one beside them in their function, that are all edits of the function."""
         found: dict[str, str] = {}
         for file, line, error in re.findall(r"(?m)^(\S+?\.rt):(\d+):\d+: (error.*)", said):
-            for first, last, edit in self.places.get(file, []):
-                if first <= int(line) <= last:
-                    found.setdefault(edit.name, error[:200])
+            within = [[edit.name for first, last, edit in places.get(file, [])
+                       if first <= int(line) <= last] for places in (self.places, self.around)]
+            for name in within[0] or within[1]:
+                found.setdefault(name, error[:200])
         return found

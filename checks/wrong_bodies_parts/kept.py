@@ -1,8 +1,8 @@
 """Which bodies have been noticed as their lines say, kept from run to run.
 
-What is kept of a body is a checksum of all that its answer depends on: the body, its line, the sources
-of the program that was run with it, the table or the checks, these scripts and the kit. So an answer is
-valid as long as none of that changes, and a tree that hasn't changed costs nothing.
+What is kept of a body is a checksum of all that its answer depends on: the body, its line, the
+sources of the program that was run with it, the table or the checks, these scripts and the kit. So
+an answer is valid as long as none of that changes, and a tree that hasn't changed costs nothing.
 """
 
 from __future__ import annotations

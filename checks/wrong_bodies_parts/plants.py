@@ -54,6 +54,9 @@ def find_plants(crate: str) -> list[Edit]:
             fails = next((text for text in texts if text.startswith(("Err(", "None"))), None)
             texts += [it.text for it in bodies.over_the_real_one(fails)]
         for text in dict.fromkeys(texts):
+            if "//" in text:
+                # (a comment was taken for a variant's name)
+                continue
             name = f"{crate}/{function.file}:{function.line} {function.name} {{ {text} }}"
             body = planted(function, spans[0], lines, text)
             found.append(Edit(name, "", False, [body]))
