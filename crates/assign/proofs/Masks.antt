@@ -6,6 +6,8 @@ use Rattle.std.proofs.lemmas.Bool.{and_from}
 use Rattle.assign.specs.Sets.{is_same}
 use Rattle.shared_lemmas.proofs.Booleans.{both_true}
 use Rattle.std.proofs.Math.Bool.{and_self, or-false}
+use Rattle.std.proofs.lemmas.Nat.{shr-shr}
+use Rattle.assign.specs.SetLemmas.{has-set_where_above}
 
 -- ---- no member, the first n, one more, one less
 
@@ -286,3 +288,25 @@ pub same_mask_is : (a b : ℕ) → a < 2 ^ 128 → b < 2 ^ 128 → (a == b) ≡ 
 same_mask_is a b h k = both_true _ _
     (λ same. (bytes_eq-Decides (members_of a) (members_of b)).1 (ap members_of (eqb-true a b same)))
     (λ same. eq-eqb a b (sym (mask_of-members_of a h) ∙ ap mask_of ((bytes_eq-Decides (members_of a) (members_of b)).0 same) ∙ mask_of-members_of b k))
+
+-- ---- the members from one on
+
+and_true_right : (b : Bool) → (b && true) ≡ b
+and_true_right true = refl
+and_true_right false = refl
+
+-- past the last bit there is none, and no member either
+has-members_of_any : (mask v : ℕ) → mask < 2 ^ 128 → has (members_of mask) v ≡ is_one mask v
+has-members_of_any mask v small =
+    elim (cases_lt v 128) as (λ _. has (members_of mask) v ≡ is_one mask v) [
+      | inl low ↦ has-members_of mask v low
+      | inr far ↦ has-set_where_above (is_one mask) v far ∙ sym (ap (λ x. x == 1) (bit_at_above mask 128 v small far))
+    ]
+
+pub ones_from : (mask v j : ℕ) → mask < 2 ^ 128 → j < 64 → is_one (bit_and (mask / 2 ^ v) (2 ^ 64 - 1)) j ≡ has (members_of mask) (v + j)
+ones_from mask v j small low =
+    is_one-and (mask / 2 ^ v) (2 ^ 64 - 1) j
+    ∙ (λ i. is_one (mask / 2 ^ v) j && ap (λ x. x == 1) (bit_at_ones 64 j low) i)
+    ∙ and_true_right (is_one (mask / 2 ^ v) j)
+    ∙ ap (λ x. x % 2 == 1) (shr-shr mask v j)
+    ∙ sym (has-members_of_any mask (v + j) small)

@@ -1,4 +1,5 @@
 ghost use Rattle.std.specs.Prelude.{◌≡◌, ◌<◌, ◌≤◌, ◌+◌, ◌/◌, ℕ, List, [], length, drop, IfSome, filter, nat_eq, nat_lt};
+ghost use Rattle.std.specs.Int.{bit_at};
 ghost use Rattle.std.specs.Cmp.{partial_equiv_from_equiv};
 ghost use Rattle.std.specs.Cmp.Lexicographic.{pointwise, nat_list_eq_equiv};
 ghost use Rattle.assign.specs.Sets.{numbers, has, union, common, minus, with_member, without, is_within, first_half, least_of, IsSet};
@@ -146,6 +147,15 @@ impl VarSet {
         let first = self.mask.trailing_zeros() as u8;
         self.mask &= self.mask - 1;
         Some(first)
+    }
+
+    /// The members from v on as bits: bit j is 1 where v + j is a member, for each j below 64.
+    #[inline]
+    pub fn word_from(self, v: u8) -> u64
+        requires { v < 128 }
+        ensures { (j : ℕ) → j < 64 → nat_eq (bit_at result j) 1 ≡ has self (v + j) }
+    {
+        ((self.mask >> v) & u128::from(u64::MAX)) as u64
     }
 
     /// The least half of the members, rounded up: the least ceil(len / 2) of them.

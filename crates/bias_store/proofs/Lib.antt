@@ -11,8 +11,8 @@ pub mod Tabled
 pub mod Runs
 pub mod Rows
 pub mod Placed
+pub mod Leaving
 pub mod InRow
-pub mod Showing
 pub mod Violating
 pub mod Striking
 pub mod Within

@@ -26,7 +26,10 @@ pub use Rattle.rel_table.specs.Relation.{Relation, holds, place}
 pub use Rattle.bias_store.specs.Accepting.{Accepting, Accepts, AreAdded, AreRowsFrom, AreRunsFrom, IsAcceptingOf, IsRow, IsTableOf, accepting_on, first_of, mask_in, places_on, second_of}
 pub use Rattle.bias_store.specs.Inside.{candidates_at, members_from}
 pub use Rattle.bias_store.specs.KeptSet.{CoversOnly, IsMadeFor, KeptSet, is_struck_within, kept_relations}
-pub use Rattle.bias_store.specs.Shown.{AreNoneIn, IsFirstIn, IsShown, violated_at}
+pub use Rattle.bias_store.specs.Left.{IsLeftFrom}
+pub use Rattle.bias_store.specs.InsideLeft.{PassesOver}
+pub use Rattle.bias_store.specs.Ones.{IsLeastOne}
+pub use Rattle.bias_store.specs.Row.{AreNoneBut, AreNoneIn, IsFirstIn, IsRowOf, violated_at}
 pub use Rattle.bias_store.specs.Violated.{AreHitsListed, AreNoneViolated, IsHit, IsViolated, violated_on}
 pub use Rattle.bias_store.specs.declared.tables.TheConstants.{NO_TABLE}
 pub use Rattle.bias_store.specs.declared.tables.Violated.{Violated}

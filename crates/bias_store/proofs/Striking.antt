@@ -6,19 +6,16 @@ use Rattle.bias_store.proofs.Struck.{IsStruck, enough, struck_more, struck_pass,
 abbrev fails : Language → Assignment → Candidate → Bool
 fails l q c = violates l c q
 
-module _ (l : Language) (q : Assignment) (old now masks : List ℕ) (from before count relations failed : ℕ) (v : Violated) (same : masks ≡ now) (all : length old ≡ length l.scopes) (is : IsStruck (fails l q) old now from before count)
-    (found : IsViolated l q masks from v) (here : relations ≡ slice_index_or now v.scope 0) (counts : failed ≡ length (ones_of v.relations)) where
-  none : (k : ℕ) → from ≤ k → k < v.scope → violated_on l q k (slice_index_or now k 0) ≡ []
-  none k behind until = ap (λ m. violated_on l q k (slice_index_or m k 0)) (sym same) ∙ found.none k behind until
-
+module _ (l : Language) (q : Assignment) (old now : List ℕ) (from before count relations failed : ℕ) (v : Violated) (all : length old ≡ length l.scopes) (is : IsStruck (fails l q) old now from before count)
+    (found : IsViolated l q now from v) (here : relations ≡ slice_index_or now v.scope 0) (counts : failed ≡ length (ones_of v.relations)) where
   up_to : IsStruck (fails l q) old now v.scope before count
-  up_to = struck_pass (fails l q) old now from v.scope before count is none found.ahead
+  up_to = struck_pass (fails l q) old now from v.scope before count is found.none found.ahead
 
   low : v.scope < length old
   low = let within = found.within in omega arith
 
   fail : ones_of v.relations ≡ violated_on l q v.scope relations
-  fail = found.here ∙ ap (λ m. violated_on l q v.scope (slice_index_or m v.scope 0)) same ∙ ap (violated_on l q v.scope) (sym here)
+  fail = found.here ∙ ap (violated_on l q v.scope) (sym here)
 
   pub enough_found : failed ≤ count
   enough_found = enough (fails l q) old now v.scope before count relations v.relations failed up_to low here found.small fail counts
@@ -27,11 +24,10 @@ module _ (l : Language) (q : Assignment) (old now masks : List ℕ) (from before
   struck_found = struck_more (fails l q) old now v.scope before count relations v.relations failed up_to low here found.small fail counts
 
 -- where no more are found
-pub struck_rest : (l : Language) (q : Assignment) (old now masks : List ℕ) (from before count : ℕ) → masks ≡ now → length old ≡ length l.scopes → from ≤ length l.scopes → IsStruck (fails l q) old now from before count →
-    AreNoneViolated l q masks from (length l.scopes) → members_from 0 now ≡ filter (λ c. not (fails l q c)) (members_from 0 old)
-struck_rest l q old now masks from before count same all within is none =
-    struck_all (fails l q) old now (length l.scopes) before count
-    (struck_pass (fails l q) old now from (length l.scopes) before count is (λ k behind until. ap (λ m. violated_on l q k (slice_index_or m k 0)) (sym same) ∙ none k behind until) within) (omega arith)
+pub struck_rest : (l : Language) (q : Assignment) (old now : List ℕ) (from before count : ℕ) → length old ≡ length l.scopes → from ≤ length l.scopes → IsStruck (fails l q) old now from before count →
+    AreNoneViolated l q now from (length l.scopes) → members_from 0 now ≡ filter (λ c. not (fails l q c)) (members_from 0 old)
+struck_rest l q old now from before count all within is none =
+    struck_all (fails l q) old now (length l.scopes) before count (struck_pass (fails l q) old now from (length l.scopes) before count is none within) (omega arith)
 
 -- whether one is found
 any_found : (l : Language) (q : Assignment) (masks : List ℕ) (v : Violated) → length masks ≡ length l.scopes → IsViolated l q masks 0 v → list_any (fails l q) (members_from 0 masks) ≡ true

@@ -1,5 +1,5 @@
 -- What a question violates in a row of scopes of a language.
-use Rattle.bias_store.proofs.Prelude.{◌≡◌, ℕ, ◌+◌, ◌-◌, ◌*◌, ◌<◌, ◌≤◌, Bool, true, false, ◌&&◌, List, [], ◌∷◌, length, get_or, Option, Some, None, refl, sym, ◌∙◌, ap, subst, arith, not, is_some, filter, slice_range, get_or-take, get_or-drop, length-drop, length-take-le, has, Assignment, value_of, covers, Language, IsLanguage, scope_at, violates, IsQuestion, nothing_passes, value_fits, ones_of, Accepting, places_on, mask_in, first_of, second_of, IsRow, IsAcceptingOf, IsTableOf, violated_at, AreNoneIn, IsFirstIn, violated_on, AreNoneViolated, IsViolated}
+use Rattle.bias_store.proofs.Prelude.{◌≡◌, ℕ, ◌+◌, ◌-◌, ◌*◌, ◌<◌, ◌≤◌, Bool, true, false, ◌&&◌, List, [], ◌∷◌, length, get_or, Option, Some, None, refl, sym, ◌∙◌, ap, subst, arith, not, is_some, filter, slice_range, get_or-take, get_or-drop, length-drop, length-take-le, has, Assignment, value_of, covers, Language, IsLanguage, scope_at, violates, IsQuestion, nothing_passes, value_fits, ones_of, Accepting, places_on, mask_in, first_of, second_of, IsRow, IsAcceptingOf, IsTableOf, violated_at, AreNoneIn, IsFirstIn, IsRowOf, violated_on, AreNoneViolated, IsViolated}
 use Rattle.bias_store.proofs.Bits.{without_those}
 use Rattle.bias_store.proofs.Placed.{pair_place, pair_below}
 use Rattle.bias_store.proofs.Runs.{open_violates}
@@ -16,6 +16,16 @@ length-slice_range xs from to fits = length-take-le (to - from) _ (omega (arith,
 
 pub range_is : (xs ys : List ℕ) (from start to end : ℕ) → xs ≡ ys → from ≡ start → to ≡ end → slice_range xs from to ≡ slice_range ys start end
 range_is xs ys from start to end same low high = λ i. slice_range (same i) (low i) (high i)
+
+-- the scopes of a row, as a part of all masks
+pub row_of_masks : (masks row : List ℕ) (s start end : ℕ) → row ≡ slice_range masks start end → s ≡ start → start ≤ end → end ≤ length masks → IsRowOf masks s row
+row_of_masks masks row s start end is at rising fits = record {
+  within = omega (arith, long);
+  same = λ place low. ap (λ (xs : List ℕ). get_or xs place 0) is ∙ get_or-slice_range masks start end place 0 (omega (arith, long)) ∙ ap (λ i. get_or masks (i + place) 0) (sym at);
+}
+  where
+    long : length row ≡ end - start
+    long = ap length is ∙ length-slice_range masks start end fits
 
 and_false : (b : Bool) → (b && (false && true)) ≡ false
 and_false true = refl

@@ -15,8 +15,8 @@ members_from s [] = []
 members_from s (mask ∷ masks) = candidates_at s (ones_of mask) ++ members_from (s + 1) masks
 
 abbrev pub seen : Inside → KeptSet
-seen a = record { scopes = length a.relations.items; members = members_from 0 a.relations.items; accepting = a.tables }
+seen a = record { scopes = length a.relations; members = members_from 0 a.relations; accepting = a.tables }
 
 -- the count is that of the candidates
 abbrev pub CountsCandidates : Inside → Type 0
-CountsCandidates a = a.count ≡ length (members_from 0 a.relations.items)
+CountsCandidates a = a.count ≡ length (members_from 0 a.relations)

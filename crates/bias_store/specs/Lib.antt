@@ -1,6 +1,9 @@
 pub mod Accepting
 pub mod Made
-pub mod Shown
+pub mod Ones
+pub mod Row
 pub mod Violated
 pub mod KeptSet
 pub mod Inside
+pub mod Left
+pub mod InsideLeft

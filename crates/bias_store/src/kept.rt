@@ -1,14 +1,14 @@
 //! The kept candidates.
 
-ghost use Rattle.std.specs.Prelude.{ℕ, ◌≡◌, ◌+◌, ◌<◌, ◌≤◌, ◌↔◌, ◌==◌, IsTrue, true, List, IfOk, Contains, length, take, filter, not};
+ghost use Rattle.std.specs.Prelude.{ℕ, ◌≡◌, ◌+◌, ◌<◌, ◌≤◌, ◌↔◌, ◌==◌, ◌≢◌, IsTrue, true, List, [], IfOk, Contains, length, take, filter, not};
 ghost use Rattle.std.specs.List.{list_any};
 ghost use Rattle.language.specs.Language.{Language, candidates, violates, IsQuestion};
 ghost use Rattle.assign.specs.Sets.{is_within, ones_of};
 ghost use Rattle.bias_store.specs.Accepting.{accepting_on, places_on};
 ghost use Rattle.bias_store.specs.KeptSet.{kept_relations, is_struck_within, CoversOnly, IsMadeFor};
 
+use crate::left::Left;
 use crate::masks::{first_relations, has_relation, relation_count};
-use crate::shown::Shown;
 use crate::tables::{Tables, violated_on};
 use assign::{Partial, VarSet};
 use language::{Candidate, Language, Memory, ScopeId};
@@ -18,8 +18,8 @@ use std::marker::Model;
 /// The candidates that no answer has struck, on the scopes that were not dropped.
 #[derive(Drop)]
 pub struct Kept {
-    /// For each scope its kept relations: bit r is one where relation r is kept.
-    relations: Vec<u64>,
+    /// For each scope its kept relations.
+    relations: Left,
     /// How many candidates are kept.
     count: u32,
     /// Which relations accept which tuples.
@@ -46,7 +46,7 @@ impl Kept {
         ensures all { IfOk result (λ k. k.members ≡ candidates lang.now) }
         ensures made { IfOk result (λ k. IsMadeFor lang.now k) }
     {
-        let Ok(relations) = vec![in alloc; 0; lang.scopes() as usize] else {
+        let Ok(relations) = Left::none(alloc, lang.scopes() as usize) else {
             return Err(Memory);
         };
         let mut kept = Kept {
@@ -69,8 +69,7 @@ impl Kept {
     pub fn is_kept(&self, c: Candidate) -> bool
         ensures { IsTrue result ↔ Contains self.now.members c }
     {
-        let scope = usize::from(c.scope);
-        scope < self.relations.len() && has_relation(self.relations[scope], c.rel)
+        usize::from(c.scope) < self.relations.len() && has_relation(self.relations.on(c.scope), c.rel)
     }
 
     /// The kept relations on a scope: bit r is one where relation r is kept, in the language's order of relations.
@@ -79,7 +78,19 @@ impl Kept {
         requires { s < self.now.scopes }
         ensures { ones_of result ≡ kept_relations self.now.members s }
     {
-        self.relations[usize::from(s)]
+        self.relations.on(s)
+    }
+
+    /// The first scope from one on, and before an end, on which a relation is kept; the end where there is none.
+    pub fn first_kept(&self, from: u32, end: u32) -> u32
+        requires rising { from ≤ end }
+        requires known { end ≤ self.now.scopes }
+        ensures from { from ≤ result }
+        ensures within { result ≤ end }
+        ensures none { (s : ℕ) → from ≤ s → s < result → kept_relations self.now.members s ≡ [] }
+        ensures some { result < end → kept_relations self.now.members result ≢ [] }
+    {
+        self.relations.next_some(from as usize, end as usize) as u32
     }
 
     /// The relations on a scope that accept the tuple at a place, kept or not: bit r is one exactly where relation r does.
@@ -98,10 +109,9 @@ impl Kept {
         requires question { IsQuestion lang.now q.now }
         ensures { result ≡ list_any (λ c. violates lang.now c q.now) self.now.members }
     {
-        let shown = Shown::of(q);
         let found = self
             .tables
-            .next_violated(lang, q, &shown, &self.relations, 0);
+            .next_violated(lang, q, q.vars(), &self.relations, 0);
         found.is_some()
     }
 
@@ -126,13 +136,14 @@ impl Kept {
         ensures made { IsMadeFor lang.now self.new }
     {
         let count_before = self.count;
-        let shown = Shown::of(q);
+        let shown = q.vars();
         let mut from = 0;
         while let Some(found) = self
             .tables
-            .next_violated(lang, q, &shown, &self.relations, from)
+            .next_violated(lang, q, shown, &self.relations, from)
         {
-            self.relations[usize::from(found.scope)] &= !found.relations;
+            let others = self.relations.on(found.scope) & !found.relations;
+            self.relations.set(found.scope, others);
             self.count -= relation_count(found.relations);
             from = found.scope + 1;
         }
@@ -148,9 +159,9 @@ impl Kept {
         ensures kept { self.new.members ≡ filter (λ c. not (violates lang.now c q.now)) self.old.members }
         ensures made { IsMadeFor lang.now self.new }
     {
-        let relations = self.relations[usize::from(s)];
+        let relations = self.relations.on(s);
         let struck = violated_on(&self.tables, lang, s, q, relations);
-        self.relations[usize::from(s)] = relations & !struck;
+        self.relations.set(s, relations & !struck);
         self.count -= relation_count(struck);
     }
 
@@ -161,8 +172,8 @@ impl Kept {
         ensures scopes { self.new.scopes ≡ self.old.scopes }
         ensures made { (l : Language) → IsMadeFor l self.old → IsMadeFor l self.new }
     {
-        let dropped = self.relations[usize::from(s)];
-        self.relations[usize::from(s)] = 0;
+        let dropped = self.relations.on(s);
+        self.relations.set(s, 0);
         self.count -= relation_count(dropped);
     }
 
@@ -175,7 +186,7 @@ impl Kept {
         self.count = 0;
         for s in 0..lang.scopes() as ScopeId {
             let count = lang.relations_on(s);
-            self.relations[usize::from(s)] = first_relations(count);
+            self.relations.set(s, first_relations(count));
             self.count += u32::from(count);
         }
     }

@@ -6,8 +6,9 @@
 #![tactic(auto)]
 
 mod kept;
+mod left;
 mod masks;
-mod shown;
+mod row;
 mod tables;
 
 pub use kept::Kept;

@@ -2,6 +2,7 @@
 
 ghost use Rattle.std.specs.Prelude.{◌≡◌, ◌≢◌, ◌≤◌, ◌∷◌, length};
 ghost use Rattle.assign.specs.Sets.{numbers, has, ones_of};
+ghost use Rattle.bias_store.specs.Ones.{IsLeastOne};
 
 /// The first so many relations.
 pub(crate) fn first_relations(count: u8) -> u64
@@ -29,12 +30,21 @@ pub(crate) fn relation_count(relations: u64) -> u32
     relations.count_ones()
 }
 
+/// The place of the least one of a word, and the word without it.
+#[inline]
+pub(crate) fn take_least(word: u64) -> (u8, u64)
+    requires { word ≢ 0 }
+    ensures { IsLeastOne word result.0 result.1 }
+{
+    let at = word.trailing_zeros() as u8;
+    (at, word & !(1 << at))
+}
+
 /// The least of some relations, and the others.
 #[inline]
 pub fn split_first(relations: u64) -> (u8, u64)
     requires { relations ≢ 0 }
     ensures { ones_of relations ≡ result.0 ∷ ones_of result.1 }
 {
-    let r = relations.trailing_zeros() as u8;
-    (r, relations & !(1 << r))
+    take_least(relations)
 }

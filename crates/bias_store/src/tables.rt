@@ -5,17 +5,17 @@ ghost use Rattle.std.specs.Int.{bit_at};
 ghost use Rattle.std.specs.List.{filter};
 ghost use Rattle.std.specs.Option.{ForSome};
 ghost use Rattle.assign.specs.Sets.{numbers, ones_of};
-ghost use Rattle.assign.specs.Assignment.{Assignment, value_of};
+ghost use Rattle.assign.specs.Assignment.{Assignment, value_of, variables_of};
 ghost use Rattle.rel_table.specs.Relation.{tuple_at};
 ghost use Rattle.language.specs.Language.{variable_count, range_of, scope_at, place_on, IsLanguage, IsQuestion};
 ghost use Rattle.language.specs.Ranges.{is_in, are_in};
 ghost use Rattle.language.specs.Pairs.{IsPairTable};
 ghost use Rattle.bias_store.specs.Accepting.{accepting_on, places_on, first_of, Accepts, AreRunsFrom, IsRow, AreRowsFrom, IsTableOf, IsAcceptingOf, AreAdded, AreRowsAt};
 ghost use Rattle.bias_store.specs.Made.{HasTables, AcceptBy, AreClasses, IsMadeOfScopes, AreWider};
-ghost use Rattle.bias_store.specs.Shown.{IsShown};
 ghost use Rattle.bias_store.specs.Violated.{violated_on, AreNoneViolated, IsViolated, AreHitsListed};
 
-use crate::shown::Shown;
+use crate::left::Left;
+use crate::row::first_in_row;
 use assign::{Partial, VarSet};
 use language::{Language, Memory, ScopeId};
 use std::alloc::{AllocError, Global};
@@ -452,28 +452,28 @@ impl Tables {
         &self,
         lang: &Language,
         q: &Partial,
-        shown: &Shown,
-        relations: &[u64],
+        shown: VarSet,
+        left: &Left,
         s: ScopeId,
         value: u8,
     ) -> Option<Violated>
         requires made { IsAcceptingOf lang.now self.now }
         requires question { IsQuestion lang.now q.now }
-        requires shown { IsShown q.now shown.now }
-        requires relations { length relations.now ≡ length lang.now.scopes }
+        requires shown { shown ≡ variables_of q.now }
+        requires left { length left.now ≡ length lang.now.scopes }
         requires row { s < slice_index_or self.now.rows s 0 }
         requires scope { s < length lang.now.scopes }
         requires value { value_of q.now (first_of lang.now s) ≡ Some value }
-        ensures found { IfSome result (IsViolated lang.now q.now relations.now s) }
-        ensures none { IfNone result (AreNoneViolated lang.now q.now relations.now s (slice_index_or self.now.rows s 0)) }
+        ensures found { IfSome result (IsViolated lang.now q.now left.now s) }
+        ensures none { IfNone result (AreNoneViolated lang.now q.now left.now s (slice_index_or self.now.rows s 0)) }
     {
         let end = self.rows[usize::from(s)];
         let second = usize::from(lang.scope(s)[1]);
         let d = usize::from(lang.d());
         let begin = self.first[usize::from(s)] as usize + usize::from(value) * d;
-        let row = &relations[usize::from(s)..usize::from(end)];
+        let row = &left.masks()[usize::from(s)..usize::from(end)];
         let accepting = &self.masks[begin..begin + d];
-        let (place, violated) = shown.first_in_row(q, row, accepting, second)?;
+        let (place, violated) = first_in_row(q, shown, left, s, row, accepting, second)?;
         Some(Violated {
             scope: s + place as ScopeId,
             relations: violated,
@@ -482,24 +482,24 @@ impl Tables {
 
     /// From a scope on the first one with relations, of these, that the question violates.
     ///
-    /// Scopes whose first variable the question leaves open are passed over in runs, and in a row of scopes those whose second
-    /// one it leaves open. Each other one costs the reading of a value, and one AND; or one look at each relation, where the scope
-    /// has no table.
+    /// Scopes whose first variable the question leaves open are passed over in runs, and in a row of scopes, 64 at once, those whose
+    /// second one it leaves open and those without relations. Each other one costs the reading of a value, and one AND; or one look
+    /// at each relation, where the scope has no table.
     pub(crate) fn next_violated(
         &self,
         lang: &Language,
         q: &Partial,
-        shown: &Shown,
-        relations: &[u64],
+        shown: VarSet,
+        left: &Left,
         from: ScopeId,
     ) -> Option<Violated>
         requires made { IsAcceptingOf lang.now self.now }
         requires question { IsQuestion lang.now q.now }
-        requires shown { IsShown q.now shown.now }
-        requires relations { length relations.now ≡ length lang.now.scopes }
+        requires shown { shown ≡ variables_of q.now }
+        requires left { length left.now ≡ length lang.now.scopes }
         requires from { from ≤ length lang.now.scopes }
-        ensures found { IfSome result (IsViolated lang.now q.now relations.now from) }
-        ensures none { IfNone result (AreNoneViolated lang.now q.now relations.now from (length lang.now.scopes)) }
+        ensures found { IfSome result (IsViolated lang.now q.now left.now from) }
+        ensures none { IfNone result (AreNoneViolated lang.now q.now left.now from (length lang.now.scopes)) }
     {
         let scopes = lang.scopes() as ScopeId;
         let mut s = from;
@@ -510,12 +510,12 @@ impl Tables {
             };
             let end = self.rows[usize::from(s)];
             if s < end {
-                if let Some(found) = self.next_in_row(lang, q, shown, relations, s, value) {
+                if let Some(found) = self.next_in_row(lang, q, shown, left, s, value) {
                     return Some(found);
                 }
                 s = end;
             } else {
-                let violated = violated_on(self, lang, s, q, relations[usize::from(s)]);
+                let violated = violated_on(self, lang, s, q, left.on(s));
                 if violated != 0 {
                     return Some(Violated {
                         scope: s,
@@ -534,18 +534,18 @@ impl Tables {
         &self,
         lang: &Language,
         q: &Partial,
-        relations: &[u64],
+        left: &Left,
         sets: &mut [VarSet],
     ) -> (usize, bool)
         requires made { IsAcceptingOf lang.now self.now }
         requires question { IsQuestion lang.now q.now }
-        requires relations { length relations.now ≡ length lang.now.scopes }
-        ensures { AreHitsListed lang.now q.now relations.now sets.new result.0 result.1 }
+        requires left { length left.now ≡ length lang.now.scopes }
+        ensures { AreHitsListed lang.now q.now left.now sets.new result.0 result.1 }
     {
-        let shown = Shown::of(q);
+        let shown = q.vars();
         let mut count = 0;
         let mut from = 0;
-        while let Some(found) = self.next_violated(lang, q, &shown, relations, from) {
+        while let Some(found) = self.next_violated(lang, q, shown, left, from) {
             if count == sets.len() {
                 return (count, false);
             }

@@ -240,23 +240,6 @@ fn search_scope(
     }
 }
 
-/// The first scope from one on that has a kept candidate, or the end where none has.
-fn kept_from(kept: &Kept, from: u32, end: u32) -> u32
-    requires rising { from ≤ end }
-    requires known { end ≤ kept.now.scopes }
-    requires numbers { end ≤ 65536 }
-    ensures from { from ≤ result }
-    ensures within { result ≤ end }
-    ensures none { (s : ℕ) → from ≤ s → s < result → kept_relations kept.now.members s ≡ [] }
-{
-    for scope in from..end {
-        if kept.on_scope(scope as ScopeId) != 0 {
-            return scope;
-        }
-    }
-    end
-}
-
 /// Looks through the kept candidates with numbers from `first` to below `end`, up to the first whose search finds a question, and
 /// says what they say. A byte is set for each of them.
 pub(crate) fn search_part(
@@ -289,7 +272,7 @@ pub(crate) fn search_part(
     }
     let start = u32::from(lang.candidate(first).scope);
     let last = u32::from(lang.candidate(end - 1).scope);
-    let mut scope = kept_from(kept, start, last + 1);
+    let mut scope = kept.first_kept(start, last + 1);
     while scope <= last {
         search_scope(
             work,
@@ -308,7 +291,7 @@ pub(crate) fn search_part(
         if let Query::Ask(_) = answer {
             return answer;
         }
-        scope = kept_from(kept, scope + 1, last + 1);
+        scope = kept.first_kept(scope + 1, last + 1);
     }
     answer
 }

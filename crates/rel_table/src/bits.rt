@@ -11,7 +11,7 @@ use std::marker::Model;
 
 /// A list of truth values.
 #[derive(Drop)]
-pub(crate) struct Bits {
+pub struct Bits {
     /// How many truth values there are.
     count: usize,
     /// Truth value i is bit i % 64 of word i / 64. The bits beyond the last one are zero, so that equal lists have equal words.
@@ -32,7 +32,7 @@ impl Model for Bits {
 
 impl Bits {
     /// So many truth values, each false.
-    pub(crate) fn all_false(alloc: Global, count: usize) -> Result<Bits, AllocError>
+    pub fn all_false(alloc: Global, count: usize) -> Result<Bits, AllocError>
         ensures { IfOk result (λ b. b ≡ replicate count false) }
     {
         let words = zero_words(alloc, count.div_ceil(64))?;
@@ -60,7 +60,7 @@ impl Bits {
     }
 
     /// The truth value at a place.
-    pub(crate) fn get(&self, at: usize) -> bool
+    pub fn get(&self, at: usize) -> bool
         requires { at < length self.now }
         ensures { result ≡ slice_index_or self.now at false }
     {
@@ -69,7 +69,7 @@ impl Bits {
 
     /// The truth values from a place on, so many, as the lowest bits of a word. Its other bits mean nothing.
     #[inline]
-    pub(crate) fn row(&self, at: usize, count: usize) -> u64
+    pub fn row(&self, at: usize, count: usize) -> u64
         requires some { 1 ≤ count }
         requires few { count ≤ 64 }
         requires within { at + count ≤ length self.now }
@@ -85,11 +85,18 @@ impl Bits {
     }
 
     /// Makes the truth value at a place true.
-    pub(crate) fn mark(&mut self, at: usize)
+    pub fn mark(&mut self, at: usize)
         requires { at < length self.old }
         ensures { self.new ≡ set self.old at true }
     {
         self.words[at / 64] |= 1 << (at % 64);
+    }
+
+    /// Makes all truth values false.
+    pub fn clear(&mut self)
+        ensures { self.new ≡ replicate (length self.old) false }
+    {
+        erase(&mut self.words);
     }
 
     /// True where both are.
@@ -170,6 +177,13 @@ fn zero_words(alloc: Global, count: usize) -> Result<Vec<u64>, AllocError>
     ensures { IfOk result (λ v. v.items ≡ replicate count 0) }
 {
     vec![in alloc; 0; count]
+}
+
+/// Makes each word one without a one.
+fn erase(words: &mut [u64])
+    ensures { words.new ≡ replicate (length words.old) 0 }
+{
+    words.fill(0);
 }
 
 /// Whether each word is the same.

@@ -16,6 +16,7 @@ mod closing;
 mod places;
 mod table;
 
+pub use bits::Bits;
 pub use closing::{Closed, close};
 pub use places::{place_count, tuple_of};
 pub use table::{CloseFault, MOST_PLACES, Memory, Table, TableFault, place_of, table_size};

@@ -3,8 +3,8 @@ use Rattle.query_gen.proofs.Parts.{searched_none}
 use Rattle.query_gen.proofs.Scopes.{from_start, start_next, start_rises, no_ask, rising_scopes, scope_inside, scopes_passed, moved, blank}
 use Rattle.query_gen.proofs.part.search_part.Goals as goal
 
-pub kept_from-scope-requires-clause-rising : goal.kept_from-scope-requires-clause-rising
-kept_from-scope-requires-clause-rising c =
+pub first_kept-scope-requires-clause-rising : goal.first_kept-scope-requires-clause-rising
+first_kept-scope-requires-clause-rising c =
     let rising = c.requires.part.0 in
     rising_scopes c.args.lang.now c.args.first c.args.end c.candidate.result c.candidate-2.result c.from-start.result c.from-last.result c.from-start.ensures c.from-last.ensures
     c.candidate.ensures.number c.candidate-2.ensures.number c.candidate.ensures.candidate c.candidate-2.ensures.candidate (let some = c.if-first-end.false in omega arith)
@@ -19,16 +19,16 @@ loop-scope-init c =
     let before = moved c.args.lang.now c.args.net.now.list c.args.kept.now.members c.args.budget c.args.first c.args.first (reach c.args.first c.args.end (scope_start c.args.lang.now c.from-start.result)) c.fill.new.self _
     (omega arith) (searched_none c.args.lang.now c.args.net.now.list c.args.kept.now.members c.args.budget c.args.first c.fill.new.self _ refl (blank c.fill.new.self _ (c.fill.ensures.after (λ y same. same)))) in
     record {
-      searched = scopes_passed c.args.lang.now c.args.net.now.list c.args.kept.now.members c.args.budget c.args.first c.args.end c.from-start.result c.kept_from-scope.result c.fill.new.self _
-          c.kept_from-scope.ensures.from
+      searched = scopes_passed c.args.lang.now c.args.net.now.list c.args.kept.now.members c.args.budget c.args.first c.args.end c.from-start.result c.first_kept-scope.result c.fill.new.self _
+          c.first_kept-scope.ensures.from
           (λ k from below.
           scope_inside c.args.lang.now c.args.first c.args.end k c.candidate.result c.candidate-2.result c.candidate.ensures.candidate c.candidate-2.ensures.candidate
-          c.candidate.ensures.number c.candidate-2.ensures.number (omega arith) (let start = c.from-start.ensures in omega arith) (let last = c.from-last.ensures in let end = c.kept_from-scope.ensures.within in omega arith))
-          c.kept_from-scope.ensures.none before;
+          c.candidate.ensures.number c.candidate-2.ensures.number (omega arith) (let start = c.from-start.ensures in omega arith) (let last = c.from-last.ensures in let end = c.first_kept-scope.ensures.within in omega arith))
+          c.first_kept-scope.ensures.none before;
       none = refl;
       size = refl;
-      from = c.kept_from-scope.ensures.from;
-      within = c.kept_from-scope.ensures.within;
+      from = c.first_kept-scope.ensures.from;
+      within = c.first_kept-scope.ensures.within;
     }
 
 pub search_scope-requires-clause-scope : goal.search_scope-requires-clause-scope
@@ -40,17 +40,17 @@ pub loop-scope-preserved : goal.loop-scope-preserved
 loop-scope-preserved c =
     let none = no_ask c.search_scope.new.answer c.in_default.not-Ask in
     record {
-      searched = scopes_passed c.args.lang.now c.args.net.now.list c.args.kept.now.members c.args.budget c.args.first c.args.end (c.loop-scope.scope + 1) c.kept_from-scope-in-loop-scope.result c.search_scope.new.marks
-          c.search_scope.new.answer c.kept_from-scope-in-loop-scope.ensures.from
+      searched = scopes_passed c.args.lang.now c.args.net.now.list c.args.kept.now.members c.args.budget c.args.first c.args.end (c.loop-scope.scope + 1) c.first_kept-scope-in-loop-scope.result c.search_scope.new.marks
+          c.search_scope.new.answer c.first_kept-scope-in-loop-scope.ensures.from
           (λ k from below.
           scope_inside c.args.lang.now c.args.first c.args.end k c.candidate.result c.candidate-2.result c.candidate.ensures.candidate c.candidate-2.ensures.candidate
           c.candidate.ensures.number c.candidate-2.ensures.number (let rising = c.requires.part.0 in let some = c.if-first-end.false in omega arith)
-          (let start = c.from-start.ensures in let least = c.loop-scope.invariant.from in omega arith) (let last = c.from-last.ensures in let end = c.kept_from-scope-in-loop-scope.ensures.within in omega arith))
-          c.kept_from-scope-in-loop-scope.ensures.none (c.search_scope.ensures.further none);
+          (let start = c.from-start.ensures in let least = c.loop-scope.invariant.from in omega arith) (let last = c.from-last.ensures in let end = c.first_kept-scope-in-loop-scope.ensures.within in omega arith))
+          c.first_kept-scope-in-loop-scope.ensures.none (c.search_scope.ensures.further none);
       none = none;
       size = (let same = c.search_scope.ensures.size in let before = c.loop-scope.invariant.size in omega arith);
-      from = (let least = c.loop-scope.invariant.from in let next = c.kept_from-scope-in-loop-scope.ensures.from in omega arith);
-      within = c.kept_from-scope-in-loop-scope.ensures.within;
+      from = (let least = c.loop-scope.invariant.from in let next = c.first_kept-scope-in-loop-scope.ensures.from in omega arith);
+      within = c.first_kept-scope-in-loop-scope.ensures.within;
     }
 
 pub returns-clause-is : goal.returns-clause-is

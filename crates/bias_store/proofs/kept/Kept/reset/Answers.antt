@@ -1,18 +1,18 @@
-use Rattle.bias_store.proofs.Prelude.{◌≡◌, ℕ, ◌+◌, length, subst, sym, ap, ◌∙◌, arith, slice_set, All, IsCandidate, candidates, numbers, IsAcceptingOf, KeptSet, members_from}
+use Rattle.bias_store.proofs.Prelude.{◌≡◌, ℕ, ◌+◌, length, subst, sym, ap, ◌∙◌, arith, List, All, IsCandidate, candidates, numbers, IsAcceptingOf, KeptSet, members_from}
 use Rattle.bias_store.proofs.Filled.{IsFilled, filled_more, filled_all, candidates_known}
 use Rattle.bias_store.proofs.kept.Kept.reset.Goals as goal
 
 pub loop-s-preserved : goal.loop-s-preserved
 loop-s-preserved c =
     record {
-      filled = subst (λ (i : ℕ). IsFilled c.args.lang.now (slice_set c.loop-s.self-inside.relations.items i c.first_relations.result) (c.loop-s.s + 1) (c.loop-s.self-inside.count + c.from-in-loop-s.result)) (sym c.from.ensures)
-          (filled_more c.args.lang.now c.loop-s.self-inside.relations.items c.loop-s.s c.loop-s.self-inside.count c.first_relations.result c.from-in-loop-s.result c.loop-s.invariant.filled (omega arith)
-          (c.from-in-loop-s.ensures ∙ c.relations_on-count.ensures.is) (let few = c.relations_on-count.ensures.few in omega arith) (c.first_relations.ensures ∙ ap numbers (sym c.from-in-loop-s.ensures)));
+      filled = subst (λ (masks : List ℕ). IsFilled c.args.lang.now masks (c.loop-s.s + 1) (c.loop-s.self-inside.count + c.from.result)) (sym c.set.ensures)
+          (filled_more c.args.lang.now c.loop-s.self-inside.relations c.loop-s.s c.loop-s.self-inside.count c.first_relations.result c.from.result c.loop-s.invariant.filled (omega arith)
+          (c.from.ensures ∙ c.relations_on-count.ensures.is) (let few = c.relations_on-count.ensures.few in omega arith) (c.first_relations.ensures ∙ ap numbers (sym c.from.ensures)));
       tables = c.loop-s.invariant.tables;
     }
 
-filled : (c : goal.After-loop-s) → (members_from 0 c.loop-s.self-inside.relations.items ≡ candidates c.args.lang.now) × (c.loop-s.self-inside.count ≡ length (members_from 0 c.loop-s.self-inside.relations.items))
-filled c = filled_all c.args.lang.now c.loop-s.self-inside.relations.items c.loop-s.s c.loop-s.self-inside.count c.loop-s.invariant.filled (omega arith)
+filled : (c : goal.After-loop-s) → (members_from 0 c.loop-s.self-inside.relations ≡ candidates c.args.lang.now) × (c.loop-s.self-inside.count ≡ length (members_from 0 c.loop-s.self-inside.relations))
+filled c = filled_all c.args.lang.now c.loop-s.self-inside.relations c.loop-s.s c.loop-s.self-inside.count c.loop-s.invariant.filled (omega arith)
 
 pub invariant_of-self : goal.invariant_of-self
 invariant_of-self c = (filled c).1

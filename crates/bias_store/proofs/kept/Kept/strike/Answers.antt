@@ -1,18 +1,20 @@
-use Rattle.bias_store.proofs.Prelude.{◌≡◌, ℕ, ◌+◌, ◌-◌, not, length, ◌∙◌, ap, subst, sym, arith, slice_set, bit_and, filter, bit_not, w64, violates, KeptSet, members_from}
-use Rattle.bias_store.proofs.Members.{read_at}
+use Rattle.bias_store.proofs.Prelude.{◌≡◌, ℕ, ◌+◌, ◌-◌, ◌<◌, not, length, ◌∙◌, ap, subst, sym, arith, List, filter, violates, KeptSet, members_from}
 use Rattle.bias_store.proofs.Struck.{IsStruck, made_still}
 use Rattle.bias_store.proofs.Striking.{enough_found, struck_found, struck_rest}
 use Rattle.bias_store.proofs.kept.Kept.strike.Goals as goal
 
-pub overflow_sub-self : goal.overflow_sub-self
-overflow_sub-self c =
-    let l = c.args.lang.now in
-    let now = c.loop-found.self-inside.relations.items in
-    let all : length c.self.inside.relations.items ≡ length l.scopes = ap (λ (k : KeptSet). k.scopes) c.self.view_is ∙ c.requires.made.scopes in
+pub on-requires : goal.on-requires
+on-requires c =
+    let all : length c.self.inside.relations ≡ length c.args.lang.now.scopes = ap (λ (k : KeptSet). k.scopes) c.self.view_is ∙ c.requires.made.scopes in
     let long = c.loop-found.invariant.struck.long in
     let within = c.in-Some.ensures.found.within in
-    enough_found l c.args.q.now c.self.inside.relations.items now c.deref.result.now c.loop-found.from c.self.inside.count c.loop-found.self-inside.count c.index_mut.result.now c.relation_count.result c.in-Some.found c.deref.ensures.value all
-    c.loop-found.invariant.struck c.in-Some.ensures.found (read_at now c.in-Some.found.scope c.from.result c.index_mut.result.now (omega arith) c.from.ensures c.index_mut.ensures.value) c.relation_count.ensures
+    omega arith
+
+pub overflow_sub-self : goal.overflow_sub-self
+overflow_sub-self c =
+    let all : length c.self.inside.relations ≡ length c.args.lang.now.scopes = ap (λ (k : KeptSet). k.scopes) c.self.view_is ∙ c.requires.made.scopes in
+    enough_found c.args.lang.now c.args.q.now c.self.inside.relations c.loop-found.self-inside.relations c.loop-found.from c.self.inside.count c.loop-found.self-inside.count c.on.result c.relation_count.result c.in-Some.found all
+    c.loop-found.invariant.struck c.in-Some.ensures.found c.on.ensures c.relation_count.ensures
 
 pub overflow_add-from : goal.overflow_add-from
 overflow_add-from c =
@@ -23,22 +25,20 @@ overflow_add-from c =
 pub loop-found-preserved : goal.loop-found-preserved
 loop-found-preserved c =
     let l = c.args.lang.now in
-    let now = c.loop-found.self-inside.relations.items in
-    let all : length c.self.inside.relations.items ≡ length l.scopes = ap (λ (k : KeptSet). k.scopes) c.self.view_is ∙ c.requires.made.scopes in
-    let long = c.loop-found.invariant.struck.long in
+    let all : length c.self.inside.relations ≡ length l.scopes = ap (λ (k : KeptSet). k.scopes) c.self.view_is ∙ c.requires.made.scopes in
     let within = c.in-Some.ensures.found.within in
     record {
-      struck = subst (λ (i : ℕ). IsStruck (λ b. violates l b c.args.q.now) c.self.inside.relations.items (slice_set now i (bit_and c.index_mut.result.now (bit_not w64 c.in-Some.found.relations))) (c.in-Some.found.scope + 1) c.self.inside.count (c.loop-found.self-inside.count - c.relation_count.result)) (sym c.from.ensures)
-          (struck_found l c.args.q.now c.self.inside.relations.items now c.deref.result.now c.loop-found.from c.self.inside.count c.loop-found.self-inside.count c.index_mut.result.now c.relation_count.result c.in-Some.found c.deref.ensures.value all
-          c.loop-found.invariant.struck c.in-Some.ensures.found (read_at now c.in-Some.found.scope c.from.result c.index_mut.result.now (omega arith) c.from.ensures c.index_mut.ensures.value) c.relation_count.ensures);
+      struck = subst (λ (masks : List ℕ). IsStruck (λ b. violates l b c.args.q.now) c.self.inside.relations masks (c.in-Some.found.scope + 1) c.self.inside.count (c.loop-found.self-inside.count - c.relation_count.result)) (sym c.set.ensures)
+          (struck_found l c.args.q.now c.self.inside.relations c.loop-found.self-inside.relations c.loop-found.from c.self.inside.count c.loop-found.self-inside.count c.on.result c.relation_count.result c.in-Some.found all
+          c.loop-found.invariant.struck c.in-Some.ensures.found c.on.ensures c.relation_count.ensures);
       within = omega arith;
       tables = c.loop-found.invariant.tables;
     }
 
-struck : (c : goal.In_default) → members_from 0 c.loop-found.self-inside.relations.items ≡ filter (λ b. not (violates c.args.lang.now b c.args.q.now)) c.args.self.now.members
+struck : (c : goal.In_default) → members_from 0 c.loop-found.self-inside.relations ≡ filter (λ b. not (violates c.args.lang.now b c.args.q.now)) c.args.self.now.members
 struck c =
-    let all : length c.self.inside.relations.items ≡ length c.args.lang.now.scopes = ap (λ (k : KeptSet). k.scopes) c.self.view_is ∙ c.requires.made.scopes in
-    struck_rest c.args.lang.now c.args.q.now c.self.inside.relations.items c.loop-found.self-inside.relations.items c.deref.result.now c.loop-found.from c.self.inside.count c.loop-found.self-inside.count c.deref.ensures.value all
+    let all : length c.self.inside.relations ≡ length c.args.lang.now.scopes = ap (λ (k : KeptSet). k.scopes) c.self.view_is ∙ c.requires.made.scopes in
+    struck_rest c.args.lang.now c.args.q.now c.self.inside.relations c.loop-found.self-inside.relations c.loop-found.from c.self.inside.count c.loop-found.self-inside.count all
     c.loop-found.invariant.within c.loop-found.invariant.struck c.in_default.ensures.none
     ∙ ap (λ (k : KeptSet). filter (λ b. not (violates c.args.lang.now b c.args.q.now)) k.members) c.self.view_is
 

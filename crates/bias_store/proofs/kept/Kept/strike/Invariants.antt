@@ -4,7 +4,7 @@ use Rattle.bias_store.proofs.kept.Kept.strike.Given as goal
 
 abbrev pub invariant-loop-found : goal.invariant-loop-found
 invariant-loop-found l = record {
-  struck : IsStruck (λ c. violates l.fn.lang c l.fn.q) l.initial.self-inside.relations.items l.self-inside.relations.items l.from l.count_before l.self-inside.count;
+  struck : IsStruck (λ c. violates l.fn.lang c l.fn.q) l.initial.self-inside.relations l.self-inside.relations l.from l.count_before l.self-inside.count;
   within : l.from ≤ length l.lang.scopes;
   tables : l.self-inside.tables ≡ l.initial.self-inside.tables;
 }

@@ -1,42 +1,35 @@
-use Rattle.bias_store.proofs.Prelude.{◌≡◌, ◌-◌, ◌<◌, length, not, ◌∙◌, ap, subst, sym, arith, slice_set, bit_and, filter, bit_not, w64, violates, KeptSet, members_from}
-use Rattle.bias_store.proofs.Members.{read_at}
+use Rattle.bias_store.proofs.Prelude.{◌≡◌, ◌-◌, ◌<◌, List, ℕ, length, not, ◌∙◌, ap, subst, sym, arith, slice_set, bit_and, filter, bit_not, w64, violates, KeptSet, members_from}
 use Rattle.bias_store.proofs.Runs.{open_elsewhere}
 use Rattle.bias_store.proofs.Struck.{IsStruck, enough_alone, struck_alone, struck_all, made_still}
 use Rattle.bias_store.proofs.kept.Kept.strike_on.Goals as goal
 
 pub overflow_sub-self : goal.overflow_sub-self
 overflow_sub-self c =
-    let old = c.self.inside.relations.items in
+    let old = c.self.inside.relations in
     let scopes = ap (λ (k : KeptSet). k.scopes) c.self.view_is in
     let made = c.requires.made.scopes in
     let low : c.args.s < length old = omega arith in
-    enough_alone (λ b. violates c.args.lang.now b c.args.q.now) old c.args.s c.self.inside.count c.index-relations.result.now c.violated_on-struck.result c.relation_count.result c.self.invariant low
-    (read_at old c.args.s c.from.result c.index-relations.result.now low c.from.ensures c.index-relations.ensures) c.violated_on-struck.type_inv c.violated_on-struck.ensures c.relation_count.ensures
+    enough_alone (λ b. violates c.args.lang.now b c.args.q.now) old c.args.s c.self.inside.count c.on-relations.result c.violated_on-struck.result c.relation_count.result c.self.invariant low
+    c.on-relations.ensures c.violated_on-struck.type_inv c.violated_on-struck.ensures c.relation_count.ensures
     (open_elsewhere c.args.lang.now c.args.s c.args.q.now (length old) (omega arith) c.requires.alone)
 
-struck : (c : goal.After-self-2-1) →
-    IsStruck (λ b. violates c.args.lang.now b c.args.q.now) c.self.inside.relations.items (slice_set c.self.inside.relations.items c.from-2.result (bit_and c.index-relations.result.now (bit_not w64 c.violated_on-struck.result)))
-    (length c.self.inside.relations.items) c.self.inside.count (c.self.inside.count - c.relation_count.result)
+struck : (c : goal.After-self-1) → IsStruck (λ b. violates c.args.lang.now b c.args.q.now) c.self.inside.relations c.set.new.self (length c.self.inside.relations) c.self.inside.count (c.self.inside.count - c.relation_count.result)
 struck c =
-    let old = c.self.inside.relations.items in
+    let old = c.self.inside.relations in
     let scopes = ap (λ (k : KeptSet). k.scopes) c.self.view_is in
     let made = c.requires.made.scopes in
     let low : c.args.s < length old = omega arith in
-    subst
-    (λ i. IsStruck (λ b. violates c.args.lang.now b c.args.q.now) old (slice_set old i (bit_and c.index-relations.result.now (bit_not w64 c.violated_on-struck.result))) (length old) c.self.inside.count
-    (c.self.inside.count - c.relation_count.result)) (sym c.from-2.ensures)
-    (struck_alone (λ b. violates c.args.lang.now b c.args.q.now) old c.args.s c.self.inside.count c.index-relations.result.now c.violated_on-struck.result c.relation_count.result c.self.invariant low
-    (read_at old c.args.s c.from.result c.index-relations.result.now low c.from.ensures c.index-relations.ensures) c.violated_on-struck.type_inv c.violated_on-struck.ensures c.relation_count.ensures
+    subst (λ (masks : List ℕ). IsStruck (λ b. violates c.args.lang.now b c.args.q.now) old masks (length old) c.self.inside.count (c.self.inside.count - c.relation_count.result)) (sym c.set.ensures)
+    (struck_alone (λ b. violates c.args.lang.now b c.args.q.now) old c.args.s c.self.inside.count c.on-relations.result c.violated_on-struck.result c.relation_count.result c.self.invariant low
+    c.on-relations.ensures c.violated_on-struck.type_inv c.violated_on-struck.ensures c.relation_count.ensures
     (open_elsewhere c.args.lang.now c.args.s c.args.q.now (length old) (omega arith) c.requires.alone))
 
 pub invariant_of-self : goal.invariant_of-self
 invariant_of-self c = (struck c).counted
 
-left : (c : goal.After-self-2-1) →
-    members_from 0 (slice_set c.self.inside.relations.items c.from-2.result (bit_and c.index-relations.result.now (bit_not w64 c.violated_on-struck.result)))
-    ≡ filter (λ b. not (violates c.args.lang.now b c.args.q.now)) c.args.self.now.members
+left : (c : goal.After-self-1) → members_from 0 c.set.new.self ≡ filter (λ b. not (violates c.args.lang.now b c.args.q.now)) c.args.self.now.members
 left c =
-    struck_all (λ b. violates c.args.lang.now b c.args.q.now) c.self.inside.relations.items _ (length c.self.inside.relations.items) c.self.inside.count (c.self.inside.count - c.relation_count.result) (struck c) (omega arith)
+    struck_all (λ b. violates c.args.lang.now b c.args.q.now) c.self.inside.relations _ (length c.self.inside.relations) c.self.inside.count (c.self.inside.count - c.relation_count.result) (struck c) (omega arith)
     ∙ ap (λ (k : KeptSet). filter (λ b. not (violates c.args.lang.now b c.args.q.now)) k.members) c.self.view_is
 
 pub returns-clause-kept : goal.returns-clause-kept

@@ -1,4 +1,4 @@
-use Rattle.bias_store.proofs.Prelude.{◌∙◌, ap, subst, length, list_any, IfSome, IfNone, violates, KeptSet, AreNoneViolated, IsViolated}
+use Rattle.bias_store.proofs.Prelude.{◌∙◌, ap, length, list_any, violates, KeptSet}
 use Rattle.bias_store.proofs.Striking.{found_or_none}
 use Rattle.bias_store.proofs.kept.Kept.strikes_any.Goals as goal
 
@@ -8,7 +8,5 @@ returns c =
     let q = c.args.q.now in
     let found = c.next_violated-found.ensures in
     c.is_some.ensures
-    ∙ found_or_none l q c.self.inside.relations.items c.next_violated-found.result (ap (λ (k : KeptSet). k.scopes) c.self.view_is ∙ c.requires.made.scopes)
-    (subst (λ m. IfSome c.next_violated-found.result (IsViolated l q m 0)) c.deref.ensures.value found.found)
-    (subst (λ m. IfNone c.next_violated-found.result (AreNoneViolated l q m 0 (length l.scopes))) c.deref.ensures.value found.none)
+    ∙ found_or_none l q c.self.inside.relations c.next_violated-found.result (ap (λ (k : KeptSet). k.scopes) c.self.view_is ∙ c.requires.made.scopes) found.found found.none
     ∙ ap (λ (k : KeptSet). list_any (λ b. violates l b q) k.members) c.self.view_is

@@ -17,9 +17,9 @@ loop-s-preserved-in_default c =
     let within = runs.within c.loop-s.s (omega arith) here in
     let before = c.loop-s.invariant.ahead in
     let bare : value_of q (get_or (scope_at l c.loop-s.s) 0 0) ≡ None = sym (c.get.ensures ∙ ap (λ xs. value_of q (get_or xs 0 0)) c.scope.ensures.is) ∙ c.in_default.is in
-    let go : (k : ℕ) → c.args.from ≤ k → k < c.index-s.result.now → (k < c.loop-s.s) ⊎ (c.loop-s.s ≤ k) → violated_on l q k (get_or c.args.relations.now k 0) ≡ [] = λ k from until side. elim side [
+    let go : (k : ℕ) → c.args.from ≤ k → k < c.index-s.result.now → (k < c.loop-s.s) ⊎ (c.loop-s.s ≤ k) → violated_on l q k (get_or c.args.left.now k 0) ≡ [] = λ k from until side. elim side [
       | inl earlier ↦ c.loop-s.invariant.none k from earlier
-      | inr behind ↦ open_violated l q k (get_or c.args.relations.now k 0) (run_open l q next c.loop-s.s k c.scopes-scopes.ensures.lawful runs here bare behind (omega arith))
+      | inr behind ↦ open_violated l q k (get_or c.args.left.now k 0) (run_open l q next c.loop-s.s k c.scopes-scopes.ensures.lawful runs here bare behind (omega arith))
     ] in
     record {
       ahead = omega arith;
@@ -33,10 +33,10 @@ loop-s-preserved c =
     let q = c.args.q.now in
     let here : c.loop-s.s < length l.scopes = omega (arith, c.scopes-scopes.ensures.is, c.loop-s-test.true) in
     let before = c.loop-s.invariant.ahead in
-    let none_here : violated_on l q c.loop-s.s (get_or c.args.relations.now c.loop-s.s 0) ≡ [] =
-    ap (λ i. violated_on l q c.loop-s.s (get_or c.args.relations.now i 0)) (sym c.from-else-s-end.ensures) ∙ sym c.violated_on-violated.ensures ∙ ap ones_of c.if-violated-ne0.false ∙ ones_of-zero in
-    let go : (k : ℕ) → c.args.from ≤ k → k < c.loop-s.s + 1 → (k ≡ c.loop-s.s) ⊎ (k ≡ c.loop-s.s → ⊥) → violated_on l q k (get_or c.args.relations.now k 0) ≡ [] = λ k from until side. elim side [
-      | inl same ↦ subst (λ (t : ℕ). violated_on l q t (get_or c.args.relations.now t 0) ≡ []) (sym same) none_here
+    let none_here : violated_on l q c.loop-s.s (get_or c.args.left.now c.loop-s.s 0) ≡ [] =
+    ap (violated_on l q c.loop-s.s) (sym c.on.ensures) ∙ sym c.violated_on-violated.ensures ∙ ap ones_of c.if-violated-ne0.false ∙ ones_of-zero in
+    let go : (k : ℕ) → c.args.from ≤ k → k < c.loop-s.s + 1 → (k ≡ c.loop-s.s) ⊎ (k ≡ c.loop-s.s → ⊥) → violated_on l q k (get_or c.args.left.now k 0) ≡ [] = λ k from until side. elim side [
+      | inl same ↦ subst (λ (t : ℕ). violated_on l q t (get_or c.args.left.now t 0) ≡ []) (sym same) none_here
       | inr other ↦ c.loop-s.invariant.none k from (omega arith)
     ] in
     record {

@@ -5,7 +5,7 @@ abbrev pub invariant-loop-s : goal.invariant-loop-s
 invariant-loop-s l = record {
   ahead : l.fn.from ≤ l.s;
   within : l.s ≤ length l.lang.scopes;
-  none : AreNoneViolated l.lang l.q l.relations l.fn.from l.s;
+  none : AreNoneViolated l.lang l.q l.left l.fn.from l.s;
 }
 
 abbrev pub decreases-loop-s : goal.decreases-loop-s
