@@ -9,10 +9,12 @@ abbrev pub digits_number : Text → ℕ
 digits_number text = digits_value 10 (without_leading_plus text)
 
 abbrev pub IsNumberIn : (low high : ℕ) → Text → Type 0
-IsNumberIn low high text = IsNumeral 10 (without_leading_plus text) × (low ≤ digits_number text) × (digits_number text ≤ high)
+IsNumberIn low high text = IsNumeral 10 (without_leading_plus text) × (low ≤ digits_number text)
+    × (digits_number text ≤ high)
 
 abbrev pub HasNumber : Name → (low high : ℕ) → List Row → Type 0
-HasNumber name low high rows = (text : Text) → one_of (id_of name) rows ≡ Some text → IsNumberIn low high text
+HasNumber name low high rows = (text : Text) → one_of (id_of name) rows ≡ Some text →
+    IsNumberIn low high text
 
 -- the options that take numbers have numbers within their limits
 pub record HaveNumbers (rows : List Row) : Type 0 where

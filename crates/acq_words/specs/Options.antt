@@ -1,5 +1,6 @@
 -- Options as they are written.
-use Rattle.std.specs.Prelude.{Bool, true, false, not, ◌&&◌, ◌||◌, ◌==◌, List, [], ◌∷◌, ◌++◌, if◌then◌else◌, codes}
+use Rattle.std.specs.Prelude.{Bool, true, false, not, ◌&&◌, ◌||◌, ◌==◌, List, [], ◌∷◌, ◌++◌}
+use Rattle.std.specs.Prelude.{if◌then◌else◌, codes}
 use Rattle.std.specs.List.{list_any}
 use Rattle.std.specs.Str.{bytes_eq}
 use Rattle.clap.specs.ValueTests.{accepts}
@@ -44,7 +45,8 @@ begins_bare (byte ∷ bytes) = not (byte == 45)
 
 -- the value is one of the option's, and where it is a word of its own, it begins with no hyphen
 abbrev pub is_accepted : Written → Bool
-is_accepted o = accepts false (parser_of_value (rule_named o.name).parser) o.value && (o.is_joined || begins_bare o.value)
+is_accepted o = accepts false (parser_of_value (rule_named o.name).parser) o.value &&
+    (o.is_joined || begins_bare o.value)
 
 abbrev pub is_option_named : Name → Written → Bool
 is_option_named name o = bytes_eq (id_of name) (id_of o.name)

@@ -1,11 +1,13 @@
 -- Plain lists of words, and what they ask for.
-use Rattle.std.specs.Prelude.{◌≡◌, ◌≤◌, ℕ, Bool, true, List, [], ◌∷◌, map, Option, Some, None, codes, Result}
+use Rattle.std.specs.Prelude.{◌≡◌, ◌≤◌, ℕ, Bool, true, List, [], ◌∷◌, map, Option, Some, None}
+use Rattle.std.specs.Prelude.{codes, Result}
 use Rattle.std.specs.Fmt.{decimal}
 use Rattle.std.specs.List.{All}
 use Rattle.assign.specs.declared.events.Plan.{Plan}
 use Rattle.assign.specs.declared.events.Plan.TheVariants.{Scopes, Quacq, Multi}
 use Rattle.clap.specs.Words.{Text}
-use Rattle.acq_words.specs.Options.{Name, Written, are_once, begins_bare, budget, number, plan, words_of_options}
+use Rattle.acq_words.specs.Options.{Name, Written, are_once, begins_bare, budget, number, plan}
+use Rattle.acq_words.specs.Options.{words_of_options}
 use Rattle.acq_words.specs.Request.{Contents, IsBudget, answer_by}
 use Rattle.acq_words.specs.declared.request.Asked.{Asked}
 use Rattle.acq_words.specs.declared.request.CommandName.{CommandName}
@@ -61,7 +63,8 @@ setting_text (budget_is n) = decimal n
 setting_text (number_is n) = decimal n
 
 abbrev pub written_of : OptionForm → Written
-written_of c = record { name = name_in c.setting; value = setting_text c.setting; is_joined = c.is_joined }
+written_of c =
+    record { name = name_in c.setting; value = setting_text c.setting; is_joined = c.is_joined }
 
 abbrev pub words_of_plain : Plain → List Text
 words_of_plain p = p.journal ∷ command_text p.command ∷ words_of_options (map written_of p.options)
@@ -112,7 +115,12 @@ number_given (c ∷ options) = number_or c.setting (number_given options)
     number_or _ rest = rest
 
 abbrev pub asked_of : Plain → Asked
-asked_of p = record { name = p.command; plan = plan_given p.options; budget = budget_given p.options; number = number_given p.options }
+asked_of p = record {
+  name = p.command;
+  plan = plan_given p.options;
+  budget = budget_given p.options;
+  number = number_given p.options;
+}
 
 abbrev pub answer_of : Plain → Result Contents UsageFault
 answer_of p = answer_by p.journal (asked_of p)

@@ -1,5 +1,7 @@
 -- What words ask for, or why they are refused.
-use Rattle.std.specs.Prelude.{◌≡◌, ◌≤◌, ℕ, Bool, true, false, not, ◌&&◌, ◌||◌, List, Option, Some, None, is_some, option_and_then, option_map, unwrap_or, if◌then◌else◌, codes, IfSome, Result, Ok, Err}
+use Rattle.std.specs.Prelude.{◌≡◌, ◌≤◌, ℕ, Bool, true, false, not, ◌&&◌, ◌||◌, List, Option, Some}
+use Rattle.std.specs.Prelude.{None, is_some, option_and_then, option_map, unwrap_or, if◌then◌else◌}
+use Rattle.std.specs.Prelude.{codes, IfSome, Result, Ok, Err}
 use Rattle.std.specs.Str.{bytes_eq}
 use Rattle.std.specs.String.{string_bytes}
 use Rattle.assign.specs.declared.events.Plan.{Plan}
@@ -105,8 +107,8 @@ needs_memory name.Model = false
 needs_memory name.Certify = false
 needs_memory name.Check = true
 
--- the command and the options don't fit: an option is given that the command doesn't take, a number isn't given that it
--- takes, or the journal is a file where none may be
+-- the command and the options don't fit: an option is given that the command doesn't take, a number
+-- isn't given that it takes, or the journal is a file where none may be
 abbrev pub is_unfit : Asked → Bool → Bool
 is_unfit a is_in_memory =
     (is_some a.plan && not (takes_plan a.name))
@@ -161,7 +163,8 @@ file_named journal = if is_memory journal then None else Some journal
 
 -- what a journal and the rest ask for
 abbrev pub answer_by : Text → Asked → Result Contents UsageFault
-answer_by journal a = if is_unfit a (is_memory journal) then Err Unfit else Ok (record { file = file_named journal; command = command_of a })
+answer_by journal a = if is_unfit a (is_memory journal) then Err Unfit
+    else Ok (record { file = file_named journal; command = command_of a })
 
 -- ---- What the words say, by what `clap` finds in them
 
@@ -171,12 +174,15 @@ plan_said None = Some None
 plan_said (Some word) = option_map (λ (p : Plan). Some p) (plan_named word)
 
 abbrev pub asked_by : Option CommandName → Option (Option Plan) → Option ℕ → Option ℕ → Option Asked
-asked_by (Some name) (Some plan) budget number = Some (record { name = name; plan = plan; budget = budget; number = number })
+asked_by (Some name) (Some plan) budget number =
+    Some (record { name = name; plan = plan; budget = budget; number = number })
 asked_by _ _ budget number = None
 
 abbrev pub asked_of_rows : List Row → Option Asked
-asked_of_rows rows = asked_by (option_and_then command_named (first_of (codes "COMMAND") rows)) (plan_said (first_of (codes "plan") rows))
-    (option_map digits_number (one_of (codes "budget") rows)) (option_map digits_number (one_of (codes "number") rows))
+asked_of_rows rows = asked_by (option_and_then command_named (first_of (codes "COMMAND") rows))
+    (plan_said (first_of (codes "plan") rows))
+    (option_map digits_number (one_of (codes "budget") rows))
+    (option_map digits_number (one_of (codes "number") rows))
 
 abbrev pub answer_with : Option Text → Option Asked → Result Contents UsageFault
 answer_with (Some journal) (Some a) = answer_by journal a

@@ -1,6 +1,7 @@
 //! Laws about the words, which hold of the definitions alone. Nothing here runs.
 
-ghost use Rattle.acq_words.specs.Laws.{ExampleIsPlain, ListsAreParsed, PlainListsAreTaken, PlainListsReadOneWay};
+ghost use Rattle.acq_words.specs.Laws.{ExampleIsPlain, ListsAreParsed, PlainListsAreTaken};
+ghost use Rattle.acq_words.specs.Laws.{PlainListsReadOneWay};
 
 /// Two words and then options in any order, each written in one of two ways, are taken by `clap`.
 pub fn lists_are_parsed()

@@ -2,7 +2,8 @@ ghost use Rattle.std.specs.Prelude.{◌≡◌, ◌≢◌, map, false, true, IfOk
 ghost use Rattle.std.specs.String.{string_bytes};
 ghost use Rattle.clap.specs.Words.{app_of, found_of, rows_of, rule_of};
 ghost use Rattle.acq_words.specs.Numbers.{HaveNumbers};
-ghost use Rattle.acq_words.specs.Line.{bare_line, budget_rule, command_rule, faults_in, journal_rule, line, number_rule, plan_rule, rows_in};
+ghost use Rattle.acq_words.specs.Line.{bare_line, budget_rule, command_rule, faults_in};
+ghost use Rattle.acq_words.specs.Line.{journal_rule, line, number_rule, plan_rule, rows_in};
 
 use crate::request::{UsageFault, WordsFault};
 use clap::error::ErrorKind;
@@ -73,10 +74,12 @@ pub(crate) fn matches_in<'a>(
     words: &'a [String],
 ) -> Result<ArgMatches<'a>, WordsFault>
     ensures taken { IfOk result (λ m. faults_in (map string_bytes words.entry.now) ≡ []) }
-    ensures rows { IfOk result (λ m. rows_of (found_of m) ≡ rows_in (map string_bytes words.entry.now)) }
+    ensures rows { IfOk result
+        (λ m. rows_of (found_of m) ≡ rows_in (map string_bytes words.entry.now)) }
     ensures numbers { IfOk result (λ m. HaveNumbers (rows_of (found_of m))) }
     ensures fault { result ≢ Err (WordsFault.Usage UsageFault.Unfit) }
-    ensures words { IsErrOf result (WordsFault.Usage UsageFault.Words) → faults_in (map string_bytes words.entry.now) ≢ [] }
+    ensures words { IsErrOf result (WordsFault.Usage UsageFault.Words) →
+        faults_in (map string_bytes words.entry.now) ≢ [] }
 {
     let Ok(line) = line(alloc) else {
         return Err(WordsFault::Memory);

@@ -1,5 +1,7 @@
 ghost use Rattle.std.specs.Prelude.{◌≡◌, not, IfOk, Some, None};
-ghost use Rattle.acq_words.specs.Request.{IsRequestOf, IsWithinLimits, CommandIsWithin, answer_by, command_named, command_of, is_unfit, needs_memory, plan_named, takes_budget, takes_number, takes_plan};
+ghost use Rattle.acq_words.specs.Request.{IsRequestOf, IsWithinLimits, CommandIsWithin, answer_by};
+ghost use Rattle.acq_words.specs.Request.{command_named, command_of, is_unfit, needs_memory};
+ghost use Rattle.acq_words.specs.Request.{plan_named, takes_budget, takes_number, takes_plan};
 
 use assign::Plan;
 use std::alloc::Global;
@@ -19,7 +21,8 @@ pub enum JournalPlace {
     File(String),
 }
 
-/// A command. The last number of a command that has one is its budget; `Demo` has its number before it.
+/// A command. The last number of a command that has one is its budget; `Demo` has its number before
+/// it.
 #[derive(Clone, Copy, Debug, PartialEq, Eq)]
 pub enum Command {
     New(Plan),

@@ -3,7 +3,8 @@ ghost use Rattle.std.specs.String.{string_bytes};
 ghost use Rattle.clap.specs.Words.{first_of, found_of, one_of, rows_of};
 ghost use Rattle.acq_words.specs.Numbers.{HaveNumbers, IsNumberIn, digits_number};
 ghost use Rattle.acq_words.specs.Plain.{IsPlain, IsPlainList, Plain, answer_of, words_of_plain};
-ghost use Rattle.acq_words.specs.Request.{IsRequestOf, IsWithinLimits, CommandIsWithin, contents_in, request_of_words, asked_of_rows, plan_said};
+ghost use Rattle.acq_words.specs.Request.{IsRequestOf, IsWithinLimits, CommandIsWithin};
+ghost use Rattle.acq_words.specs.Request.{contents_in, request_of_words, asked_of_rows, plan_said};
 
 use crate::line::matches_in;
 use crate::request::{
@@ -22,7 +23,8 @@ fn text_said<'a>(matches: &ArgMatches<'a>, id: &str) -> Option<&'a str>
 
 /// The number that was found under a name.
 fn number_said(matches: &ArgMatches, id: &str) -> Option<u32>
-    requires { (text : _) → one_of id.now (rows_of (found_of matches.now)) ≡ Some text → IsNumberIn 0 4294967295 text }
+    requires { (text : _) → one_of id.now (rows_of (found_of matches.now)) ≡ Some text →
+        IsNumberIn 0 4294967295 text }
     ensures { result ≡ option_map digits_number (one_of id.now (rows_of (found_of matches.now))) }
 {
     matches.get_one::<u32>(id)
@@ -69,12 +71,15 @@ fn request_in(alloc: Global, matches: &ArgMatches) -> Result<Request, WordsFault
     request_by(alloc, journal, asked)
 }
 
-/// What the words after the program's own name ask for. A plain list is a journal, a command and then options, each once
-/// at most, in any order and in one of two writings: it is never refused as `Words`, and asks for what it reads as.
+/// What the words after the program's own name ask for. A plain list is a journal, a command and
+/// then options, each once at most, in any order and in one of two writings: it is never refused as
+/// `Words`, and asks for what it reads as.
 pub fn read_words(alloc: Global, words: &[String]) -> Result<Request, WordsFault>
     ensures is { IsRequestOf (request_of_words (map string_bytes words.now)) result }
-    ensures plain { (p : Plain) → IsPlain p → words_of_plain p ≡ map string_bytes words.now → IsRequestOf (answer_of p) result }
-    ensures words { IsErrOf result (WordsFault.Usage UsageFault.Words) → ¬ (IsPlainList (map string_bytes words.now)) }
+    ensures plain { (p : Plain) → IsPlain p → words_of_plain p ≡ map string_bytes words.now →
+        IsRequestOf (answer_of p) result }
+    ensures words { IsErrOf result (WordsFault.Usage UsageFault.Words) →
+        ¬ (IsPlainList (map string_bytes words.now)) }
     ensures within { IfOk result (λ r. CommandIsWithin r.command) }
 {
     let matches = matches_in(alloc, words)?;

@@ -1,5 +1,7 @@
 -- Partial assignments: for each variable its value, if it has one.
-use Rattle.std.specs.Prelude.{ℕ, ◌==◌, Bool, true, false, ◌&&◌, ◌≡◌, ◌<◌, List, [], ◌∷◌, ◌++◌, ◌-◌, length, map, replicate, Option, Some, None, is_some, unwrap_or, if◌then◌else◌, slice_index_or, All}
+use Rattle.std.specs.Prelude.{ℕ, ◌==◌, Bool, true, false, ◌&&◌, ◌≡◌, ◌<◌, List, [], ◌∷◌, ◌++◌, ◌-◌}
+use Rattle.std.specs.Prelude.{length, map, replicate, Option, Some, None, is_some, unwrap_or}
+use Rattle.std.specs.Prelude.{if◌then◌else◌, slice_index_or, All}
 use Rattle.std.specs.List.{list_all}
 use Rattle.std.specs.Option.{ForSome}
 use Rattle.assign.specs.Sets.{MOST, numbers, has, set_where}
@@ -42,7 +44,8 @@ value_beside [] values v = None
 value_beside (w ∷ vars) [] v = None
 value_beside (w ∷ vars) (x ∷ values) v = if w == v then Some x else value_beside vars values v
 
--- the assignment of n variables that gives these values, as far as they go, to the variables of a list
+-- the assignment of n variables that gives these values, as far as they go, to the variables of a
+-- list
 abbrev pub assigned : ℕ → List ℕ → List ℕ → Assignment
 assigned n vars values = map (value_beside vars values) (numbers n)
 

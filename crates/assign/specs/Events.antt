@@ -13,10 +13,12 @@ pub record Answer : Type 0 where
 abbrev pub without_last : List Answer → List Answer
 without_last past = take (length past - 1) past
 
--- the answers that stand where these stood before and these events followed: an answer is put at the end, a take-back removes the last
+-- the answers that stand where these stood before and these events followed: an answer is put at
+-- the end, a take-back removes the last
 abbrev pub standing_from : List Answer → List Event → List Answer
 standing_from before [] = before
-standing_from before (events.Answer q y ∷ more) = standing_from (before ++ record { question = q; yes = y } ∷ []) more
+standing_from before (events.Answer q y ∷ more) =
+    standing_from (before ++ record { question = q; yes = y } ∷ []) more
 standing_from before (events.Back ∷ more) = standing_from (without_last before) more
 
 -- the answers that stand after a list of events, in order

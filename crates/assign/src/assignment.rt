@@ -1,4 +1,5 @@
-ghost use Rattle.std.specs.Prelude.{◌≡◌, ℕ, ◌-◌, ◌<◌, ◌≤◌, ◌↔◌, IsTrue, Option, Some, None, length, nat_eq, replicate, slice_set, take};
+ghost use Rattle.std.specs.Prelude.{◌≡◌, ℕ, ◌-◌, ◌<◌, ◌≤◌, ◌↔◌, IsTrue, Option, Some, None, length};
+ghost use Rattle.std.specs.Prelude.{nat_eq, replicate, slice_set, take};
 ghost use Rattle.std.specs.Cmp.{nat_eq_equiv, partial_equiv_from_equiv};
 ghost use Rattle.std.specs.Cmp.Lexicographic.{lists_equiv, options_equiv, pointwise};
 ghost use Rattle.std.specs.Option.{option_eq};
@@ -12,8 +13,8 @@ pub const MOST_VARIABLES: u8 = 128;
 
 /// Values for some of the variables: an option of a value for each, in vocabulary order.
 ///
-/// There are 1 to 128 variables. A value is an index, from 0. Equal assignments have equal fields, since what stands
-/// where no variable has a value is 0.
+/// There are 1 to 128 variables. A value is an index, from 0. Equal assignments have equal fields,
+/// since what stands where no variable has a value is 0.
 #[derive(Clone, Copy, Debug)]
 pub struct Partial {
     /// How many variables there are.

@@ -7,14 +7,16 @@ pub enum Plan {
     Scopes,
     /// QuAcq: complete questions, then halving, then telling apart (Bessiere et al., IJCAI 2013).
     Quacq,
-    /// As `Quacq`, but several constraints are learned from one example. This plan is this project's own.
+    /// As `Quacq`, but several constraints are learned from one example. This plan is this
+    /// project's own.
     Multi,
 }
 
 /// What a session records.
 #[derive(Clone, Copy, Debug, PartialEq, Eq)]
 pub enum Event {
-    /// An answer. Its question has 128 options: those of the language's variables first, then empty ones.
+    /// An answer. Its question has 128 options: those of the language's variables first, then empty
+    /// ones.
     Answer { question: Partial, yes: bool },
     /// The last answer that stands is taken back.
     Back,

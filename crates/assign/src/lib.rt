@@ -1,9 +1,11 @@
 //! Variables, the values that a question gives them, and the events that a session records.
 //!
-//! A `VarSet` is seen as the strictly rising list of its members, each below 128. A `Partial` is seen as a list of
-//! options, one for each variable in vocabulary order. An `Event` is seen as it is written.
+//! A `VarSet` is seen as the strictly rising list of its members, each below 128. A `Partial` is
+//! seen as a list of options, one for each variable in vocabulary order. An `Event` is seen as it
+//! is written.
 //!
-//! The floors above rely on exact answers: each call here says what list it gives. No call takes memory.
+//! The floors above rely on exact answers: each call here says what list it gives. No call takes
+//! memory.
 //!
 //! | to | a `VarSet` | a `Partial` |
 //! |---|---|---|

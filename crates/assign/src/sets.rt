@@ -1,8 +1,10 @@
-ghost use Rattle.std.specs.Prelude.{◌≡◌, ◌<◌, ◌≤◌, ◌+◌, ◌/◌, ℕ, List, [], length, drop, IfSome, filter, nat_eq, nat_lt};
+ghost use Rattle.std.specs.Prelude.{◌≡◌, ◌<◌, ◌≤◌, ◌+◌, ◌/◌, ℕ, List, [], length, drop, IfSome};
+ghost use Rattle.std.specs.Prelude.{filter, nat_eq, nat_lt};
 ghost use Rattle.std.specs.Int.{bit_at};
 ghost use Rattle.std.specs.Cmp.{partial_equiv_from_equiv};
 ghost use Rattle.std.specs.Cmp.Lexicographic.{pointwise, nat_list_eq_equiv};
-ghost use Rattle.assign.specs.Sets.{numbers, has, union, common, minus, with_member, without, is_within, first_half, least_of, IsSet};
+ghost use Rattle.assign.specs.Sets.{numbers, has, union, common, minus, with_member, without};
+ghost use Rattle.assign.specs.Sets.{is_within, first_half, least_of, IsSet};
 
 use std::marker::Model;
 
@@ -160,7 +162,8 @@ impl VarSet {
 
     /// The least half of the members, rounded up: the least ceil(len / 2) of them.
     ///
-    /// A bisection for the place below which so many members stand: at most 8 counts, also for 128 members.
+    /// A bisection for the place below which so many members stand: at most 8 counts, also for 128
+    /// members.
     pub fn first_half(self) -> VarSet
         ensures { result ≡ first_half self }
     {

@@ -15,7 +15,11 @@ members_from s [] = []
 members_from s (mask ∷ masks) = candidates_at s (ones_of mask) ++ members_from (s + 1) masks
 
 abbrev pub seen : Inside → KeptSet
-seen a = record { scopes = length a.relations; members = members_from 0 a.relations; accepting = a.tables }
+seen a = record {
+  scopes = length a.relations;
+  members = members_from 0 a.relations;
+  accepting = a.tables;
+}
 
 -- the count is that of the candidates
 abbrev pub CountsCandidates : Inside → Type 0

@@ -8,7 +8,8 @@ use Rattle.language.specs.Language.{Language, scope_at, scope_of, violates}
 use Rattle.language.specs.Answers.{IsNetwork}
 use Rattle.bias_store.specs.Accepting.{Accepting, IsAcceptingOf}
 
--- how many scopes there are, the kept candidates by scope and then by relation, and which relations accept which tuples
+-- how many scopes there are, the kept candidates by scope and then by relation, and which relations
+-- accept which tuples
 pub record KeptSet : Type 0 where
   pub scopes : ℕ
   pub members : List Candidate
@@ -30,4 +31,5 @@ CoversOnly l s q = (k : ℕ) → k < length l.scopes → covers q (scope_at l k)
 
 -- whether the assignment violates one of these candidates whose scope lies within a set
 abbrev pub is_struck_within : Language → List Candidate → Assignment → List ℕ → Bool
-is_struck_within l members q set = list_any (λ c. is_within (scope_of l c) set && violates l c q) members
+is_struck_within l members q set =
+    list_any (λ c. is_within (scope_of l c) set && violates l c q) members

@@ -1,5 +1,6 @@
 -- The tables of masks as they are made, one scope after another.
-use Rattle.std.specs.Prelude.{ℕ, ◌≡◌, ◌≢◌, ◌<◌, ◌≤◌, ◌+◌, ◌^◌, true, false, List, [], All, length, slice_index_or}
+use Rattle.std.specs.Prelude.{ℕ, ◌≡◌, ◌≢◌, ◌<◌, ◌≤◌, ◌+◌, ◌^◌, true, false, List, [], All, length}
+use Rattle.std.specs.Prelude.{slice_index_or}
 use Rattle.std.specs.List.{filter}
 use Rattle.assign.specs.Sets.{numbers, ones_of}
 use Rattle.rel_table.specs.Relation.{Relation}
@@ -17,25 +18,32 @@ pub record HasTables (l : Language) (s : ℕ) (tables : List ℕ) : Type 0 where
 
 -- of relations with the tables of these numbers those that accept the pair at a place, rising
 abbrev pub accepting_by : List Relation → List ℕ → ℕ → List ℕ
-accepting_by pairs tables place = filter (λ r. slice_index_or (slice_index_or pairs (slice_index_or tables r 0) []) place false) (numbers (length tables))
+accepting_by pairs tables place =
+    filter (λ r. slice_index_or (slice_index_or pairs (slice_index_or tables r 0) []) place false)
+    (numbers (length tables))
 
 -- the mask is theirs
 abbrev pub AcceptBy : Language → List ℕ → ℕ → ℕ → Type 0
-AcceptBy l tables place mask = (pairs : List Relation) → ArePairTables l pairs → ones_of mask ≡ accepting_by pairs tables place
+AcceptBy l tables place mask = (pairs : List Relation) → ArePairTables l pairs →
+    ones_of mask ≡ accepting_by pairs tables place
 
 -- their masks begin here
 pub record HasMasksAt (l : Language) (tables masks : List ℕ) (begin : ℕ) : Type 0 where
   pub inside : begin + l.value_count ^ 2 ≤ length masks
-  pub each : (place : ℕ) → place < l.value_count ^ 2 → AcceptBy l tables place (mask_in masks begin place)
+  pub each : (place : ℕ) → place < l.value_count ^ 2 →
+      AcceptBy l tables place (mask_in masks begin place)
 
 -- those of each class begin where it says
 abbrev pub AreClasses : Language → List Class → List ℕ → Type 0
 AreClasses l classes masks = All (λ (c : Class). HasMasksAt l c.tables.items masks c.begin) classes
 
--- for each number of variables the table of the scopes with so many, all of whose variables have all values, begins here, if it was made
+-- for each number of variables the table of the scopes with so many, all of whose variables have
+-- all values, begins here, if it was made
 pub record AreBegun (l : Language) (begins masks : List ℕ) : Type 0 where
   pub long : length begins ≡ 5
-  pub tables : (s : ℕ) → s < length l.scopes → is_whole l s ≡ true → slice_index_or begins (length (scope_at l s)) 0 ≢ NO_TABLE → IsTableOf l s masks (slice_index_or begins (length (scope_at l s)) 0)
+  pub tables : (s : ℕ) → s < length l.scopes → is_whole l s ≡ true →
+      slice_index_or begins (length (scope_at l s)) 0 ≢ NO_TABLE →
+      IsTableOf l s masks (slice_index_or begins (length (scope_at l s)) 0)
 
 -- what was made for some scopes is right
 pub record IsMadeOfScopes (l : Language) (m : Made) : Type 0 where

@@ -1,5 +1,7 @@
--- What a question violates on the scopes of a language, of the relations that a mask for each scope has.
-use Rattle.std.specs.Prelude.{ℕ, ◌≡◌, ◌≢◌, ◌^◌, ◌<◌, ◌≤◌, Bool, true, List, [], length, slice_index_or}
+-- What a question violates on the scopes of a language, of the relations that a mask for each scope
+-- has.
+use Rattle.std.specs.Prelude.{ℕ, ◌≡◌, ◌≢◌, ◌^◌, ◌<◌, ◌≤◌, Bool, true, List, [], length}
+use Rattle.std.specs.Prelude.{slice_index_or}
 use Rattle.std.specs.List.{filter, list_any}
 use Rattle.assign.specs.Assignment.{Assignment}
 use Rattle.assign.specs.Sets.{ones_of}
@@ -12,10 +14,12 @@ violated_on l q s mask = filter (λ r. violates l (record { scope = s; rel = r }
 
 -- none, from a scope to another one
 abbrev pub AreNoneViolated : Language → Assignment → List ℕ → ℕ → ℕ → Type 0
-AreNoneViolated l q masks from to = (s : ℕ) → from ≤ s → s < to → violated_on l q s (slice_index_or masks s 0) ≡ []
+AreNoneViolated l q masks from to = (s : ℕ) → from ≤ s → s < to →
+    violated_on l q s (slice_index_or masks s 0) ≡ []
 
 -- the first scope from one on that has some, and those
-pub record IsViolated (l : Language) (q : Assignment) (masks : List ℕ) (from : ℕ) (v : Violated) : Type 0 where
+pub record IsViolated (l : Language) (q : Assignment) (masks : List ℕ) (from : ℕ) (v : Violated) :
+    Type 0 where
   pub lawful : IsLanguage l
   pub within : v.scope < length l.scopes
   pub ahead : from ≤ v.scope
@@ -26,10 +30,14 @@ pub record IsViolated (l : Language) (q : Assignment) (masks : List ℕ) (from :
 
 -- some relation on the scope of this number is violated, of those that its mask has
 abbrev pub IsHit : Language → Assignment → List ℕ → ℕ → Type 0
-IsHit l q masks s = list_any (λ r. violates l (record { scope = s; rel = r }) q) (ones_of (slice_index_or masks s 0)) ≡ true
+IsHit l q masks s = list_any (λ r. violates l (record { scope = s; rel = r }) q)
+    (ones_of (slice_index_or masks s 0)) ≡ true
 
 -- the first sets, so many, are scopes with violated relations, and all such ones where that is said
-pub record AreHitsListed (l : Language) (q : Assignment) (masks : List ℕ) (sets : List (List ℕ)) (count : ℕ) (are_all : Bool) : Type 0 where
+pub record AreHitsListed (l : Language) (q : Assignment) (masks : List ℕ) (sets : List (List ℕ))
+    (count : ℕ) (are_all : Bool) : Type 0 where
   pub room : count ≤ length sets
-  pub some : (j : ℕ) → j < count → (s : ℕ) × (s < length l.scopes) × (slice_index_or sets j [] ≡ scope_at l s) × IsHit l q masks s
-  pub all : are_all ≡ true → (s : ℕ) → s < length l.scopes → IsHit l q masks s → (j : ℕ) × (j < count) × (slice_index_or sets j [] ≡ scope_at l s)
+  pub some : (j : ℕ) → j < count → (s : ℕ) × (s < length l.scopes)
+      × (slice_index_or sets j [] ≡ scope_at l s) × IsHit l q masks s
+  pub all : are_all ≡ true → (s : ℕ) → s < length l.scopes → IsHit l q masks s →
+      (j : ℕ) × (j < count) × (slice_index_or sets j [] ≡ scope_at l s)

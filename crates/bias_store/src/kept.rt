@@ -1,6 +1,7 @@
 //! The kept candidates.
 
-ghost use Rattle.std.specs.Prelude.{ℕ, ◌≡◌, ◌+◌, ◌<◌, ◌≤◌, ◌↔◌, ◌==◌, ◌≢◌, IsTrue, true, List, [], IfOk, Contains, length, take, filter, not};
+ghost use Rattle.std.specs.Prelude.{ℕ, ◌≡◌, ◌+◌, ◌<◌, ◌≤◌, ◌↔◌, ◌==◌, ◌≢◌, IsTrue, true, List, []};
+ghost use Rattle.std.specs.Prelude.{IfOk, Contains, length, take, filter, not};
 ghost use Rattle.std.specs.List.{list_any};
 ghost use Rattle.language.specs.Language.{Language, candidates, violates, IsQuestion};
 ghost use Rattle.assign.specs.Sets.{is_within, ones_of};
@@ -39,9 +40,10 @@ impl Model for Kept {
 }
 
 impl Kept {
-    /// All candidates of the language: 16 bytes for each scope, and for each number of variables that a scope has whose variables
-    /// have all values 8 bytes for each tuple, at most 512 KB. Scopes of two variables share such a table where their relations
-    /// have the same tables, also with ranges, and have 17 at most. `Memory` where there is none for them.
+    /// All candidates of the language: 16 bytes for each scope, and for each number of variables
+    /// that a scope has whose variables have all values 8 bytes for each tuple, at most 512 KB.
+    /// Scopes of two variables share such a table where their relations have the same tables, also
+    /// with ranges, and have 17 at most. `Memory` where there is none for them.
     pub fn of(alloc: Global, lang: &Language) -> Result<Kept, Memory>
         ensures all { IfOk result (λ k. k.members ≡ candidates lang.now) }
         ensures made { IfOk result (λ k. IsMadeFor lang.now k) }
@@ -65,14 +67,17 @@ impl Kept {
         self.count
     }
 
-    /// Whether the candidate is kept. A scope or a relation that the language lacks has no kept candidate.
+    /// Whether the candidate is kept. A scope or a relation that the language lacks has no kept
+    /// candidate.
     pub fn is_kept(&self, c: Candidate) -> bool
         ensures { IsTrue result ↔ Contains self.now.members c }
     {
-        usize::from(c.scope) < self.relations.len() && has_relation(self.relations.on(c.scope), c.rel)
+        usize::from(c.scope) < self.relations.len()
+            && has_relation(self.relations.on(c.scope), c.rel)
     }
 
-    /// The kept relations on a scope: bit r is one where relation r is kept, in the language's order of relations.
+    /// The kept relations on a scope: bit r is one where relation r is kept, in the language's
+    /// order of relations.
     #[inline]
     pub fn on_scope(&self, s: ScopeId) -> u64
         requires { s < self.now.scopes }
@@ -81,7 +86,8 @@ impl Kept {
         self.relations.on(s)
     }
 
-    /// The first scope from one on, and before an end, on which a relation is kept; the end where there is none.
+    /// The first scope from one on, and before an end, on which a relation is kept; the end where
+    /// there is none.
     pub fn first_kept(&self, from: u32, end: u32) -> u32
         requires rising { from ≤ end }
         requires known { end ≤ self.now.scopes }
@@ -93,7 +99,8 @@ impl Kept {
         self.relations.next_some(from as usize, end as usize) as u32
     }
 
-    /// The relations on a scope that accept the tuple at a place, kept or not: bit r is one exactly where relation r does.
+    /// The relations on a scope that accept the tuple at a place, kept or not: bit r is one exactly
+    /// where relation r does.
     pub fn accepting(&self, lang: &Language, s: ScopeId, place: u32) -> u64
         requires made { IsMadeFor lang.now self.now }
         requires scope { s < length lang.now.scopes }
@@ -103,7 +110,8 @@ impl Kept {
         self.tables.accepting(lang, s, place)
     }
 
-    /// Whether the question violates a kept candidate. Scopes are looked at in their order, up to the first such one.
+    /// Whether the question violates a kept candidate. Scopes are looked at in their order, up to
+    /// the first such one.
     pub fn strikes_any(&self, lang: &Language, q: &Partial) -> bool
         requires made { IsMadeFor lang.now self.now }
         requires question { IsQuestion lang.now q.now }
@@ -115,14 +123,17 @@ impl Kept {
         found.is_some()
     }
 
-    /// Lists the variables of the scopes with a kept candidate that the question violates, in the order of scopes, as far as there
-    /// is room. Says how many sets these are, and whether they are all.
+    /// Lists the variables of the scopes with a kept candidate that the question violates, in the
+    /// order of scopes, as far as there is room. Says how many sets these are, and whether they are
+    /// all.
     pub fn list_struck(&self, lang: &Language, q: &Partial, sets: &mut [VarSet]) -> (usize, bool)
         requires made { IsMadeFor lang.now self.now }
         requires question { IsQuestion lang.now q.now }
         ensures room { result.0 ≤ length sets.new }
-        ensures some { (w : List ℕ) → list_any (λ set. is_within set w) (take result.0 sets.new) ≡ true → is_struck_within lang.now self.now.members q.now w ≡ true }
-        ensures all { result.1 ≡ true → (w : List ℕ) → is_struck_within lang.now self.now.members q.now w ≡ true → list_any (λ set. is_within set w) (take result.0 sets.new) ≡ true }
+        ensures some { (w : List ℕ) → list_any (λ set. is_within set w) (take result.0 sets.new)
+            ≡ true → is_struck_within lang.now self.now.members q.now w ≡ true }
+        ensures all { result.1 ≡ true → (w : List ℕ) → is_struck_within lang.now self.now.members
+            q.now w ≡ true → list_any (λ set. is_within set w) (take result.0 sets.new) ≡ true }
     {
         self.tables.list_violated(lang, q, &self.relations, sets)
     }
@@ -131,7 +142,8 @@ impl Kept {
     pub fn strike(&mut self, lang: &Language, q: &Partial) -> u32
         requires made { IsMadeFor lang.now self.old }
         requires question { IsQuestion lang.now q.now }
-        ensures kept { self.new.members ≡ filter (λ c. not (violates lang.now c q.now)) self.old.members }
+        ensures kept { self.new.members
+            ≡ filter (λ c. not (violates lang.now c q.now)) self.old.members }
         ensures count { result + length self.new.members ≡ length self.old.members }
         ensures made { IsMadeFor lang.now self.new }
     {
@@ -150,13 +162,15 @@ impl Kept {
         count_before - self.count
     }
 
-    /// The same for a question that gives values to all variables of no other scope than this one, which alone is looked at.
+    /// The same for a question that gives values to all variables of no other scope than this one,
+    /// which alone is looked at.
     pub fn strike_on(&mut self, lang: &Language, s: ScopeId, q: &Partial)
         requires made { IsMadeFor lang.now self.old }
         requires scope { s < length lang.now.scopes }
         requires question { IsQuestion lang.now q.now }
         requires alone { CoversOnly lang.now s q.now }
-        ensures kept { self.new.members ≡ filter (λ c. not (violates lang.now c q.now)) self.old.members }
+        ensures kept { self.new.members
+            ≡ filter (λ c. not (violates lang.now c q.now)) self.old.members }
         ensures made { IsMadeFor lang.now self.new }
     {
         let relations = self.relations.on(s);

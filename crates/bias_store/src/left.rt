@@ -1,6 +1,7 @@
 //! The relations that are left on each scope.
 
-ghost use Rattle.std.specs.Prelude.{ℕ, ◌≡◌, ◌≢◌, ◌+◌, ◌<◌, ◌≤◌, IfOk, [], length, replicate, slice_index_or, slice_set};
+ghost use Rattle.std.specs.Prelude.{ℕ, ◌≡◌, ◌≢◌, ◌+◌, ◌<◌, ◌≤◌, IfOk, [], length, replicate};
+ghost use Rattle.std.specs.Prelude.{slice_index_or, slice_set};
 ghost use Rattle.assign.specs.Sets.{ones_of};
 ghost use Rattle.bias_store.specs.Left.{IsLeftFrom};
 
@@ -10,7 +11,8 @@ use rel_table::Bits;
 use std::alloc::{AllocError, Global};
 use std::marker::Model;
 
-/// For each scope the relations that are left there, as a mask: bit r is one where relation r is left.
+/// For each scope the relations that are left there, as a mask: bit r is one where relation r is
+/// left.
 #[derive(Drop)]
 pub(crate) struct Left {
     /// The masks.
@@ -80,8 +82,8 @@ impl Left {
         self.masks[at] = relations;
     }
 
-    /// Of so many scopes from one on those that may have relations: bit j is one for the scope j places further. It is zero where
-    /// that has none, once one was taken there.
+    /// Of so many scopes from one on those that may have relations: bit j is one for the scope j
+    /// places further. It is zero where that has none, once one was taken there.
     #[inline]
     pub(crate) fn word(&self, from: usize, count: usize) -> u64
         requires some { 1 ≤ count }
@@ -92,7 +94,8 @@ impl Left {
         first_relations(count as u8) & !self.bare.row(from, count)
     }
 
-    /// The first scope from one on, and before an end, that has relations; the end where there is none.
+    /// The first scope from one on, and before an end, that has relations; the end where there is
+    /// none.
     pub(crate) fn next_some(&self, from: usize, end: usize) -> usize
         requires rising { from ≤ end }
         requires known { end ≤ length self.now }

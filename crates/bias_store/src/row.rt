@@ -1,6 +1,7 @@
 //! A row of scopes, gone through by words.
 
-ghost use Rattle.std.specs.Prelude.{ℕ, ◌≡◌, ◌≢◌, ◌+◌, ◌<◌, ◌≤◌, Some, true, nat_eq, is_some, length, IfSome, IfNone};
+ghost use Rattle.std.specs.Prelude.{ℕ, ◌≡◌, ◌≢◌, ◌+◌, ◌<◌, ◌≤◌, Some, true, nat_eq, is_some};
+ghost use Rattle.std.specs.Prelude.{length, IfSome, IfNone};
 ghost use Rattle.std.specs.Int.{bit_at};
 ghost use Rattle.assign.specs.Assignment.{value_of, variables_of};
 ghost use Rattle.assign.specs.Sets.{ones_of};
@@ -11,7 +12,8 @@ use crate::masks::take_least;
 use assign::{Partial, VarSet};
 use language::ScopeId;
 
-/// At a place of a row, of the relations there those that the question violates: none where it leaves the second variable open.
+/// At a place of a row, of the relations there those that the question violates: none where it
+/// leaves the second variable open.
 #[inline]
 fn violated_in_row(
     q: &Partial,
@@ -23,7 +25,8 @@ fn violated_in_row(
     requires place { place < length relations.now }
     requires variable { second + place < 128 }
     requires values { (v y : ℕ) → value_of q.now v ≡ Some y → y < length accepting.now }
-    ensures here { (value : ℕ) → value_of q.now (second + place) ≡ Some value → ones_of result ≡ violated_at relations.now accepting.now place value }
+    ensures here { (value : ℕ) → value_of q.now (second + place) ≡ Some value →
+        ones_of result ≡ violated_at relations.now accepting.now place value }
     ensures asked { result ≢ 0 → is_some (value_of q.now (second + place)) ≡ true }
 {
     match q.get((second + place) as u8) {
@@ -32,7 +35,8 @@ fn violated_in_row(
     }
 }
 
-/// At the places of a word in a row the first one with relations that the question violates, and those.
+/// At the places of a word in a row the first one with relations that the question violates, and
+/// those.
 ///
 /// Bit j of the word stands for the place `from` + j; it is zero where the question violates none.
 #[inline]
@@ -51,8 +55,10 @@ fn first_in_word(
     requires variables { second + length relations.now ≤ 128 }
     requires values { (v y : ℕ) → value_of q.now v ≡ Some y → y < length accepting.now }
     requires none { AreNoneBut q.now relations.now accepting.now second from count word }
-    ensures found { IfSome result (λ found. IsFirstIn q.now relations.now accepting.now second found.0 found.1) }
-    ensures none { IfNone result (AreNoneIn q.now relations.now accepting.now second (from + count)) }
+    ensures found { IfSome result
+        (λ found. IsFirstIn q.now relations.now accepting.now second found.0 found.1) }
+    ensures none { IfNone result
+        (AreNoneIn q.now relations.now accepting.now second (from + count)) }
 {
     let mut others = word;
     while others != 0 {
@@ -67,11 +73,13 @@ fn first_in_word(
     None
 }
 
-/// In a row of scopes the place of the first one with relations that the question violates, and those; nothing, where there is no
-/// such scope. The row begins at the scope `first`; a scope's second variable is `second` and its place in the row.
+/// In a row of scopes the place of the first one with relations that the question violates, and
+/// those; nothing, where there is no such scope. The row begins at the scope `first`; a scope's
+/// second variable is `second` and its place in the row.
 ///
-/// The relations are those that count on each scope, as `left` has them, and those that accept the tuple with each value of its
-/// second variable. 64 scopes are looked at at once: whether they have relations, and a value of their second variable.
+/// The relations are those that count on each scope, as `left` has them, and those that accept the
+/// tuple with each value of its second variable. 64 scopes are looked at at once: whether they have
+/// relations, and a value of their second variable.
 #[inline]
 pub(crate) fn first_in_row(
     q: &Partial,
@@ -86,13 +94,16 @@ pub(crate) fn first_in_row(
     requires row { IsRowOf left.now first relations.now }
     requires variables { second + length relations.now ≤ 128 }
     requires values { (v y : ℕ) → value_of q.now v ≡ Some y → y < length accepting.now }
-    ensures found { IfSome result (λ found. IsFirstIn q.now relations.now accepting.now second found.0 found.1) }
-    ensures none { IfNone result (AreNoneIn q.now relations.now accepting.now second (length relations.now)) }
+    ensures found { IfSome result
+        (λ found. IsFirstIn q.now relations.now accepting.now second found.0 found.1) }
+    ensures none { IfNone result
+        (AreNoneIn q.now relations.now accepting.now second (length relations.now)) }
 {
     let mut from = 0;
     while from < relations.len() {
         let count = (relations.len() - from).min(64);
-        let word = left.word(usize::from(first) + from, count) & shown.word_from((second + from) as u8);
+        let word = left.word(usize::from(first) + from, count)
+            & shown.word_from((second + from) as u8);
         if let Some(found) = first_in_word(q, relations, accepting, second, from, count, word) {
             return Some(found);
         }

@@ -1,18 +1,23 @@
 //! Which relations on a scope accept which tuples.
 
-ghost use Rattle.std.specs.Prelude.{ℕ, ◌==◌, ◌≡◌, ◌≢◌, ◌+◌, ◌*◌, ◌^◌, ◌<◌, ◌≤◌, true, List, Some, All, length, slice_index_or, IfOk, OnOk, IfSome, IfNone};
+ghost use Rattle.std.specs.Prelude.{ℕ, ◌==◌, ◌≡◌, ◌≢◌, ◌+◌, ◌*◌, ◌^◌, ◌<◌, ◌≤◌, true, List, Some};
+ghost use Rattle.std.specs.Prelude.{All, length, slice_index_or, IfOk, OnOk, IfSome, IfNone};
 ghost use Rattle.std.specs.Int.{bit_at};
 ghost use Rattle.std.specs.List.{filter};
 ghost use Rattle.std.specs.Option.{ForSome};
 ghost use Rattle.assign.specs.Sets.{numbers, ones_of};
 ghost use Rattle.assign.specs.Assignment.{Assignment, value_of, variables_of};
 ghost use Rattle.rel_table.specs.Relation.{tuple_at};
-ghost use Rattle.language.specs.Language.{variable_count, range_of, scope_at, place_on, IsLanguage, IsQuestion};
+ghost use Rattle.language.specs.Language.{variable_count, range_of, scope_at, place_on, IsLanguage};
+ghost use Rattle.language.specs.Language.{IsQuestion};
 ghost use Rattle.language.specs.Ranges.{is_in, are_in};
 ghost use Rattle.language.specs.Pairs.{IsPairTable};
-ghost use Rattle.bias_store.specs.Accepting.{accepting_on, places_on, first_of, Accepts, AreRunsFrom, IsRow, AreRowsFrom, IsTableOf, IsAcceptingOf, AreAdded, AreRowsAt};
+ghost use Rattle.bias_store.specs.Accepting.{accepting_on, places_on, first_of, Accepts};
+ghost use Rattle.bias_store.specs.Accepting.{AreRunsFrom, IsRow, AreRowsFrom, IsTableOf};
+ghost use Rattle.bias_store.specs.Accepting.{IsAcceptingOf, AreAdded, AreRowsAt};
 ghost use Rattle.bias_store.specs.Made.{HasTables, AcceptBy, AreClasses, IsMadeOfScopes, AreWider};
-ghost use Rattle.bias_store.specs.Violated.{violated_on, AreNoneViolated, IsViolated, AreHitsListed};
+ghost use Rattle.bias_store.specs.Violated.{violated_on, AreNoneViolated, IsViolated};
+ghost use Rattle.bias_store.specs.Violated.{AreHitsListed};
 
 use crate::left::Left;
 use crate::row::first_in_row;
@@ -33,24 +38,30 @@ pub(crate) struct Violated {
 /// In place of where a scope's table begins: it has none.
 const NO_TABLE: u32 = u32::MAX;
 
-/// How many classes of scopes of two variables have a table at most, beside that of scopes whose variables have all values.
+/// How many classes of scopes of two variables have a table at most, beside that of scopes whose
+/// variables have all values.
 const MOST_CLASSES: usize = 16;
 
-/// For each scope and each place of its tuples the relations that accept the tuple there, and an index by variables.
+/// For each scope and each place of its tuples the relations that accept the tuple there, and an
+/// index by variables.
 ///
-/// The scopes whose variables have all values share a table with those that have as many variables: 8 bytes for each tuple, at
-/// most 512 KB. Scopes of two variables share one wherever their relations have the same tables, and go by it within the ranges: 17
-/// such tables at most. The other scopes have none: there the language is asked. Each scope takes 8 bytes beside it.
+/// The scopes whose variables have all values share a table with those that have as many variables:
+/// 8 bytes for each tuple, at most 512 KB. Scopes of two variables share one wherever their
+/// relations have the same tables, and go by it within the ranges: 17 such tables at most. The
+/// other scopes have none: there the language is asked. Each scope takes 8 bytes beside it.
 #[derive(Drop)]
 pub(crate) struct Tables {
     /// For each scope where its table begins, or `NO_TABLE`.
     first: Vec<u32>,
-    /// The tables, each a mask for each place: bit r is one where relation r accepts the tuple there.
+    /// The tables, each a mask for each place: bit r is one where relation r accepts the tuple
+    /// there.
     masks: Vec<u64>,
-    /// For each scope the next one with another first variable, and past the last such one how many scopes there are.
+    /// For each scope the next one with another first variable, and past the last such one how many
+    /// scopes there are.
     next: Vec<ScopeId>,
-    /// For each scope where its row ends; no greater than the scope, where it is in none. The scopes of a row have two variables and
-    /// one table: the same first variable, and second ones that follow one another.
+    /// For each scope where its row ends; no greater than the scope, where it is in none. The
+    /// scopes of a row have two variables and one table: the same first variable, and second ones
+    /// that follow one another.
     rows: Vec<ScopeId>,
 }
 
@@ -59,7 +70,12 @@ impl Model for Tables {
 
     ghost Value = { Accepting };
 
-    ghost view = { λ t. record { first = t.first.items; masks = t.masks.items; next = t.next.items; rows = t.rows.items } };
+    ghost view = { λ t. record {
+      first = t.first.items;
+      masks = t.masks.items;
+      next = t.next.items;
+      rows = t.rows.items;
+    } };
 }
 
 /// The relations on a scope that accept the tuple at a place.
@@ -71,8 +87,8 @@ fn accepting_at(lang: &Language, s: ScopeId, place: u32) -> u64
     lang.accepting(s, place)
 }
 
-/// The truth values of the relations on a scope from a place on: bit y of the word at r is one where relation r accepts the tuple
-/// y places further.
+/// The truth values of the relations on a scope from a place on: bit y of the word at r is one
+/// where relation r accepts the tuple y places further.
 fn rows_at(lang: &Language, s: ScopeId, place: u32) -> [u64; 64]
     requires scope { s < length lang.now.scopes }
     requires row { place + lang.now.value_count ≤ places_on lang.now s }
@@ -91,7 +107,8 @@ fn rows_at(lang: &Language, s: ScopeId, place: u32) -> [u64; 64]
 fn column(words: &[u64], y: u8) -> u64
     requires few { length words.now ≤ 64 }
     requires bit { y < 64 }
-    ensures { ones_of result ≡ filter (λ r. bit_at (slice_index_or words.now r 0) y == 1) (numbers (length words.now)) }
+    ensures { ones_of result
+        ≡ filter (λ r. bit_at (slice_index_or words.now r 0) y == 1) (numbers (length words.now)) }
 {
     let mut bits = 0;
     for r in 0..words.len() {
@@ -100,11 +117,14 @@ fn column(words: &[u64], y: u8) -> u64
     bits
 }
 
-/// The masks of a scope's places from one on, one for each value of the last variable, behind those of the places before.
+/// The masks of a scope's places from one on, one for each value of the last variable, behind those
+/// of the places before.
 fn add_row(masks: &mut Vec<u64>, lang: &Language, s: ScopeId, place: u32) -> Result<(), AllocError>
     requires scope { s < length lang.now.scopes }
     requires row { place + lang.now.value_count ≤ places_on lang.now s }
-    ensures { (before : List ℕ) → AreAdded (Accepts lang.now s) before masks.old.items place → OnOk result (AreAdded (Accepts lang.now s) before masks.new.items (place + lang.now.value_count)) }
+    ensures { (before : List ℕ) →
+        AreAdded (Accepts lang.now s) before masks.old.items place → OnOk result
+        (AreAdded (Accepts lang.now s) before masks.new.items (place + lang.now.value_count)) }
 {
     let rows = rows_at(lang, s, place);
     let relations = usize::from(lang.relations_on(s));
@@ -117,7 +137,8 @@ fn add_row(masks: &mut Vec<u64>, lang: &Language, s: ScopeId, place: u32) -> Res
 /// The table of a scope, behind other ones.
 fn add_masks(masks: &mut Vec<u64>, lang: &Language, s: ScopeId) -> Result<(), AllocError>
     requires scope { s < length lang.now.scopes }
-    ensures { OnOk result (AreAdded (Accepts lang.now s) masks.old.items masks.new.items (places_on lang.now s)) }
+    ensures { OnOk result
+        (AreAdded (Accepts lang.now s) masks.old.items masks.new.items (places_on lang.now s)) }
 {
     let d = u32::from(lang.d());
     let others = lang.scope(s).len() as u32 - 1;
@@ -127,7 +148,8 @@ fn add_masks(masks: &mut Vec<u64>, lang: &Language, s: ScopeId) -> Result<(), Al
     Ok(())
 }
 
-/// For each scope the next one with another first variable, and past the last such one how many scopes there are.
+/// For each scope the next one with another first variable, and past the last such one how many
+/// scopes there are.
 fn runs_of(alloc: Global, lang: &Language) -> Result<Vec<ScopeId>, AllocError>
     ensures { IfOk result (λ v. AreRunsFrom lang.now v.items 0) }
 {
@@ -196,11 +218,13 @@ fn is_value(lang: &Language, v: u8, value: u32) -> bool
     u32::from(first) <= value && value <= u32::from(last)
 }
 
-/// Whether the tuple at a place is within the ranges. Looked at where a scope has two variables, or these have all values.
+/// Whether the tuple at a place is within the ranges. Looked at where a scope has two variables, or
+/// these have all values.
 fn is_inside(lang: &Language, s: ScopeId, place: u32) -> bool
     requires scope { s < length lang.now.scopes }
     requires place { place < places_on lang.now s }
-    ensures { result ≡ true → are_in lang.now.ranges (scope_at lang.now s) (tuple_at lang.now.value_count (length (scope_at lang.now s)) place) ≡ true }
+    ensures { result ≡ true → are_in lang.now.ranges (scope_at lang.now s)
+        (tuple_at lang.now.value_count (length (scope_at lang.now s)) place) ≡ true }
 {
     let d = u32::from(lang.d());
     if lang.is_whole(s) {
@@ -212,8 +236,8 @@ fn is_inside(lang: &Language, s: ScopeId, place: u32) -> bool
     is_value(lang, v, place / d) && is_value(lang, w, place % d)
 }
 
-/// Of these relations on a scope, those that a question violates whose tuple there has this place: none where it has none, since
-/// it leaves a variable open.
+/// Of these relations on a scope, those that a question violates whose tuple there has this place:
+/// none where it has none, since it leaves a variable open.
 #[inline]
 fn violated_at(
     tables: &Tables,
@@ -225,7 +249,8 @@ fn violated_at(
     requires tables { IsAcceptingOf lang.now tables.now }
     requires scope { s < length lang.now.scopes }
     requires place { ForSome place (λ at. at < places_on lang.now s) }
-    ensures { (q : Assignment) → IsQuestion lang.now q → place ≡ place_on lang.now s q → ones_of result ≡ violated_on lang.now q s relations }
+    ensures { (q : Assignment) → IsQuestion lang.now q → place ≡ place_on lang.now s q →
+        ones_of result ≡ violated_on lang.now q s relations }
 {
     match place {
         None => 0,
@@ -233,7 +258,8 @@ fn violated_at(
     }
 }
 
-/// Of these relations on a scope, those that the question violates: none where it leaves a variable there open.
+/// Of these relations on a scope, those that the question violates: none where it leaves a variable
+/// there open.
 pub(crate) fn violated_on(
     tables: &Tables,
     lang: &Language,
@@ -252,7 +278,8 @@ pub(crate) fn violated_on(
     violated_at(tables, lang, s, lang.place_on(s, q), relations)
 }
 
-/// Scopes of two variables whose relations have the same tables, one after another: they share a table of masks.
+/// Scopes of two variables whose relations have the same tables, one after another: they share a
+/// table of masks.
 #[derive(Drop)]
 struct Class {
     /// For each relation the number of its table.
@@ -261,7 +288,8 @@ struct Class {
     begin: u32,
 }
 
-/// Of relations with these tables of two variables those that accept the pair at a place: bit r is one where the table at r has it.
+/// Of relations with these tables of two variables those that accept the pair at a place: bit r is
+/// one where the table at r has it.
 fn pair_mask(lang: &Language, tables: &[u8], place: u32) -> u64
     requires known { All (IsPairTable lang.now) tables.now }
     requires few { length tables.now ≤ 64 }
@@ -282,7 +310,8 @@ fn pair_mask(lang: &Language, tables: &[u8], place: u32) -> u64
 fn add_pair_masks(masks: &mut Vec<u64>, lang: &Language, tables: &[u8]) -> Result<(), AllocError>
     requires known { All (IsPairTable lang.now) tables.now }
     requires few { length tables.now ≤ 64 }
-    ensures { OnOk result (AreAdded (AcceptBy lang.now tables.now) masks.old.items masks.new.items (lang.now.value_count ^ 2)) }
+    ensures { OnOk result (AreAdded (AcceptBy lang.now tables.now) masks.old.items masks.new.items
+        (lang.now.value_count ^ 2)) }
 {
     for place in 0..u32::from(lang.d()).pow(2) {
         masks.push(pair_mask(lang, tables, place))?;
@@ -328,7 +357,8 @@ fn begin_among(lang: &Language, s: ScopeId, classes: &[Class]) -> u32
     requires lawful { IsLanguage lang.now }
     requires scope { s < length lang.now.scopes }
     requires two { length (scope_at lang.now s) ≡ 2 }
-    ensures { (masks : List ℕ) → AreClasses lang.now classes.now masks → result ≢ NO_TABLE → IsTableOf lang.now s masks result }
+    ensures { (masks : List ℕ) → AreClasses lang.now classes.now masks → result ≢ NO_TABLE →
+        IsTableOf lang.now s masks result }
 {
     for class in classes {
         if has_tables(lang, s, &class.tables) {
@@ -345,12 +375,14 @@ struct Made {
     masks: Vec<u64>,
     /// The classes of scopes of two variables that have a table.
     classes: Vec<Class>,
-    /// For each number of variables where the table begins of the scopes with so many whose variables have all values, once it was made.
+    /// For each number of variables where the table begins of the scopes with so many whose
+    /// variables have all values, once it was made.
     begins: [u32; 5],
 }
 
 impl Made {
-    /// Where the table of a scope of two variables begins, if it has one. The first of a class has it made, unless there are many.
+    /// Where the table of a scope of two variables begins, if it has one. The first of a class has
+    /// it made, unless there are many.
     fn pair_begin(&mut self, alloc: Global, lang: &Language, s: ScopeId) -> Result<u32, Memory>
         requires lawful { IsLanguage lang.now }
         requires made { IsMadeOfScopes lang.now self.old }
@@ -360,7 +392,8 @@ impl Made {
         ensures made { OnOk result (IsMadeOfScopes lang.now self.new) }
         ensures wider { OnOk result (AreWider self.old.masks.items self.new.masks.items) }
         ensures room { OnOk result (length self.new.masks.items ≤ 65536 * (s + 1)) }
-        ensures table { IfOk result (λ begin. begin ≢ NO_TABLE → IsTableOf lang.now s self.new.masks.items begin) }
+        ensures table { IfOk result (λ begin. begin ≢ NO_TABLE →
+            IsTableOf lang.now s self.new.masks.items begin) }
     {
         let known = begin_among(lang, s, &self.classes);
         let is_full = self.classes.len() >= MOST_CLASSES && !lang.is_whole(s);
@@ -383,7 +416,8 @@ impl Made {
         ensures made { OnOk result (IsMadeOfScopes lang.now self.new) }
         ensures wider { OnOk result (AreWider self.old.masks.items self.new.masks.items) }
         ensures room { OnOk result (length self.new.masks.items ≤ 65536 * (s + 1)) }
-        ensures table { IfOk result (λ begin. begin ≢ NO_TABLE → IsTableOf lang.now s self.new.masks.items begin) }
+        ensures table { IfOk result (λ begin. begin ≢ NO_TABLE →
+            IsTableOf lang.now s self.new.masks.items begin) }
     {
         if lang.scope(s).len() == 2 {
             return self.pair_begin(alloc, lang, s);
@@ -405,7 +439,8 @@ impl Made {
         ensures made { OnOk result (IsMadeOfScopes lang.now self.new) }
         ensures wider { OnOk result (AreWider self.old.masks.items self.new.masks.items) }
         ensures room { OnOk result (length self.new.masks.items ≤ 65536 * (s + 1)) }
-        ensures table { IfOk result (λ begin. begin ≢ NO_TABLE → IsTableOf lang.now s self.new.masks.items begin) }
+        ensures table { IfOk result (λ begin. begin ≢ NO_TABLE →
+            IsTableOf lang.now s self.new.masks.items begin) }
     {
         if !lang.is_whole(s) {
             return self.new_begin(alloc, lang, s);
@@ -446,7 +481,8 @@ impl Tables {
         })
     }
 
-    /// In the row that begins with a scope the first scope with relations, of these, that the question violates.
+    /// In the row that begins with a scope the first scope with relations, of these, that the
+    /// question violates.
     #[inline]
     fn next_in_row(
         &self,
@@ -465,7 +501,8 @@ impl Tables {
         requires scope { s < length lang.now.scopes }
         requires value { value_of q.now (first_of lang.now s) ≡ Some value }
         ensures found { IfSome result (IsViolated lang.now q.now left.now s) }
-        ensures none { IfNone result (AreNoneViolated lang.now q.now left.now s (slice_index_or self.now.rows s 0)) }
+        ensures none { IfNone result
+            (AreNoneViolated lang.now q.now left.now s (slice_index_or self.now.rows s 0)) }
     {
         let end = self.rows[usize::from(s)];
         let second = usize::from(lang.scope(s)[1]);
@@ -482,9 +519,10 @@ impl Tables {
 
     /// From a scope on the first one with relations, of these, that the question violates.
     ///
-    /// Scopes whose first variable the question leaves open are passed over in runs, and in a row of scopes, 64 at once, those whose
-    /// second one it leaves open and those without relations. Each other one costs the reading of a value, and one AND; or one look
-    /// at each relation, where the scope has no table.
+    /// Scopes whose first variable the question leaves open are passed over in runs, and in a row
+    /// of scopes, 64 at once, those whose second one it leaves open and those without relations.
+    /// Each other one costs the reading of a value, and one AND; or one look at each relation,
+    /// where the scope has no table.
     pub(crate) fn next_violated(
         &self,
         lang: &Language,
@@ -499,7 +537,8 @@ impl Tables {
         requires left { length left.now ≡ length lang.now.scopes }
         requires from { from ≤ length lang.now.scopes }
         ensures found { IfSome result (IsViolated lang.now q.now left.now from) }
-        ensures none { IfNone result (AreNoneViolated lang.now q.now left.now from (length lang.now.scopes)) }
+        ensures none { IfNone result
+            (AreNoneViolated lang.now q.now left.now from (length lang.now.scopes)) }
     {
         let scopes = lang.scopes() as ScopeId;
         let mut s = from;
@@ -528,8 +567,9 @@ impl Tables {
         None
     }
 
-    /// Lists the variables of the scopes with relations, of these, that the question violates, in the order of scopes, as far as
-    /// there is room. Says how many sets these are, and whether they are all.
+    /// Lists the variables of the scopes with relations, of these, that the question violates, in
+    /// the order of scopes, as far as there is room. Says how many sets these are, and whether they
+    /// are all.
     pub(crate) fn list_violated(
         &self,
         lang: &Language,
@@ -562,7 +602,8 @@ impl Tables {
         requires made { IsAcceptingOf lang.now self.now }
         requires scope { s < length lang.now.scopes }
         requires place { place < places_on lang.now s }
-        ensures { (q : Assignment) → IsQuestion lang.now q → Some place ≡ place_on lang.now s q → Accepts lang.now s place result }
+        ensures { (q : Assignment) → IsQuestion lang.now q → Some place ≡ place_on lang.now s q →
+            Accepts lang.now s place result }
     {
         let _d = lang.d();
         let first = self.first[usize::from(s)];
@@ -572,7 +613,8 @@ impl Tables {
         self.masks[first as usize + place as usize]
     }
 
-    /// The relations on a scope that accept the tuple at a place: bit r is one exactly where relation r does.
+    /// The relations on a scope that accept the tuple at a place: bit r is one exactly where
+    /// relation r does.
     pub(crate) fn accepting(&self, lang: &Language, s: ScopeId, place: u32) -> u64
         requires made { IsAcceptingOf lang.now self.now }
         requires scope { s < length lang.now.scopes }

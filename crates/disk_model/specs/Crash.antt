@@ -19,11 +19,13 @@ HaveCuts start steps images = (c : List ℕ) → LeavesCut start steps c → Con
 
 -- so is each that a write of these bytes leaves of one content, if it is cut short
 abbrev pub HaveCutsOf : ℕ → List ℕ → List ℕ → List (Vec ℕ Global) → Type 0
-HaveCutsOf at bytes content torn = (c : List ℕ) → CutShort at bytes content c → Contains (contents torn) c
+HaveCutsOf at bytes content torn = (c : List ℕ) → CutShort at bytes content c →
+    Contains (contents torn) c
 
 -- and of each of the images
 abbrev pub HaveAllCuts : ℕ → List ℕ → List (Vec ℕ Global) → List (Vec ℕ Global) → Type 0
-HaveAllCuts at bytes images torn = (d : List ℕ) → Contains (contents images) d → HaveCutsOf at bytes d torn
+HaveAllCuts at bytes images torn = (d : List ℕ) → Contains (contents images) d →
+    HaveCutsOf at bytes d torn
 
 -- a write of n bytes may make each of these of that content
 abbrev pub AreTorn : ℕ → ℕ → List ℕ → List (Vec ℕ Global) → Type 0
@@ -31,7 +33,8 @@ AreTorn at n content torn = All (λ c. Torn at n content c.items) torn
 
 -- what a write of n bytes may make of one of the images
 abbrev pub IsTornOf : ℕ → ℕ → List (Vec ℕ Global) → Vec ℕ Global → Type 0
-IsTornOf at n images torn = (k : ℕ) × (k < length images) × Torn at n (slice_index_or images k torn).items torn.items
+IsTornOf at n images torn = (k : ℕ) × (k < length images)
+    × Torn at n (slice_index_or images k torn).items torn.items
 
 -- how many bytes a mark speaks of
 abbrev pub mark_bytes : Mark → ℕ
@@ -44,7 +47,8 @@ step_of (Write at len) bytes = Wrote at bytes
 step_of Sync bytes = Synced
 
 -- This is what a read gives after the steps, and these a crash may leave.
-pub record IsReplay (start : List ℕ) (steps : List Step) (now : List ℕ) (images : List (Vec ℕ Global)) : Type 0 where
+pub record IsReplay (start : List ℕ) (steps : List Step) (now : List ℕ)
+    (images : List (Vec ℕ Global)) : Type 0 where
   pub reads : now ≡ content_after start steps
   pub each : AreImages start steps images
   pub cuts : HaveCuts start steps images

@@ -1,11 +1,13 @@
 -- What the calls of a disk do to its file, and what a crash may do between two syncs.
-use Rattle.std.specs.Prelude.{ℕ, ◌+◌, ◌-◌, ◌^◌, ◌≤◌, ◌≡◌, ◌⊎◌, min, max, List, ◌++◌, length, take, drop, Option, Some, Result, IsErr, OnOk}
+use Rattle.std.specs.Prelude.{ℕ, ◌+◌, ◌-◌, ◌^◌, ◌≤◌, ◌≡◌, ◌⊎◌, min, max, List, ◌++◌, length, take}
+use Rattle.std.specs.Prelude.{drop, Option, Some, Result, IsErr, OnOk}
 
 -- new is old with these bytes at this place
 abbrev pub Holds : List ℕ → ℕ → List ℕ → List ℕ → Type 0
 Holds old at bytes new = new ≡ take at old ++ bytes ++ drop (at + length bytes) old
 
--- After a write of n bytes that a crash cuts short: any bytes in the range and past the old end, the same elsewhere.
+-- After a write of n bytes that a crash cuts short: any bytes in the range and past the old end,
+-- the same elsewhere.
 pub record Torn (at n : ℕ) (old new : List ℕ) : Type 0 where
   pub before : take at new ≡ take at old
   pub after : drop (at + n) new ≡ drop (at + n) old
@@ -13,7 +15,8 @@ pub record Torn (at n : ℕ) (old new : List ℕ) : Type 0 where
   pub no_longer : length new ≤ max (length old) (at + n)
 
 -- What a read gives after a write: after Ok all of it, and otherwise it may be there in part.
-pub record IsWritten {T E : Type 0} (at : ℕ) (bytes old : List ℕ) (content : Option (List ℕ)) (result : Result T E) : Type 0 where
+pub record IsWritten {T E : Type 0} (at : ℕ) (bytes old : List ℕ) (content : Option (List ℕ))
+    (result : Result T E) : Type 0 where
   pub now : List ℕ
   pub tells : content ≡ Some now
   pub torn : Torn at (length bytes) old now
@@ -31,8 +34,10 @@ Only content may_leave = (c : List ℕ) → may_leave c → c ≡ content
 abbrev pub AddsNothing : (List ℕ → Type 0) → (List ℕ → Type 0) → Type 0
 AddsNothing old new = (c : List ℕ) → new c → old c
 
--- Time goes on: a crash since t might have left what it might have left before, or what it may leave now.
-pub record Elapses (before now : ℕ) (past since : ℕ → List ℕ → Type 0) (may_leave : List ℕ → Type 0) : Type 0 where
+-- Time goes on: a crash since t might have left what it might have left before, or what it may
+-- leave now.
+pub record Elapses (before now : ℕ) (past since : ℕ → List ℕ → Type 0) (may_leave : List ℕ →
+    Type 0) : Type 0 where
   pub later : before ≤ now
   pub nothing_else : (t : ℕ) (c : List ℕ) → t ≤ before → since t c → past t c ⊎ may_leave c
   pub keeps : (t : ℕ) (c : List ℕ) → t ≤ before → past t c → since t c

@@ -12,7 +12,8 @@ inner_of d = d.inner
 abbrev pub passes_of : FuseDisk → ℕ
 passes_of d = d.passes
 
--- how often it was called, if the disk within was new to calls: those that were passed on, and those that failed since then
+-- how often it was called, if the disk within was new to calls: those that were passed on, and
+-- those that failed since then
 abbrev pub calls_of : FuseDisk → ℕ
 calls_of d = mem_disks.calls_of d.inner + d.blown
 
@@ -24,7 +25,8 @@ faults_of d = mem_disks.faults_of d.inner + d.blown
 pub record IsBurnt {T E : Type 0} (old new : FuseDisk) (result : Result T E) : Type 0 where
   pub same : new.inner ≡ old.inner
   pub fewer : new.passes ≡ old.passes - 1
-  pub which : MatchResult result (λ _. (1 ≤ old.passes) × (new.blown ≡ old.blown)) (λ _. (old.passes ≡ 0) × (new.blown ≡ min (old.blown + 1) (2 ^ 64 - 1)))
+  pub which : MatchResult result (λ _. (1 ≤ old.passes) × (new.blown ≡ old.blown)) (λ _.
+      (old.passes ≡ 0) × (new.blown ≡ min (old.blown + 1) (2 ^ 64 - 1)))
   pub more : old.blown ≤ new.blown
 
 -- Where a pass is left, the disk within was called once, and else it is as it was.

@@ -1,5 +1,6 @@
 -- What a disk in memory shows.
-use Rattle.std.specs.Prelude.{ℕ, ◌+◌, ◌^◌, ◌-◌, ◌≤◌, ◌<◌, ◌≡◌, ◌⊎◌, min, List, [], length, Some, Any, Bool, if◌then◌else◌, refl}
+use Rattle.std.specs.Prelude.{ℕ, ◌+◌, ◌^◌, ◌-◌, ◌≤◌, ◌<◌, ◌≡◌, ◌⊎◌, min, List, [], length, Some}
+use Rattle.std.specs.Prelude.{Any, Bool, if◌then◌else◌, refl}
 use Rattle.std.specs.Option.{ForSome}
 use Rattle.std.proofs.Common.{sym, subst, ◌∙◌}
 use Rattle.disk_model.specs.declared.mem_disk.Room.{Room}
@@ -66,9 +67,11 @@ FailsNext d = Any (λ k. k ≡ calls_of d) (fails_of d)
 abbrev pub IsWornOut : MemDisk → Type 0
 IsWornOut d = (room_of d).calls ≤ moment_of d
 
--- a write of n bytes at this place outgrows the room of the file, or that of all bytes that are written
+-- a write of n bytes at this place outgrows the room of the file, or that of all bytes that are
+-- written
 abbrev pub Outgrows : MemDisk → ℕ → ℕ → Type 0
-Outgrows d at n = ((room_of d).bytes < at + n) ⊎ ((room_of d).bytes < length d.tape.written.items + n)
+Outgrows d at n = ((room_of d).bytes < at + n)
+    ⊎ ((room_of d).bytes < length d.tape.written.items + n)
 
 -- the file, the record and the room are as they were
 abbrev pub HasSameRecord : MemDisk → MemDisk → Type 0
@@ -79,12 +82,14 @@ pub record IsCounted (old new : MemDisk) (is_fault : Bool) : Type 0 where
   pub same_fails : fails_of new ≡ fails_of old
   pub one_more : calls_of new ≡ min (calls_of old + 1) (2 ^ 64 - 1)
   pub no_fewer : faults_of old ≤ faults_of new
-  pub faults_are : faults_of new ≡ (if is_fault then min (faults_of old + 1) (2 ^ 64 - 1) else faults_of old)
+  pub faults_are : faults_of new
+      ≡ (if is_fault then min (faults_of old + 1) (2 ^ 64 - 1) else faults_of old)
 
 -- ---- what a disk in memory keeps of the trait's laws
 
 pub tells_truth : (d : MemDisk) → ForSome (Some (content_of d)) (images_of d)
-tells_truth d bytes is = subst (images_of d) (sym d.tape.kept ∙ cc) (image-content (λ c. c ≡ start_of d) (start_of d) (steps_in d) refl d.tape.within)
+tells_truth d bytes is = subst (images_of d) (sym d.tape.kept
+    ∙ cc) (image-content (λ c. c ≡ start_of d) (start_of d) (steps_in d) refl d.tape.within)
 
 pub counts : (d : MemDisk) (t : ℕ) (c : List ℕ) → t ≤ moment_of d → images_of d c → left_of d t c
 counts d = counts_now (start_of d) (steps_in d)

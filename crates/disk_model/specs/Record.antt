@@ -1,5 +1,7 @@
--- A record of the writes and syncs of a file, and what it says of the file: what a read gives, and what a crash may leave.
-use Rattle.std.specs.Prelude.{ℕ, ◌+◌, ◌≤◌, ◌≡◌, Bool, true, nat_le, ◌&&◌, List, [], ◌∷◌, ◌++◌, length, take, drop}
+-- A record of the writes and syncs of a file, and what it says of the file: what a read gives, and
+-- what a crash may leave.
+use Rattle.std.specs.Prelude.{ℕ, ◌+◌, ◌≤◌, ◌≡◌, Bool, true, nat_le, ◌&&◌, List, [], ◌∷◌, ◌++◌}
+use Rattle.std.specs.Prelude.{length, take, drop}
 use Rattle.disk_model.specs.Disk.{Torn}
 use Rattle.disk_model.specs.declared.tape.Mark.{Mark}
 use Rattle.disk_model.specs.declared.tape.Mark.TheVariants.{Write, Sync}
@@ -22,19 +24,22 @@ content_after now (Synced ∷ steps) = content_after now steps
 -- what a crash may leave after the steps, where it might have left what has P before them
 abbrev pub IsImage : (List ℕ → Type 0) → List ℕ → List Step → List ℕ → Type 0
 IsImage P now [] c = P c
-IsImage P now (Wrote at bytes ∷ steps) c = IsImage (λ d. (e : List ℕ) × P e × Torn at (length bytes) e d) (put now at bytes) steps c
+IsImage P now (Wrote at bytes ∷ steps) c =
+    IsImage (λ d. (e : List ℕ) × P e × Torn at (length bytes) e d) (put now at bytes) steps c
 IsImage P now (Synced ∷ steps) c = IsImage (λ d. d ≡ now) now steps c
 
 -- each write begins within the file or at its end
 abbrev pub are_within : List ℕ → List Step → Bool
 are_within now [] = true
-are_within now (Wrote at bytes ∷ steps) = nat_le at (length now) && are_within (put now at bytes) steps
+are_within now (Wrote at bytes ∷ steps) =
+    nat_le at (length now) && are_within (put now at bytes) steps
 are_within now (Synced ∷ steps) = are_within now steps
 
 -- the marks, each with its bytes
 abbrev pub steps_of : List Mark → List ℕ → List Step
 steps_of [] written = []
-steps_of (Write at len ∷ marks) written = Wrote at (take len written) ∷ steps_of marks (drop len written)
+steps_of (Write at len ∷ marks) written =
+    Wrote at (take len written) ∷ steps_of marks (drop len written)
 steps_of (Sync ∷ marks) written = Synced ∷ steps_of marks written
 
 -- how many bytes the marks speak of
@@ -53,10 +58,12 @@ pub record CutShort (at : ℕ) (bytes old new : List ℕ) : Type 0 where
   pub count : ℕ
   pub is : new ≡ put old at (take count bytes)
 
--- what is left where each write since the last sync was cut short, or none was, and what has P was there before
+-- what is left where each write since the last sync was cut short, or none was, and what has P was
+-- there before
 abbrev pub IsCut : (List ℕ → Type 0) → List ℕ → List Step → List ℕ → Type 0
 IsCut P now [] c = P c
-IsCut P now (Wrote at bytes ∷ steps) c = IsCut (λ d. (e : List ℕ) × P e × CutShort at bytes e d) (put now at bytes) steps c
+IsCut P now (Wrote at bytes ∷ steps) c =
+    IsCut (λ d. (e : List ℕ) × P e × CutShort at bytes e d) (put now at bytes) steps c
 IsCut P now (Synced ∷ steps) c = IsCut (λ d. d ≡ now) now steps c
 
 -- what is left after the steps, where a crash cut writes short

@@ -1,9 +1,11 @@
 //! For tests: contents that a crash may leave of a file in memory, listed from its record.
 
-ghost use Rattle.std.specs.Prelude.{◌≡◌, ◌≤◌, ◌<◌, ◌+◌, ◌-◌, ◌^◌, [], ◌∷◌, ◌++◌, List, ℕ, IfOk, OnOk, All, Contains, length, take, drop, replicate};
+ghost use Rattle.std.specs.Prelude.{◌≡◌, ◌≤◌, ◌<◌, ◌+◌, ◌-◌, ◌^◌, [], ◌∷◌, ◌++◌, List, ℕ, IfOk};
+ghost use Rattle.std.specs.Prelude.{OnOk, All, Contains, length, take, drop, replicate};
 ghost use Rattle.disk_model.specs.Disk.{Torn};
 ghost use Rattle.disk_model.specs.Record.{Step, put};
-ghost use Rattle.disk_model.specs.Crash.{AreImages, AreTorn, HaveCuts, HaveCutsOf, HaveAllCuts, IsTornOf, IsReplay, contents, mark_bytes, step_of};
+ghost use Rattle.disk_model.specs.Crash.{AreImages, AreTorn, HaveCuts, HaveCutsOf, HaveAllCuts};
+ghost use Rattle.disk_model.specs.Crash.{IsTornOf, IsReplay, contents, mark_bytes, step_of};
 
 use crate::tape::{Mark, Tape};
 use std::alloc::{AllocError, Global};
@@ -28,8 +30,10 @@ impl Tape {
         garbage: u8,
     ) -> Result<Vec<Vec<u8>>, AllocError>
         requires { moment ≤ length self.now.marks.items }
-        ensures each { IfOk result (λ images. AreImages self.now.start.items (take moment (tape_steps self.now)) images.items) }
-        ensures cuts { IfOk result (λ images. HaveCuts self.now.start.items (take moment (tape_steps self.now)) images.items) }
+        ensures each { IfOk result (λ images.
+            AreImages self.now.start.items (take moment (tape_steps self.now)) images.items) }
+        ensures cuts { IfOk result (λ images.
+            HaveCuts self.now.start.items (take moment (tape_steps self.now)) images.items) }
     {
         let mut replay = Replay {
             now: Vec::from_slice(alloc, &self.start)?,
@@ -67,7 +71,9 @@ impl Replay {
         bytes: &[u8],
         garbage: u8,
     ) -> Result<Replay, AllocError>
-        ensures { IfOk result (λ next. (start : List ℕ) (steps : List Step) → IsReplay start steps self.now.items self.images.items → IsReplay start (steps ++ step_of mark bytes.now ∷ []) next.now.items next.images.items) }
+        ensures { IfOk result (λ next. (start : List ℕ) (steps : List Step) →
+            IsReplay start steps self.now.items self.images.items → IsReplay start
+            (steps ++ step_of mark bytes.now ∷ []) next.now.items next.images.items) }
     {
         let Replay { now, images } = self;
         match mark {
@@ -101,7 +107,8 @@ fn torn_images(
     garbage: u8,
 ) -> Result<Vec<Vec<u8>>, AllocError>
     requires { at < 2 ^ 32 }
-    ensures each { IfOk result (λ torn. All (IsTornOf at (length bytes.now) images.now) torn.items) }
+    ensures each { IfOk result
+        (λ torn. All (IsTornOf at (length bytes.now) images.now) torn.items) }
     ensures cuts { IfOk result (λ torn. HaveAllCuts at bytes.now images.now torn.items) }
 {
     let mut torn = Vec::new(alloc);
@@ -112,8 +119,8 @@ fn torn_images(
     Ok(torn)
 }
 
-/// For each number of bytes up to all of them the image with just these written, and with garbage in the place of the
-/// others. An image that ends before the place stays as it is.
+/// For each number of bytes up to all of them the image with just these written, and with garbage
+/// in the place of the others. An image that ends before the place stays as it is.
 fn torn_image(
     alloc: Global,
     image: &[u8],
@@ -142,7 +149,8 @@ fn torn_image(
 /// The first bytes, and garbage in the place of the others.
 fn garble(alloc: Global, bytes: &[u8], cut: usize, garbage: u8) -> Result<Vec<u8>, AllocError>
     requires { cut ≤ length bytes.now }
-    ensures { IfOk result (λ garbled. garbled.items ≡ take cut bytes.now ++ replicate (length bytes.now - cut) garbage) }
+    ensures { IfOk result (λ garbled.
+        garbled.items ≡ take cut bytes.now ++ replicate (length bytes.now - cut) garbage) }
 {
     let mut garbled = Vec::from_slice(alloc, &bytes[..cut])?;
     garbled.resize(bytes.len(), garbage)?;

@@ -1,13 +1,17 @@
 //! A disk in memory that passes a number of calls and then fails every call.
 
-ghost use Rattle.std.specs.Prelude.{◌≡◌, ◌≤◌, ◌<◌, ◌+◌, ◌-◌, ◌⊎◌, ◌↔◌, ◌++◌, [], ◌∷◌, ℕ, min, Some, None, List, IsTrue, IsErr, is_err, IfOk, OnOk, OnErr, length, take, drop};
+ghost use Rattle.std.specs.Prelude.{◌≡◌, ◌≤◌, ◌<◌, ◌+◌, ◌-◌, ◌⊎◌, ◌↔◌, ◌++◌, [], ◌∷◌, ℕ, min, Some};
+ghost use Rattle.std.specs.Prelude.{None, List, IsTrue, IsErr, is_err, IfOk, OnOk, OnErr, length};
+ghost use Rattle.std.specs.Prelude.{take, drop};
 ghost use Rattle.std.specs.Option.{ForSome, ForNone};
-ghost use Rattle.disk_model.specs.Disk.{Torn, IsWritten, Follows, Only, AddsNothing, Elapses, AreCalls, HasCause};
+ghost use Rattle.disk_model.specs.Disk.{Torn, IsWritten, Follows, Only, AddsNothing, Elapses};
+ghost use Rattle.disk_model.specs.Disk.{AreCalls, HasCause};
 ghost use Rattle.disk_model.specs.Record.{Wrote, Synced};
 
 use crate::{Disk, Failed, MemDisk};
 
-/// A disk in memory that passes a number of calls to the disk within and then fails every call, as if the power had gone.
+/// A disk in memory that passes a number of calls to the disk within and then fails every call, as
+/// if the power had gone.
 #[derive(Drop)]
 pub struct FuseDisk {
     inner: MemDisk,
@@ -26,7 +30,8 @@ impl FuseDisk {
         ensures inner { inner_of result ≡ inner }
         ensures passes { passes_of result ≡ passes }
         // its counts are those of the disk within
-        ensures unblown { (calls_of result ≡ mem_calls inner) × (faults_of result ≡ mem_faults inner) }
+        ensures unblown { (calls_of result ≡ mem_calls inner)
+            × (faults_of result ≡ mem_faults inner) }
     {
         FuseDisk {
             inner,
@@ -57,8 +62,11 @@ impl FuseDisk {
 }
 
 impl Disk for FuseDisk {
-    ghost use Rattle.disk_model.specs.MemDisk.{content_of, steps_in, images_of, moment_of, left_of, FailsNext, IsWornOut, Outgrows, HasSameRecord, tells_truth, counts, only};
-    ghost use Rattle.disk_model.specs.FuseDisk.{inner_of, passes_of, calls_of, faults_of, HasPassed};
+    ghost use Rattle.disk_model.specs.MemDisk.{content_of, steps_in, images_of, moment_of, left_of};
+    ghost use Rattle.disk_model.specs.MemDisk.{FailsNext, IsWornOut, Outgrows, HasSameRecord};
+    ghost use Rattle.disk_model.specs.MemDisk.{tells_truth, counts, only};
+    ghost use Rattle.disk_model.specs.FuseDisk.{inner_of, passes_of, calls_of, faults_of};
+    ghost use Rattle.disk_model.specs.FuseDisk.{HasPassed};
 
     ghost content = { λ d. Some (content_of (inner_of d)) };
 
@@ -79,10 +87,15 @@ impl Disk for FuseDisk {
     ghost only_now = { λ d. only (inner_of d) };
 
     fn len(&mut self) -> Result<u64, Failed>
-        ensures told { ForSome (Some (content_of (inner_of self.old))) (λ bytes. IfOk result (λ n. n ≡ length bytes)) }
-        ensures same { Some (content_of (inner_of self.new)) ≡ Some (content_of (inner_of self.old)) }
-        ensures crash { AddsNothing (images_of (inner_of self.old)) (images_of (inner_of self.new)) }
-        ensures time { Elapses (moment_of (inner_of self.old)) (moment_of (inner_of self.new)) (left_of (inner_of self.old)) (left_of (inner_of self.new)) (images_of (inner_of self.new)) }
+        ensures told { ForSome (Some (content_of (inner_of self.old)))
+            (λ bytes. IfOk result (λ n. n ≡ length bytes)) }
+        ensures same { Some (content_of (inner_of self.new))
+            ≡ Some (content_of (inner_of self.old)) }
+        ensures crash { AddsNothing (images_of (inner_of self.old))
+            (images_of (inner_of self.new)) }
+        ensures time { Elapses (moment_of (inner_of self.old)) (moment_of (inner_of self.new))
+            (left_of (inner_of self.old)) (left_of (inner_of self.new))
+            (images_of (inner_of self.new)) }
         ensures one_call { AreCalls 1 (calls_of self.old) (calls_of self.new) }
         ensures cause { HasCause (faults_of self.old) (faults_of self.new) result }
 
@@ -97,11 +110,17 @@ impl Disk for FuseDisk {
     }
 
     fn read(&mut self, at: u64, buf: &mut [u8]) -> Result<usize, Failed>
-        ensures told { ForSome (Some (content_of (inner_of self.old))) (λ bytes. IfOk result (λ n. (n ≡ min (length buf.old) (length bytes - at)) × (buf.new ≡ take n (drop at bytes) ++ drop n buf.old))) }
+        ensures told { ForSome (Some (content_of (inner_of self.old)))
+            (λ bytes. IfOk result (λ n. (n ≡ min (length buf.old) (length bytes - at))
+            × (buf.new ≡ take n (drop at bytes) ++ drop n buf.old))) }
         ensures fits { IfOk result (λ n. n ≤ length buf.old) }
-        ensures same { Some (content_of (inner_of self.new)) ≡ Some (content_of (inner_of self.old)) }
-        ensures crash { AddsNothing (images_of (inner_of self.old)) (images_of (inner_of self.new)) }
-        ensures time { Elapses (moment_of (inner_of self.old)) (moment_of (inner_of self.new)) (left_of (inner_of self.old)) (left_of (inner_of self.new)) (images_of (inner_of self.new)) }
+        ensures same { Some (content_of (inner_of self.new))
+            ≡ Some (content_of (inner_of self.old)) }
+        ensures crash { AddsNothing (images_of (inner_of self.old))
+            (images_of (inner_of self.new)) }
+        ensures time { Elapses (moment_of (inner_of self.old)) (moment_of (inner_of self.new))
+            (left_of (inner_of self.old)) (left_of (inner_of self.new))
+            (images_of (inner_of self.new)) }
         ensures one_call { AreCalls 1 (calls_of self.old) (calls_of self.new) }
         ensures cause { HasCause (faults_of self.old) (faults_of self.new) result }
 
@@ -118,38 +137,52 @@ impl Disk for FuseDisk {
 
     fn write_at(&mut self, at: u64, bytes: &[u8]) -> Result<(), Failed>
         requires { ForSome (Some (content_of (inner_of self.old))) (λ old. at ≤ length old) }
-        ensures written { ForSome (Some (content_of (inner_of self.old))) (λ old. IsWritten at bytes.now old (Some (content_of (inner_of self.new))) result) }
-        ensures silent { ForNone (Some (content_of (inner_of self.old))) (Some (content_of (inner_of self.new)) ≡ None) }
-        ensures crash { Follows (Torn at (length bytes.now)) (images_of (inner_of self.old)) (images_of (inner_of self.new)) }
-        ensures time { Elapses (moment_of (inner_of self.old)) (moment_of (inner_of self.new)) (left_of (inner_of self.old)) (left_of (inner_of self.new)) (images_of (inner_of self.new)) }
+        ensures written { ForSome (Some (content_of (inner_of self.old)))
+            (λ old. IsWritten at bytes.now old (Some (content_of (inner_of self.new))) result) }
+        ensures silent { ForNone (Some (content_of (inner_of self.old)))
+            (Some (content_of (inner_of self.new)) ≡ None) }
+        ensures crash { Follows (Torn at (length bytes.now)) (images_of (inner_of self.old))
+            (images_of (inner_of self.new)) }
+        ensures time { Elapses (moment_of (inner_of self.old)) (moment_of (inner_of self.new))
+            (left_of (inner_of self.old)) (left_of (inner_of self.new))
+            (images_of (inner_of self.new)) }
         ensures one_call { AreCalls 1 (calls_of self.old) (calls_of self.new) }
         ensures cause { HasCause (faults_of self.old) (faults_of self.new) result }
 
         // It fails exactly where no pass is left, or the disk within fails.
-        ensures exact { IsErr result ↔ ((passes_of self.old ≡ 0) ⊎ FailsNext (inner_of self.old) ⊎ Outgrows (inner_of self.old) at (length bytes.now) ⊎ IsWornOut (inner_of self.old)) }
+        ensures exact { IsErr result ↔ ((passes_of self.old ≡ 0) ⊎ FailsNext (inner_of self.old)
+            ⊎ Outgrows (inner_of self.old) at (length bytes.now) ⊎ IsWornOut (inner_of self.old)) }
         ensures passed { passes_of self.new ≡ passes_of self.old - 1 }
         ensures once { HasPassed self.old self.new (is_err result) }
         ensures kept { OnErr result (HasSameRecord (inner_of self.old) (inner_of self.new)) }
-        ensures noted { OnOk result (steps_in (inner_of self.new) ≡ steps_in (inner_of self.old) ++ Wrote at bytes.now ∷ []) }
+        ensures noted { OnOk result (steps_in (inner_of self.new) ≡ steps_in (inner_of self.old)
+            ++ Wrote at bytes.now ∷ []) }
     {
         self.burn()?;
         self.inner.write_at(at, bytes)
     }
 
     fn sync(&mut self) -> Result<(), Failed>
-        ensures durable { ForSome (Some (content_of (inner_of self.old))) (λ bytes. OnOk result (Only bytes (images_of (inner_of self.new)))) }
-        ensures same { Some (content_of (inner_of self.new)) ≡ Some (content_of (inner_of self.old)) }
-        ensures crash { AddsNothing (images_of (inner_of self.old)) (images_of (inner_of self.new)) }
-        ensures time { Elapses (moment_of (inner_of self.old)) (moment_of (inner_of self.new)) (left_of (inner_of self.old)) (left_of (inner_of self.new)) (images_of (inner_of self.new)) }
+        ensures durable { ForSome (Some (content_of (inner_of self.old)))
+            (λ bytes. OnOk result (Only bytes (images_of (inner_of self.new)))) }
+        ensures same { Some (content_of (inner_of self.new))
+            ≡ Some (content_of (inner_of self.old)) }
+        ensures crash { AddsNothing (images_of (inner_of self.old))
+            (images_of (inner_of self.new)) }
+        ensures time { Elapses (moment_of (inner_of self.old)) (moment_of (inner_of self.new))
+            (left_of (inner_of self.old)) (left_of (inner_of self.new))
+            (images_of (inner_of self.new)) }
         ensures one_call { AreCalls 1 (calls_of self.old) (calls_of self.new) }
         ensures cause { HasCause (faults_of self.old) (faults_of self.new) result }
 
         // It fails exactly where no pass is left, or the disk within fails.
-        ensures exact { IsErr result ↔ ((passes_of self.old ≡ 0) ⊎ FailsNext (inner_of self.old) ⊎ IsWornOut (inner_of self.old)) }
+        ensures exact { IsErr result ↔ ((passes_of self.old ≡ 0) ⊎ FailsNext (inner_of self.old)
+            ⊎ IsWornOut (inner_of self.old)) }
         ensures passed { passes_of self.new ≡ passes_of self.old - 1 }
         ensures once { HasPassed self.old self.new (is_err result) }
         ensures kept { OnErr result (HasSameRecord (inner_of self.old) (inner_of self.new)) }
-        ensures noted { OnOk result (steps_in (inner_of self.new) ≡ steps_in (inner_of self.old) ++ Synced ∷ []) }
+        ensures noted { OnOk result
+            (steps_in (inner_of self.new) ≡ steps_in (inner_of self.old) ++ Synced ∷ []) }
     {
         self.burn()?;
         self.inner.sync()

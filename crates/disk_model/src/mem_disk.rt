@@ -1,8 +1,12 @@
-//! A disk in memory. It keeps a record of its writes and syncs, so what a crash may leave is real data.
+//! A disk in memory. It keeps a record of its writes and syncs, so what a crash may leave is real
+//! data.
 
-ghost use Rattle.std.specs.Prelude.{◌≡◌, ◌≤◌, ◌<◌, ◌+◌, ◌-◌, ◌⊎◌, ◌↔◌, ◌++◌, [], ◌∷◌, ℕ, min, Some, None, List, Bool, IsTrue, IsFalse, IsErr, is_err, IfOk, OnOk, OnErr, All, length, take, drop};
+ghost use Rattle.std.specs.Prelude.{◌≡◌, ◌≤◌, ◌<◌, ◌+◌, ◌-◌, ◌⊎◌, ◌↔◌, ◌++◌, [], ◌∷◌, ℕ, min, Some};
+ghost use Rattle.std.specs.Prelude.{None, List, Bool, IsTrue, IsFalse, IsErr, is_err, IfOk, OnOk};
+ghost use Rattle.std.specs.Prelude.{OnErr, All, length, take, drop};
 ghost use Rattle.std.specs.Option.{ForSome, ForNone};
-ghost use Rattle.disk_model.specs.Disk.{Torn, IsWritten, Follows, Only, AddsNothing, Elapses, AreCalls, HasCause};
+ghost use Rattle.disk_model.specs.Disk.{Torn, IsWritten, Follows, Only, AddsNothing, Elapses};
+ghost use Rattle.disk_model.specs.Disk.{AreCalls, HasCause};
 ghost use Rattle.disk_model.specs.Record.{Wrote, Synced};
 ghost use Rattle.disk_model.specs.Crash.{AreImages, HaveCuts};
 
@@ -10,8 +14,8 @@ use crate::tape::Tape;
 use crate::{Disk, Failed, Memory};
 use std::alloc::Global;
 
-/// How much a disk in memory holds: the bytes of its file, which also bound the bytes of all its writes together, and the
-/// number of its writes and syncs.
+/// How much a disk in memory holds: the bytes of its file, which also bound the bytes of all its
+/// writes together, and the number of its writes and syncs.
 #[derive(Clone, Copy, Debug, PartialEq, Eq)]
 pub struct Room {
     pub bytes: u32,
@@ -20,8 +24,8 @@ pub struct Room {
 
 /// A disk in memory that tells everything.
 ///
-/// A call fails exactly where its number, from 0, is one of those that fail, or where no room is left for it. A call that
-/// fails changes nothing but the counts. No call takes memory.
+/// A call fails exactly where its number, from 0, is one of those that fail, or where no room is
+/// left for it. A call that fails changes nothing but the counts. No call takes memory.
 #[derive(Drop)]
 pub struct MemDisk {
     tape: Tape,
@@ -34,9 +38,12 @@ pub struct MemDisk {
 }
 
 impl MemDisk {
-    ghost use Rattle.disk_model.specs.MemDisk.{content_of, start_of, steps_in, moment_of, room_of, IsFresh, FailsNext, HasSameRecord, IsCounted, Outgrows, IsWornOut};
+    ghost use Rattle.disk_model.specs.MemDisk.{content_of, start_of, steps_in, moment_of, room_of};
+    ghost use Rattle.disk_model.specs.MemDisk.{IsFresh, FailsNext, HasSameRecord, IsCounted};
+    ghost use Rattle.disk_model.specs.MemDisk.{Outgrows, IsWornOut};
 
-    /// A disk with these bytes, all of them durable, whose calls with these numbers fail. All memory is taken here.
+    /// A disk with these bytes, all of them durable, whose calls with these numbers fail. All
+    /// memory is taken here.
     pub fn new(
         alloc: Global,
         content: Vec<u8>,
@@ -62,7 +69,8 @@ impl MemDisk {
         &self.tape.content
     }
 
-    /// How many writes and syncs were made. They part the time of the disk into moments: after none, after the first, ..
+    /// How many writes and syncs were made. They part the time of the disk into moments: after
+    /// none, after the first, ..
     #[tactic(auto, using(crate::proofs::Replays::steps_count))]
     pub fn moments(&self) -> usize
         ensures { result ≡ moment_of self.now }
@@ -70,9 +78,10 @@ impl MemDisk {
         self.tape.marks.len()
     }
 
-    /// For tests: contents that a crash right after so many writes and syncs may leave. Of each write since the last sync
-    /// before it there are: nothing, its first bytes, for each number of them, with what stood there before behind them or
-    /// with garbage in the place of the others, and all of it; and of writes in a row each with each.
+    /// For tests: contents that a crash right after so many writes and syncs may leave. Of each
+    /// write since the last sync before it there are: nothing, its first bytes, for each number of
+    /// them, with what stood there before behind them or with garbage in the place of the others,
+    /// and all of it; and of writes in a row each with each.
     #[tactic(auto, using(crate::proofs::Replays::steps_count))]
     pub fn images_at(
         &self,
@@ -81,14 +90,17 @@ impl MemDisk {
         garbage: u8,
     ) -> Result<Vec<Vec<u8>>, Memory>
         requires { moment ≤ moment_of self.now }
-        ensures each { IfOk result (λ images. AreImages (start_of self.now) (take moment (steps_in self.now)) images.items) }
+        ensures each { IfOk result (λ images.
+            AreImages (start_of self.now) (take moment (steps_in self.now)) images.items) }
         // each write since the last sync may have been cut short anywhere
-        ensures cuts { IfOk result (λ images. HaveCuts (start_of self.now) (take moment (steps_in self.now)) images.items) }
+        ensures cuts { IfOk result (λ images.
+            HaveCuts (start_of self.now) (take moment (steps_in self.now)) images.items) }
     {
         Ok(self.tape.images_at(alloc, moment, garbage)?)
     }
 
-    /// Begins a call: it is counted, and fails where its number is one of those that fail, or where it has no room.
+    /// Begins a call: it is counted, and fails where its number is one of those that fail, or where
+    /// it has no room.
     fn begin(&mut self, has_room: bool) -> Result<(), Failed>
         ensures exact { IsErr result ↔ (FailsNext self.old ⊎ IsFalse has_room) }
         ensures counted { IsCounted self.old self.new (is_err result) }
@@ -123,7 +135,10 @@ impl MemDisk {
 }
 
 impl Disk for MemDisk {
-    ghost use Rattle.disk_model.specs.MemDisk.{content_of, start_of, steps_in, images_of, moment_of, left_of, calls_of, faults_of, FailsNext, IsWornOut, Outgrows, HasSameRecord, IsCounted, tells_truth, counts, only};
+    ghost use Rattle.disk_model.specs.MemDisk.{content_of, start_of, steps_in, images_of};
+    ghost use Rattle.disk_model.specs.MemDisk.{moment_of, left_of, calls_of, faults_of, FailsNext};
+    ghost use Rattle.disk_model.specs.MemDisk.{IsWornOut, Outgrows, HasSameRecord, IsCounted};
+    ghost use Rattle.disk_model.specs.MemDisk.{tells_truth, counts, only};
 
     ghost content = { λ d. Some (content_of d) };
 
@@ -144,10 +159,12 @@ impl Disk for MemDisk {
     ghost only_now = { only };
 
     fn len(&mut self) -> Result<u64, Failed>
-        ensures told { ForSome (Some (content_of self.old)) (λ bytes. IfOk result (λ n. n ≡ length bytes)) }
+        ensures told { ForSome (Some (content_of self.old))
+            (λ bytes. IfOk result (λ n. n ≡ length bytes)) }
         ensures same { Some (content_of self.new) ≡ Some (content_of self.old) }
         ensures crash { AddsNothing (images_of self.old) (images_of self.new) }
-        ensures time { Elapses (moment_of self.old) (moment_of self.new) (left_of self.old) (left_of self.new) (images_of self.new) }
+        ensures time { Elapses (moment_of self.old) (moment_of self.new) (left_of self.old)
+            (left_of self.new) (images_of self.new) }
         ensures one_call { AreCalls 1 (calls_of self.old) (calls_of self.new) }
         ensures cause { HasCause (faults_of self.old) (faults_of self.new) result }
 
@@ -161,11 +178,14 @@ impl Disk for MemDisk {
     }
 
     fn read(&mut self, at: u64, buf: &mut [u8]) -> Result<usize, Failed>
-        ensures told { ForSome (Some (content_of self.old)) (λ bytes. IfOk result (λ n. (n ≡ min (length buf.old) (length bytes - at)) × (buf.new ≡ take n (drop at bytes) ++ drop n buf.old))) }
+        ensures told { ForSome (Some (content_of self.old))
+            (λ bytes. IfOk result (λ n. (n ≡ min (length buf.old) (length bytes - at))
+            × (buf.new ≡ take n (drop at bytes) ++ drop n buf.old))) }
         ensures fits { IfOk result (λ n. n ≤ length buf.old) }
         ensures same { Some (content_of self.new) ≡ Some (content_of self.old) }
         ensures crash { AddsNothing (images_of self.old) (images_of self.new) }
-        ensures time { Elapses (moment_of self.old) (moment_of self.new) (left_of self.old) (left_of self.new) (images_of self.new) }
+        ensures time { Elapses (moment_of self.old) (moment_of self.new) (left_of self.old)
+            (left_of self.new) (images_of self.new) }
         ensures one_call { AreCalls 1 (calls_of self.old) (calls_of self.new) }
         ensures cause { HasCause (faults_of self.old) (faults_of self.new) result }
 
@@ -181,19 +201,25 @@ impl Disk for MemDisk {
 
     fn write_at(&mut self, at: u64, bytes: &[u8]) -> Result<(), Failed>
         requires { ForSome (Some (content_of self.old)) (λ old. at ≤ length old) }
-        ensures written { ForSome (Some (content_of self.old)) (λ old. IsWritten at bytes.now old (Some (content_of self.new)) result) }
+        ensures written { ForSome (Some (content_of self.old))
+            (λ old. IsWritten at bytes.now old (Some (content_of self.new)) result) }
         ensures silent { ForNone (Some (content_of self.old)) (Some (content_of self.new) ≡ None) }
-        ensures crash { Follows (Torn at (length bytes.now)) (images_of self.old) (images_of self.new) }
-        ensures time { Elapses (moment_of self.old) (moment_of self.new) (left_of self.old) (left_of self.new) (images_of self.new) }
+        ensures crash { Follows (Torn at (length bytes.now)) (images_of self.old)
+            (images_of self.new) }
+        ensures time { Elapses (moment_of self.old) (moment_of self.new) (left_of self.old)
+            (left_of self.new) (images_of self.new) }
         ensures one_call { AreCalls 1 (calls_of self.old) (calls_of self.new) }
         ensures cause { HasCause (faults_of self.old) (faults_of self.new) result }
 
-        // It fails exactly where its number is one of those, or no room is left, and then changes nothing but the counts.
-        ensures exact { IsErr result ↔ (FailsNext self.old ⊎ Outgrows self.old at (length bytes.now) ⊎ IsWornOut self.old) }
+        // It fails exactly where its number is one of those, or no room is left, and then changes
+        // nothing but the counts.
+        ensures exact { IsErr result
+            ↔ (FailsNext self.old ⊎ Outgrows self.old at (length bytes.now) ⊎ IsWornOut self.old) }
         ensures counted { IsCounted self.old self.new (is_err result) }
         ensures kept { OnErr result (HasSameRecord self.old self.new) }
         ensures start { start_of self.new ≡ start_of self.old }
-        ensures noted { OnOk result (steps_in self.new ≡ steps_in self.old ++ Wrote at bytes.now ∷ []) }
+        ensures noted { OnOk result
+            (steps_in self.new ≡ steps_in self.old ++ Wrote at bytes.now ∷ []) }
     {
         self.begin(self.has_room_to_write(at, bytes.len()))?;
         self.tape.write(at as usize, bytes);
@@ -201,14 +227,17 @@ impl Disk for MemDisk {
     }
 
     fn sync(&mut self) -> Result<(), Failed>
-        ensures durable { ForSome (Some (content_of self.old)) (λ bytes. OnOk result (Only bytes (images_of self.new))) }
+        ensures durable { ForSome (Some (content_of self.old))
+            (λ bytes. OnOk result (Only bytes (images_of self.new))) }
         ensures same { Some (content_of self.new) ≡ Some (content_of self.old) }
         ensures crash { AddsNothing (images_of self.old) (images_of self.new) }
-        ensures time { Elapses (moment_of self.old) (moment_of self.new) (left_of self.old) (left_of self.new) (images_of self.new) }
+        ensures time { Elapses (moment_of self.old) (moment_of self.new) (left_of self.old)
+            (left_of self.new) (images_of self.new) }
         ensures one_call { AreCalls 1 (calls_of self.old) (calls_of self.new) }
         ensures cause { HasCause (faults_of self.old) (faults_of self.new) result }
 
-        // It fails exactly where its number is one of those, or no room is left, and then changes nothing but the counts.
+        // It fails exactly where its number is one of those, or no room is left, and then changes
+        // nothing but the counts.
         ensures exact { IsErr result ↔ (FailsNext self.old ⊎ IsWornOut self.old) }
         ensures counted { IsCounted self.old self.new (is_err result) }
         ensures kept { OnErr result (HasSameRecord self.old self.new) }

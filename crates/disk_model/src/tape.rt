@@ -1,7 +1,9 @@
 //! A file in memory and the record of its writes and syncs, in room that is taken at the start.
 
-ghost use Rattle.std.specs.Prelude.{◌≡◌, ◌≤◌, ◌<◌, ◌+◌, [], ◌∷◌, ◌++◌, IsTrue, IfOk, length, vec_len, vec_capacity};
-ghost use Rattle.disk_model.specs.Record.{put, content_after, are_within, steps_of, bytes_in, Wrote, Synced};
+ghost use Rattle.std.specs.Prelude.{◌≡◌, ◌≤◌, ◌<◌, ◌+◌, [], ◌∷◌, ◌++◌, IsTrue, IfOk, length};
+ghost use Rattle.std.specs.Prelude.{vec_len, vec_capacity};
+ghost use Rattle.disk_model.specs.Record.{put, content_after, are_within, steps_of, bytes_in};
+ghost use Rattle.disk_model.specs.Record.{Wrote, Synced};
 
 use crate::Room;
 use std::alloc::{AllocError, Global};
@@ -62,7 +64,8 @@ impl Tape {
     pub(crate) fn write(&mut self, at: usize, bytes: &[u8])
         requires within { at ≤ length self.old.content.items }
         requires fits { at + length bytes.now ≤ self.old.room.bytes }
-        requires written_fits { length self.old.written.items + length bytes.now ≤ self.old.room.bytes }
+        requires written_fits { length self.old.written.items + length bytes.now
+            ≤ self.old.room.bytes }
         requires marks_fit { length (tape_steps self.old) < self.old.room.calls }
         ensures start { self.new.start.items ≡ self.old.start.items }
         ensures room { self.new.room ≡ self.old.room }

@@ -1,5 +1,6 @@
 -- Domains that are ready for the search below a prefix.
-use Rattle.std.specs.Prelude.{ℕ, ◌<◌, ◌≤◌, ◌+◌, ◌==◌, ◌≡◌, true, false, List, [], ◌∷◌, ◌++◌, length, take, slice_index_or, slice_set, Option}
+use Rattle.std.specs.Prelude.{ℕ, ◌<◌, ◌≤◌, ◌+◌, ◌==◌, ◌≡◌, true, false, List, [], ◌∷◌, ◌++◌, length}
+use Rattle.std.specs.Prelude.{take, slice_index_or, slice_set, Option}
 use Rattle.std.specs.List.{filter}
 use Rattle.assign.specs.Assignment.{Assignment, assigned}
 use Rattle.assign.specs.Sets.{has}
@@ -21,7 +22,8 @@ IsReady l list against e f = IsPropagated l (arcs_of l list against) (left_by l 
 abbrev pub fixed : Family → ℕ → ℕ → Family
 fixed f v x = slice_set f v (filter (λ y. x == y) (slice_index_or f v []))
 
--- rows of a family and entailed conditions each, for each depth the number of its row, and what is known of all conditions
+-- rows of a family and entailed conditions each, for each depth the number of its row, and what is
+-- known of all conditions
 pub record Room : Type 0 where
   pub depths : List Family
   pub entailed : List Entailed
@@ -72,20 +74,28 @@ pub record IsCopied (old new : Room) (at below : ℕ) : Type 0 where
 
 -- ---- the room is ready for the search below a prefix
 
--- What is left at the depth k of the prefix q, where the values from x on are still to be tried, stands in the depth's row. A number past
--- the depth says that it has none, as no such value is alive.
-pub record IsLeft (l : Language) (list : List Candidate) (against : Option Candidate) (order : List ℕ) (w : Room) (k : ℕ) (q : List ℕ) (x : ℕ) : Type 0 where
-  pub ready : depth_row w k ≤ k → IsReady l list against (assigned (variable_count l) order q) (family_of w k)
-  pub entailed : depth_row w k ≤ k → (e : Entailed) → AreEntailed (arcs_of l list against) w.plan (slice_index_or w.entailed (depth_row w k) e) (family_of w k)
-  pub spent : k < depth_row w k → (y : ℕ) → x ≤ y → is_alive_in l list against order (q ++ y ∷ []) ≡ false
+-- What is left at the depth k of the prefix q, where the values from x on are still to be tried,
+-- stands in the depth's row. A number past the depth says that it has none, as no such value is
+-- alive.
+pub record IsLeft (l : Language) (list : List Candidate) (against : Option Candidate)
+    (order : List ℕ) (w : Room) (k : ℕ) (q : List ℕ) (x : ℕ) : Type 0 where
+  pub ready : depth_row w k ≤ k →
+      IsReady l list against (assigned (variable_count l) order q) (family_of w k)
+  pub entailed : depth_row w k ≤ k → (e : Entailed) → AreEntailed (arcs_of l list against) w.plan
+      (slice_index_or w.entailed (depth_row w k) e) (family_of w k)
+  pub spent : k < depth_row w k → (y : ℕ) → x ≤ y →
+      is_alive_in l list against order (q ++ y ∷ []) ≡ false
 
 -- at the prefix's depth the values from x on are still to be tried
-pub record IsArranged (l : Language) (list : List Candidate) (against : Option Candidate) (order : List ℕ) (p : List ℕ) (x : ℕ) (w : Room) : Type 0 where
+pub record IsArranged (l : Language) (list : List Candidate) (against : Option Candidate)
+    (order : List ℕ) (p : List ℕ) (x : ℕ) (w : Room) : Type 0 where
   pub here : IsLeft l list against order w (length p) p x
   -- above it those past the prefix's
-  pub above : (k : ℕ) → k < length p → IsLeft l list against order w k (take k p) (slice_index_or p k 0 + 1)
+  pub above : (k : ℕ) → k < length p →
+      IsLeft l list against order w k (take k p) (slice_index_or p k 0 + 1)
   -- no two depths have the same row
-  pub rising : (j k : ℕ) → j < k → k ≤ length p → depth_row w j ≤ j → depth_row w k ≤ k → depth_row w j < depth_row w k
+  pub rising : (j k : ℕ) → j < k → k ≤ length p → depth_row w j ≤ j → depth_row w k ≤ k →
+      depth_row w j < depth_row w k
   pub plan : IsPlanOf l (arcs_of l list against) w.plan
   -- with a row for no value and for each number of values
   pub deep : variable_count l < length w.depths

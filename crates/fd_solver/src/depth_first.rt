@@ -13,13 +13,14 @@ use propagators::{Constraints, Index};
 
 /// Looks at the first members of the walk, as many as the budget says, for a complete one.
 ///
-/// The order lists each variable once. The walk's members are the alive prefixes in this order, in preorder, values
-/// rising, from the empty prefix on.
+/// The order lists each variable once. The walk's members are the alive prefixes in this order, in
+/// preorder, values rising, from the empty prefix on.
 pub fn search(work: &mut Work, cons: &Constraints, order: &[u8], budget: u32) -> Outcome
     requires constraints { AreConstraints cons.now.lang.now cons.now.list.now cons.now.against }
     requires order { IsOrder (variable_count cons.now.lang.now) order.now }
     requires budget { 1 ≤ budget }
-    ensures { result ≡ search_outcome cons.now.lang.now cons.now.list.now cons.now.against order.now budget }
+    ensures { result
+        ≡ search_outcome cons.now.lang.now cons.now.list.now cons.now.against order.now budget }
 {
     let n = cons.lang.n();
     if work.begin(cons) {
@@ -41,7 +42,8 @@ pub fn search_with(
     requires constraints { AreConstraints cons.now.lang.now cons.now.list.now cons.now.against }
     requires order { IsOrder (variable_count cons.now.lang.now) order.now }
     requires budget { 1 ≤ budget }
-    ensures { result ≡ search_outcome cons.now.lang.now cons.now.list.now cons.now.against order.now budget }
+    ensures { result
+        ≡ search_outcome cons.now.lang.now cons.now.list.now cons.now.against order.now budget }
 {
     let n = cons.lang.n();
     if work.begin_with(cons, index) {
@@ -57,9 +59,12 @@ fn walk(work: &mut Work, cons: &Constraints, order: &[u8], n: u8, budget: u32) -
     requires constraints { AreConstraints cons.now.lang.now cons.now.list.now cons.now.against }
     requires order { IsOrder (variable_count cons.now.lang.now) order.now }
     requires budget { 1 ≤ budget }
-    requires alive { is_alive_in cons.now.lang.now cons.now.list.now cons.now.against order.now [] ≡ true }
-    requires ready { IsArranged cons.now.lang.now cons.now.list.now cons.now.against order.now [] 0 work.old }
-    ensures { result ≡ search_outcome cons.now.lang.now cons.now.list.now cons.now.against order.now budget }
+    requires alive { is_alive_in cons.now.lang.now cons.now.list.now cons.now.against order.now []
+        ≡ true }
+    requires ready { IsArranged cons.now.lang.now cons.now.list.now cons.now.against order.now [] 0
+        work.old }
+    ensures { result
+        ≡ search_outcome cons.now.lang.now cons.now.list.now cons.now.against order.now budget }
 {
     let d = cons.lang.d();
     let mut e = Partial::blank(n);

@@ -1,6 +1,9 @@
-//! Laws of outcomes and of the order of a candidate. They are claims alone: these functions do nothing.
+//! Laws of outcomes and of the order of a candidate. They are claims alone: these functions do
+//! nothing.
 
-ghost use Rattle.fd_solver.specs.Laws.{OrdersAreKnown, AbsentIsImplied, SpentIsLong, PlainIsLess, FoundIsLawful, AbsentStays, FoundStays, AliveIsPlain, AliveIsAllowed, WholeIsAlive};
+ghost use Rattle.fd_solver.specs.Laws.{OrdersAreKnown, AbsentIsImplied, SpentIsLong, PlainIsLess};
+ghost use Rattle.fd_solver.specs.Laws.{FoundIsLawful, AbsentStays, FoundStays, AliveIsPlain};
+ghost use Rattle.fd_solver.specs.Laws.{AliveIsAllowed, WholeIsAlive};
 
 /// A candidate's scope and then the other variables have each variable once.
 pub fn orders_are_known()
@@ -32,18 +35,20 @@ pub fn absent_stays()
     ensures { AbsentStays }
 {}
 
-/// What a search finds is found too when the network has grown by candidates that accept it, under the same budget.
+/// What a search finds is found too when the network has grown by candidates that accept it, under
+/// the same budget.
 pub fn found_stays()
     ensures { FoundStays }
 {}
 
-/// An alive prefix is plain: its values are their variables', it violates nothing of the network and doesn't satisfy the
-/// candidate.
+/// An alive prefix is plain: its values are their variables', it violates nothing of the network
+/// and doesn't satisfy the candidate.
 pub fn alive_is_plain()
     ensures { AliveIsPlain }
 {}
 
-/// In any order an alive prefix violates nothing of the list, and doesn't satisfy the candidate against it, if there is one.
+/// In any order an alive prefix violates nothing of the list, and doesn't satisfy the candidate
+/// against it, if there is one.
 pub fn alive_is_allowed()
     ensures { AliveIsAllowed }
 {}

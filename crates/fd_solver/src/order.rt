@@ -9,8 +9,8 @@ use language::{Candidate, Language};
 /// A scope of 4 variables and 128 others, more than any order has.
 const ROOM: usize = 132;
 
-/// The order in which a search against a candidate gives values: the variables of its scope, and then the others in
-/// vocabulary order.
+/// The order in which a search against a candidate gives values: the variables of its scope, and
+/// then the others in vocabulary order.
 pub fn order_of(lang: &Language, c: Candidate) -> ArrayVec<u8, ROOM>
     requires { IsCandidate lang.now c }
     ensures is { result.items ≡ order_of lang.now c }

@@ -1,4 +1,6 @@
-ghost use Rattle.std.specs.Prelude.{◌≡◌, ◌<◌, ◌≤◌, ◌+◌, ◌++◌, ℕ, IfOk, ◌∷◌, [], true, false, None, length, replicate, slice_index_or, slice_set, vec_len, vec_capacity};
+ghost use Rattle.std.specs.Prelude.{◌≡◌, ◌<◌, ◌≤◌, ◌+◌, ◌++◌, ℕ, IfOk, ◌∷◌, [], true, false, None};
+ghost use Rattle.std.specs.Prelude.{length, replicate, slice_index_or, slice_set, vec_len};
+ghost use Rattle.std.specs.Prelude.{vec_capacity};
 ghost use Rattle.assign.specs.Sets.{has};
 ghost use Rattle.language.specs.Language.{IsLanguage, variable_count};
 ghost use Rattle.propagators.specs.Allowed.{AreConstraints};
@@ -9,7 +11,8 @@ ghost use Rattle.propagators.specs.Entailed.{AreEntailed};
 ghost use Rattle.propagators.specs.declared.entailed.Entailed.{Entailed};
 ghost use Rattle.propagators.specs.Propagated.{AreSome, IsPropagated, RunsEmpty};
 ghost use Rattle.fd_solver.specs.Outcomes.{IsOrder, is_alive_in};
-ghost use Rattle.fd_solver.specs.Ready.{IsReady, IsArranged, IsInRow, IsShared, IsCopied, depth_row, family_of, fixed, condition_room};
+ghost use Rattle.fd_solver.specs.Ready.{IsReady, IsArranged, IsInRow, IsShared, IsCopied};
+ghost use Rattle.fd_solver.specs.Ready.{depth_row, family_of, fixed, condition_room};
 
 use crate::stack::Stack;
 use assign::VarSet;
@@ -29,15 +32,18 @@ const NO_ROW: u8 = 129;
 /// The room of a search.
 #[derive(Drop)]
 pub struct Work {
-    /// Rows of the values that are left to the variables at a depth, where so many have one. There are as many as the searches so
-    /// far had depths, and room for all: memory that no search comes to is never touched.
+    /// Rows of the values that are left to the variables at a depth, where so many have one. There
+    /// are as many as the searches so far had depths, and room for all: memory that no search comes
+    /// to is never touched.
     depths: Vec<Domains>,
-    /// For each of these rows conditions that are entailed there, which needn't be looked at below it.
+    /// For each of these rows conditions that are entailed there, which needn't be looked at below
+    /// it.
     entailed: Vec<Entailed>,
-    /// For each depth the number of its row. While a depth has further values to try, the next depth gets a copy of its row, in the
-    /// row of that depth's own number. With its last value a depth needs its row no more: the next depth takes it over, and a
-    /// number past the depth says that it has none. So no row stands past its depth and no two depths share one: what is written
-    /// at a depth leaves those above as they are.
+    /// For each depth the number of its row. While a depth has further values to try, the next
+    /// depth gets a copy of its row, in the row of that depth's own number. With its last value a
+    /// depth needs its row no more: the next depth takes it over, and a number past the depth says
+    /// that it has none. So no row stands past its depth and no two depths share one: what is
+    /// written at a depth leaves those above as they are.
     rows: [u8; DEPTHS],
     /// What is known of the conditions.
     plan: Plan,
@@ -55,8 +61,8 @@ impl Model for Work {
     ghost invariant = { IsDeep };
 }
 
-/// Gives a variable one of its values, and takes the values away that don't go with it. Says whether each variable has one
-/// left.
+/// Gives a variable one of its values, and takes the values away that don't go with it. Says
+/// whether each variable has one left.
 fn narrow(
     cons: &Constraints,
     plan: &Plan,
@@ -67,15 +73,21 @@ fn narrow(
 ) -> bool
     requires lawful { IsLanguage cons.now.lang.now }
     requires constraints { AreConstraints cons.now.lang.now cons.now.list.now cons.now.against }
-    requires plan { IsPlanOf cons.now.lang.now (arcs_of cons.now.lang.now cons.now.list.now cons.now.against) plan.now }
+    requires plan { IsPlanOf cons.now.lang.now
+        (arcs_of cons.now.lang.now cons.now.list.now cons.now.against) plan.now }
     requires doms { AreSome cons.now.lang.now doms.old }
-    requires consistent { is_arc_consistent (arcs_of cons.now.lang.now cons.now.list.now cons.now.against) doms.old ≡ true }
-    requires entailed { AreEntailed (arcs_of cons.now.lang.now cons.now.list.now cons.now.against) plan.now entailed.old doms.old }
+    requires consistent { is_arc_consistent
+        (arcs_of cons.now.lang.now cons.now.list.now cons.now.against) doms.old ≡ true }
+    requires entailed { AreEntailed (arcs_of cons.now.lang.now cons.now.list.now cons.now.against)
+        plan.now entailed.old doms.old }
     requires known { v < variable_count cons.now.lang.now }
     requires there { has (slice_index_or doms.old v []) x ≡ true }
-    ensures alive { result ≡ true → IsPropagated cons.now.lang.now (arcs_of cons.now.lang.now cons.now.list.now cons.now.against) (fixed doms.old v x) doms.new }
-    ensures entailed { result ≡ true → AreEntailed (arcs_of cons.now.lang.now cons.now.list.now cons.now.against) plan.now entailed.new doms.new }
-    ensures dead { result ≡ false → RunsEmpty (arcs_of cons.now.lang.now cons.now.list.now cons.now.against) (fixed doms.old v x) }
+    ensures alive { result ≡ true → IsPropagated cons.now.lang.now (arcs_of cons.now.lang.now
+        cons.now.list.now cons.now.against) (fixed doms.old v x) doms.new }
+    ensures entailed { result ≡ true → AreEntailed (arcs_of cons.now.lang.now cons.now.list.now
+        cons.now.against) plan.now entailed.new doms.new }
+    ensures dead { result ≡ false → RunsEmpty
+        (arcs_of cons.now.lang.now cons.now.list.now cons.now.against) (fixed doms.old v x) }
 {
     if let Some(_only) = doms.only(v) {
         // It has this value already, and no other.
@@ -105,7 +117,8 @@ fn fill<T: Copy>(depths: &mut Vec<T>, item: T, deepest: usize)
 fn copy_down(depths: &mut Vec<Domains>, from: usize, to: usize)
     requires below { from < to }
     requires there { to < vec_len depths.old }
-    ensures is { depths.new.items ≡ slice_set depths.old.items to (slice_index_or depths.old.items from []) }
+    ensures is { depths.new.items
+        ≡ slice_set depths.old.items to (slice_index_or depths.old.items from []) }
     ensures room { vec_capacity depths.new ≡ vec_capacity depths.old }
 {
     let (front, rest) = depths.split_at_mut(to);
@@ -116,7 +129,8 @@ fn copy_down(depths: &mut Vec<Domains>, from: usize, to: usize)
 fn copy_known(entailed: &mut Vec<Entailed>, from: usize, to: usize)
     requires below { from < to }
     requires there { to < vec_len entailed.old }
-    ensures is { (e : Entailed) → entailed.new.items ≡ slice_set entailed.old.items to (slice_index_or entailed.old.items from e) }
+    ensures is { (e : Entailed) → entailed.new.items
+        ≡ slice_set entailed.old.items to (slice_index_or entailed.old.items from e) }
     ensures size { vec_len entailed.new ≡ vec_len entailed.old }
     ensures room { vec_capacity entailed.new ≡ vec_capacity entailed.old }
 {
@@ -125,8 +139,8 @@ fn copy_known(entailed: &mut Vec<Entailed>, from: usize, to: usize)
 }
 
 impl Work {
-    /// Room for a search: some 150 KB for what is known at each depth, and some 28 bytes for each of as many conditions as there are
-    /// scopes, and one more. `Memory` where there is none.
+    /// Room for a search: some 150 KB for what is known at each depth, and some 28 bytes for each
+    /// of as many conditions as there are scopes, and one more. `Memory` where there is none.
     ///
     /// With more conditions than that a search is as exact and slower.
     pub fn new(alloc: Global, lang: &Language) -> Result<Work, Memory>
@@ -149,7 +163,8 @@ impl Work {
         }
     }
 
-    /// Makes the depths that a search over the language's variables has. Few searches make any, so this stands apart from them.
+    /// Makes the depths that a search over the language's variables has. Few searches make any, so
+    /// this stands apart from them.
     #[inline(never)]
     fn deepen(&mut self, lang: &Language)
         ensures deep { variable_count lang.now < length self.new.depths }
@@ -164,18 +179,25 @@ impl Work {
         fill(&mut self.entailed, Entailed::none(), deepest);
     }
 
-    /// Notes the conditions, and the values that are left where no variable has one. Says whether each has some.
+    /// Notes the conditions, and the values that are left where no variable has one. Says whether
+    /// each has some.
     pub(crate) fn begin(&mut self, cons: &Constraints) -> bool
         requires lawful { IsLanguage cons.now.lang.now }
         requires constraints { AreConstraints cons.now.lang.now cons.now.list.now cons.now.against }
-        ensures plan { IsPlanOf cons.now.lang.now (arcs_of cons.now.lang.now cons.now.list.now cons.now.against) self.new.plan }
+        ensures plan { IsPlanOf cons.now.lang.now
+            (arcs_of cons.now.lang.now cons.now.list.now cons.now.against) self.new.plan }
         ensures deep { variable_count cons.now.lang.now < length self.new.depths }
         ensures same { length self.new.entailed ≡ length self.new.depths }
         ensures wide { length self.new.rows ≡ 129 }
         ensures row { result ≡ true → depth_row self.new 0 ≡ 0 }
-        ensures entailed { result ≡ true → (e : Entailed) → AreEntailed (arcs_of cons.now.lang.now cons.now.list.now cons.now.against) self.new.plan (slice_index_or self.new.entailed 0 e) (slice_index_or self.new.depths 0 []) }
-        ensures ready { result ≡ true → IsReady cons.now.lang.now cons.now.list.now cons.now.against (replicate (variable_count cons.now.lang.now) None) (slice_index_or self.new.depths 0 []) }
-        ensures dead { result ≡ false → has_family cons.now.lang.now cons.now.list.now cons.now.against (replicate (variable_count cons.now.lang.now) None) ≡ false }
+        ensures entailed { result ≡ true → (e : Entailed) →
+            AreEntailed (arcs_of cons.now.lang.now cons.now.list.now cons.now.against) self.new.plan
+            (slice_index_or self.new.entailed 0 e) (slice_index_or self.new.depths 0 []) }
+        ensures ready { result ≡ true → IsReady cons.now.lang.now cons.now.list.now cons.now.against
+            (replicate (variable_count cons.now.lang.now) None)
+            (slice_index_or self.new.depths 0 []) }
+        ensures dead { result ≡ false → has_family cons.now.lang.now cons.now.list.now
+            cons.now.against (replicate (variable_count cons.now.lang.now) None) ≡ false }
     {
         self.deepen(cons.lang);
         self.plan.arrange(cons);
@@ -196,14 +218,20 @@ impl Work {
         requires lawful { IsLanguage cons.now.lang.now }
         requires constraints { AreConstraints cons.now.lang.now cons.now.list.now cons.now.against }
         requires index { IsIndexOf cons.now.lang.now index.now }
-        ensures plan { IsPlanOf cons.now.lang.now (arcs_of cons.now.lang.now cons.now.list.now cons.now.against) self.new.plan }
+        ensures plan { IsPlanOf cons.now.lang.now
+            (arcs_of cons.now.lang.now cons.now.list.now cons.now.against) self.new.plan }
         ensures deep { variable_count cons.now.lang.now < length self.new.depths }
         ensures same { length self.new.entailed ≡ length self.new.depths }
         ensures wide { length self.new.rows ≡ 129 }
         ensures row { result ≡ true → depth_row self.new 0 ≡ 0 }
-        ensures entailed { result ≡ true → (e : Entailed) → AreEntailed (arcs_of cons.now.lang.now cons.now.list.now cons.now.against) self.new.plan (slice_index_or self.new.entailed 0 e) (slice_index_or self.new.depths 0 []) }
-        ensures ready { result ≡ true → IsReady cons.now.lang.now cons.now.list.now cons.now.against (replicate (variable_count cons.now.lang.now) None) (slice_index_or self.new.depths 0 []) }
-        ensures dead { result ≡ false → has_family cons.now.lang.now cons.now.list.now cons.now.against (replicate (variable_count cons.now.lang.now) None) ≡ false }
+        ensures entailed { result ≡ true → (e : Entailed) →
+            AreEntailed (arcs_of cons.now.lang.now cons.now.list.now cons.now.against) self.new.plan
+            (slice_index_or self.new.entailed 0 e) (slice_index_or self.new.depths 0 []) }
+        ensures ready { result ≡ true → IsReady cons.now.lang.now cons.now.list.now cons.now.against
+            (replicate (variable_count cons.now.lang.now) None)
+            (slice_index_or self.new.depths 0 []) }
+        ensures dead { result ≡ false → has_family cons.now.lang.now cons.now.list.now
+            cons.now.against (replicate (variable_count cons.now.lang.now) None) ≡ false }
     {
         self.deepen(cons.lang);
         match index.begin(cons, &mut self.plan) {
@@ -217,18 +245,22 @@ impl Work {
         }
     }
 
-    /// The first value from x on that a prefix leaves to the next variable, or how many values there are.
+    /// The first value from x on that a prefix leaves to the next variable, or how many values
+    /// there are.
     pub(crate) fn next_value(&self, cons: &Constraints, order: &[u8], prefix: &Stack, x: u8) -> u8
         requires lawful { IsLanguage cons.now.lang.now }
         requires constraints { AreConstraints cons.now.lang.now cons.now.list.now cons.now.against }
         requires order { IsOrder (variable_count cons.now.lang.now) order.now }
         requires short { length prefix.now < variable_count cons.now.lang.now }
         requires value { x ≤ cons.now.lang.now.value_count }
-        requires ready { IsArranged cons.now.lang.now cons.now.list.now cons.now.against order.now prefix.now x self.now }
+        requires ready { IsArranged cons.now.lang.now cons.now.list.now cons.now.against order.now
+            prefix.now x self.now }
         ensures from { x ≤ result }
         ensures within { result ≤ cons.now.lang.now.value_count }
-        ensures there { result < cons.now.lang.now.value_count → IsInRow self.now (length prefix.now) (slice_index_or order.now (length prefix.now) 0) result }
-        ensures dead { (y : ℕ) → x ≤ y → y < result → is_alive_in cons.now.lang.now cons.now.list.now cons.now.against order.now (prefix.now ++ y ∷ []) ≡ false }
+        ensures there { result < cons.now.lang.now.value_count → IsInRow self.now
+            (length prefix.now) (slice_index_or order.now (length prefix.now) 0) result }
+        ensures dead { (y : ℕ) → x ≤ y → y < result → is_alive_in cons.now.lang.now
+            cons.now.list.now cons.now.against order.now (prefix.now ++ y ∷ []) ≡ false }
     {
         let d = cons.lang.d();
         let at = prefix.len();
@@ -243,7 +275,8 @@ impl Work {
         next
     }
 
-    /// Hands what is left at a depth, where the variable has the value, down to the next depth, and says in which row it stands.
+    /// Hands what is left at a depth, where the variable has the value, down to the next depth, and
+    /// says in which row it stands.
     fn hand_down(&mut self, at: usize, v: u8, x: u8) -> usize
         requires deep { at + 1 < length self.old.depths }
         requires same { length self.old.entailed ≡ length self.old.depths }
@@ -267,19 +300,24 @@ impl Work {
         next
     }
 
-    /// Whether a prefix with one value more, which it leaves to the next variable, is alive; if so, the values that the longer one
-    /// leaves are those of its depth.
+    /// Whether a prefix with one value more, which it leaves to the next variable, is alive; if so,
+    /// the values that the longer one leaves are those of its depth.
     pub(crate) fn enter(&mut self, cons: &Constraints, order: &[u8], prefix: &Stack, x: u8) -> bool
         requires lawful { IsLanguage cons.now.lang.now }
         requires constraints { AreConstraints cons.now.lang.now cons.now.list.now cons.now.against }
         requires order { IsOrder (variable_count cons.now.lang.now) order.now }
         requires short { length prefix.now < variable_count cons.now.lang.now }
         requires value { x < cons.now.lang.now.value_count }
-        requires there { IsInRow self.old (length prefix.now) (slice_index_or order.now (length prefix.now) 0) x }
-        requires ready { IsArranged cons.now.lang.now cons.now.list.now cons.now.against order.now prefix.now x self.old }
-        ensures is { result ≡ is_alive_in cons.now.lang.now cons.now.list.now cons.now.against order.now (prefix.now ++ x ∷ []) }
-        ensures ready { IsArranged cons.now.lang.now cons.now.list.now cons.now.against order.now prefix.now (x + 1) self.new }
-        ensures deeper { result ≡ true → IsArranged cons.now.lang.now cons.now.list.now cons.now.against order.now (prefix.now ++ x ∷ []) 0 self.new }
+        requires there { IsInRow self.old (length prefix.now)
+            (slice_index_or order.now (length prefix.now) 0) x }
+        requires ready { IsArranged cons.now.lang.now cons.now.list.now cons.now.against order.now
+            prefix.now x self.old }
+        ensures is { result ≡ is_alive_in cons.now.lang.now cons.now.list.now cons.now.against
+            order.now (prefix.now ++ x ∷ []) }
+        ensures ready { IsArranged cons.now.lang.now cons.now.list.now cons.now.against order.now
+            prefix.now (x + 1) self.new }
+        ensures deeper { result ≡ true → IsArranged cons.now.lang.now cons.now.list.now
+            cons.now.against order.now (prefix.now ++ x ∷ []) 0 self.new }
     {
         let at = prefix.len();
         let v = order[at];

@@ -23,7 +23,8 @@ ask true base [] next = Wants base
 ask true base (false ∷ replies) next = Got [] replies
 ask true base (true ∷ replies) next = next replies
 
--- The part of a set that the no answer needs, beside the base. depth bounds the halvings; the set's length is enough.
+-- The part of a set that the no answer needs, beside the base. depth bounds the halvings; the set's
+-- length is enough.
 unfoldable pub halve_within : ℕ → List ℕ → List ℕ → Bool → List Bool → Halved
 halve_within depth base [] asks replies = ask asks base replies (Got [])
 halve_within depth base (v ∷ []) asks replies = ask asks base replies (Got (v ∷ []))

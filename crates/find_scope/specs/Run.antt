@@ -5,7 +5,8 @@ use Rattle.find_scope.specs.declared.frames.Frame.{Frame}
 use Rattle.find_scope.specs.declared.frames.Frame.TheVariants.{ThenFirst, Joins}
 use Rattle.find_scope.specs.Halving.{Halved, Got, then_got, is_empty, halve_within}
 
--- A run waits for the reply about its base. After a yes it halves its set. What is found goes to the frames.
+-- A run waits for the reply about its base. After a yes it halves its set. What is found goes to
+-- the frames.
 pub record Run : Type 0 where
   pub base : List ℕ
   pub set : List ℕ
@@ -16,11 +17,13 @@ unfoldable pub finish : List Frame → List ℕ → List Bool → Halved
 finish [] found replies = Got found replies
 finish (Joins before ∷ frames) found replies = finish frames (union before found) replies
 finish (ThenFirst base first ∷ frames) found replies =
-    then_got (halve_within (length first) (union base found) first (not (is_empty found)) replies) (λ more left. finish frames (union found more) left)
+    then_got (halve_within (length first) (union base found) first (not (is_empty found)) replies)
+    (λ more left. finish frames (union found more) left)
 
 -- what a set becomes that is halved beside a base, with a question first or without one
 abbrev pub halve_then : List Frame → List ℕ → List ℕ → Bool → List Bool → Halved
-halve_then frames base set asks replies = then_got (halve_within (length set) base set asks replies) (finish frames)
+halve_then frames base set asks replies =
+    then_got (halve_within (length set) base set asks replies) (finish frames)
 
 -- what a run makes of further replies
 unfoldable pub meaning : Run → List Bool → Halved
@@ -34,4 +37,5 @@ Fits set frames = (length frames ≤ 7) × (length set ≤ 2 ^ (7 - length frame
 abbrev pub AreFit : List Frame → Type 0
 AreFit [] = Unit {0}
 AreFit (Joins found ∷ frames) = AreFit frames
-AreFit (ThenFirst base first ∷ frames) = IsSet base × (length frames < 7) × (length first ≤ 2 ^ (7 - (length frames + 1))) × AreFit frames
+AreFit (ThenFirst base first ∷ frames) = IsSet base × (length frames < 7)
+    × (length first ≤ 2 ^ (7 - (length frames + 1))) × AreFit frames

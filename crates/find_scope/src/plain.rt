@@ -1,7 +1,9 @@
-//! The halving as a recursion that reads a list of replies: FindScope (Bessiere et al., IJCAI 2013).
+//! The halving as a recursion that reads a list of replies: FindScope (Bessiere et al., IJCAI
+//! 2013).
 //!
-//! A `ScopeRun` does the same a reply at a time, with neither the recursion nor the list, and is tried against this.
-//! That the first half of a set is the least half of its members, rounded up, is this project's own choice.
+//! A `ScopeRun` does the same a reply at a time, with neither the recursion nor the list, and is
+//! tried against this. That the first half of a set is the least half of its members, rounded up,
+//! is this project's own choice.
 
 ghost use Rattle.std.specs.Prelude.{◌≡◌, Bool, List, length, false};
 ghost use Rattle.find_scope.specs.Halving.{Halved as SaysHalved, ask, halve, halve_within};
@@ -27,7 +29,8 @@ pub fn halve<'a>(all: VarSet, replies: &'a [bool]) -> Halved<'a>
     halve_within(VarSet::empty(), all, false, replies)
 }
 
-/// The part of a set that the no answer needs beside the base, with a question about the base first or without one.
+/// The part of a set that the no answer needs beside the base, with a question about the base first
+/// or without one.
 fn halve_within<'a>(base: VarSet, set: VarSet, asks: bool, replies: &'a [bool]) -> Halved<'a>
     ensures { shown result ≡ halve_within (length set) base set asks replies.now }
 {
@@ -50,9 +53,11 @@ fn halve_within<'a>(base: VarSet, set: VarSet, asks: bool, replies: &'a [bool]) 
     }
 }
 
-/// The replies that are left, where the halving goes on: after a yes, or without a question. Else what it ends with.
+/// The replies that are left, where the halving goes on: after a yes, or without a question. Else
+/// what it ends with.
 fn ask<'a>(asks: bool, base: VarSet, replies: &'a [bool]) -> Result<&'a [bool], Halved<'a>>
-    ensures { (next : List Bool → SaysHalved) → goes_on result next ≡ ask asks base replies.now next }
+    ensures { (next : List Bool → SaysHalved) →
+        goes_on result next ≡ ask asks base replies.now next }
 {
     if !asks {
         return Ok(replies);

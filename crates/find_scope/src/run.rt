@@ -30,7 +30,8 @@ impl Model for ScopeRun {
 
     ghost view = { λ r. record { base = r.base; set = r.set; frames = r.frames } };
 
-    ghost invariant = { λ r. IsSet r.base × (0 < length r.base) × Fits r.set r.frames × AreFit r.frames };
+    ghost invariant = { λ r. IsSet r.base × (0 < length r.base) × Fits r.set r.frames
+        × AreFit r.frames };
 }
 
 /// Where a halving stands.
@@ -58,7 +59,8 @@ impl ScopeRun {
         ensures is { result ≡ self.now.base }
         ensures some { 0 < length result }
         ensures wanted { (set : List ℕ) (replies : List Bool) →
-            StandsFor (ScopeNext.Wants self.now) set replies → halve set replies ≡ WantsReply result }
+            StandsFor (ScopeNext.Wants self.now) set replies →
+            halve set replies ≡ WantsReply result }
     {
         self.base
     }
@@ -66,7 +68,8 @@ impl ScopeRun {
     /// Takes the reply: whether the part of the example on the wanted set is a solution.
     pub fn reply(self, yes: bool) -> ScopeNext
         ensures { (set : List ℕ) (replies : List Bool) →
-            StandsFor (ScopeNext.Wants self) set replies → StandsFor result set (replies ++ yes ∷ []) }
+            StandsFor (ScopeNext.Wants self) set replies →
+            StandsFor result set (replies ++ yes ∷ []) }
     {
         let ScopeRun { base, set, frames } = self;
         if yes {
@@ -82,7 +85,8 @@ fn halve_now(base: VarSet, set: VarSet, frames: Frames) -> ScopeNext
     requires known { IsSet base }
     requires small { Fits set frames }
     requires waiting { AreFit frames }
-    ensures { (replies : List Bool) → halved_after result replies ≡ halve_then frames base set false replies }
+    ensures { (replies : List Bool) →
+        halved_after result replies ≡ halve_then frames base set false replies }
 {
     if set.len() > 1 {
         ScopeNext::Wants(split(base, set, frames))
@@ -98,7 +102,8 @@ fn split(base: VarSet, set: VarSet, mut frames: Frames) -> ScopeRun
     requires known { IsSet base }
     requires small { Fits set frames }
     requires waiting { AreFit frames }
-    ensures { (replies : List Bool) → meaning result replies ≡ halve_then frames base set false replies }
+    ensures { (replies : List Bool) →
+        meaning result replies ≡ halve_then frames base set false replies }
 {
     let first = set.first_half();
     frames.push(Frame::ThenFirst { base, first });

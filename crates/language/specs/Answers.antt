@@ -1,12 +1,14 @@
 -- Answers to questions, and what they say of networks.
-use Rattle.std.specs.Prelude.{ℕ, ◌==◌, ◌≡◌, ◌⊎◌, Bool, false, not, ◌&&◌, IsTrue, List, All, Any, AllPairs, filter}
+use Rattle.std.specs.Prelude.{ℕ, ◌==◌, ◌≡◌, ◌⊎◌, Bool, false, not, ◌&&◌, IsTrue, List, All, Any}
+use Rattle.std.specs.Prelude.{AllPairs, filter}
 use Rattle.std.specs.Bool.{beq}
 use Rattle.std.specs.List.{list_any, list_all}
 use Rattle.language.specs.declared.candidates.Candidate.{Candidate}
 use Rattle.assign.specs.Assignment.{variables_of}
 use Rattle.assign.specs.Events.{Answer, standing, cut_to}
 use Rattle.assign.specs.declared.events.Event.{Event}
-use Rattle.language.specs.Language.{Language, variable_count, IsCandidate, candidates, violates, accepts, scope_of, HasSameSolutions, IsImplied}
+use Rattle.language.specs.Language.{Language, variable_count, IsCandidate, candidates, violates}
+use Rattle.language.specs.Language.{accepts, scope_of, HasSameSolutions, IsImplied}
 
 -- the answers that stand after the events, each about the language's variables alone
 abbrev pub standing_on : Language → List Event → List Answer
@@ -24,7 +26,8 @@ IsNetwork l network = All (IsCandidate l) network
 pub record IsConverged (l : Language) (network : List Candidate) (t : List Answer) : Type 0 where
   pub lawful : IsNetwork l network
   pub agreeing : IsTrue (agrees l network t)
-  pub only : (other : List Candidate) → IsNetwork l other → IsTrue (agrees l other t) → HasSameSolutions l other network
+  pub only : (other : List Candidate) → IsNetwork l other → IsTrue (agrees l other t) →
+      HasSameSolutions l other network
 
 -- no network agrees with the answers
 abbrev pub NoneAgrees : Language → List Answer → Type 0
@@ -40,7 +43,8 @@ has_scope network s = list_any (λ c. c.scope == s) network
 
 -- the candidates that no yes entry violates and on whose scope the network has nothing
 abbrev pub kept : Language → List Answer → List Candidate → List Candidate
-kept l t network = filter (λ c. not (is_struck l t c) && not (has_scope network c.scope)) (candidates l)
+kept l t network =
+    filter (λ c. not (is_struck l t c) && not (has_scope network c.scope)) (candidates l)
 
 -- a no entry about exactly the candidate's scope
 pub record IsNoOn (l : Language) (c : Candidate) (a : Answer) : Type 0 where
@@ -53,7 +57,11 @@ pub record IsCovered (l : Language) (network : List Candidate) (t : List Answer)
   pub one_a_scope : AllPairs (λ c d. (c.scope ≡ d.scope) → ⊥) network
   -- each learned candidate has a no entry about exactly its scope
   pub begun : All (λ c. Any (IsNoOn l c) t) network
-  -- each other candidate on its scope is violated by a yes entry, or accepts the tuple of such a no entry
-  pub told : All (λ c. (d : Candidate) → IsCandidate l d → d.scope ≡ c.scope → (d.rel ≡ c.rel → ⊥) → IsTrue (is_struck l t d) ⊎ Any (λ a. IsNoOn l c a × (violates l d a.question ≡ false)) t) network
+  -- each other candidate on its scope is violated by a yes entry, or accepts the tuple of such a no
+  -- entry
+  pub told : All (λ c. (d : Candidate) → IsCandidate l d →
+      d.scope ≡ c.scope → (d.rel ≡ c.rel → ⊥) → IsTrue (is_struck l t d)
+      ⊎ Any (λ a. IsNoOn l c a × (violates l d a.question ≡ false)) t) network
   -- each candidate on a scope where nothing is learned is violated by a yes entry, or is implied
-  pub rest : (c : Candidate) → IsCandidate l c → has_scope network c.scope ≡ false → IsTrue (is_struck l t c) ⊎ IsImplied l network c
+  pub rest : (c : Candidate) → IsCandidate l c → has_scope network c.scope ≡ false →
+      IsTrue (is_struck l t c) ⊎ IsImplied l network c

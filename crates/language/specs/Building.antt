@@ -1,5 +1,8 @@
 -- Which languages can be built, and of what.
-use Rattle.std.specs.Prelude.{ℕ, ℤ, pos, All, not, ◌||◌, ◌++◌, ◌<◌, ◌^◌, ◌*◌, ◌%◌, position, option_map, find, negsuc, ◌+◌, ◌≡◌, Bool, true, false, ◌&&◌, List, [], ◌∷◌, length, map, filter, Option, Some, None, if◌then◌else◌, ◌==◌, nat_lt, nat_le, int_le, ◌≤◌, ◌≤ℤ◌, ◌+ℤ◌, ◌-ℤ◌, unsigned_abs}
+use Rattle.std.specs.Prelude.{ℕ, ℤ, pos, All, not, ◌||◌, ◌++◌, ◌<◌, ◌^◌, ◌*◌, ◌%◌, position}
+use Rattle.std.specs.Prelude.{option_map, find, negsuc, ◌+◌, ◌≡◌, Bool, true, false, ◌&&◌, List, []}
+use Rattle.std.specs.Prelude.{◌∷◌, length, map, filter, Option, Some, None, if◌then◌else◌, ◌==◌}
+use Rattle.std.specs.Prelude.{nat_lt, nat_le, int_le, ◌≤◌, ◌≤ℤ◌, ◌+ℤ◌, ◌-ℤ◌, unsigned_abs}
 use Rattle.std.specs.List.{list_any, flat_map, position_or_len}
 use Rattle.assign.specs.Sets.{is_within, is_same}
 use Rattle.std.specs.Option.{option_or}
@@ -11,7 +14,10 @@ use Rattle.language.specs.Ranges.{IsRange}
 use Rattle.language.specs.declared.ranges.ValueRange.{ValueRange}
 use Rattle.language.specs.declared.parts.LangFault.{LangFault}
 use Rattle.language.specs.declared.parts.RelPart.{RelPart}
-use Rattle.language.specs.declared.parts.LangFault.TheVariants.{NoVariables, TooManyVariables, BadDomain, NoRelations, ScopeOrder, TooManyScopes, ScopeRepeated, Nested, NoRelationOfArity, Closing}
+use Rattle.language.specs.declared.parts.LangFault.TheVariants.{NoVariables, TooManyVariables}
+use Rattle.language.specs.declared.parts.LangFault.TheVariants.{BadDomain, NoRelations, ScopeOrder}
+use Rattle.language.specs.declared.parts.LangFault.TheVariants.{TooManyScopes, ScopeRepeated}
+use Rattle.language.specs.declared.parts.LangFault.TheVariants.{Nested, NoRelationOfArity, Closing}
 use Rattle.language.specs.declared.parts.ScopePart.{ScopePart}
 use Rattle.language.specs.declared.parts.ScopePart.TheVariants as part
 
@@ -36,11 +42,13 @@ pub record IsFrame (f : Frame) : Type 0 where
 
 -- the range from one shown value to another, where the least value is shown as this
 abbrev pub range_between : ℤ → ℤ → ℤ → ValueRange
-range_between least first last = record { first = unsigned_abs (first -ℤ least); last = unsigned_abs (last -ℤ least) }
+range_between least first last =
+    record { first = unsigned_abs (first -ℤ least); last = unsigned_abs (last -ℤ least) }
 
 -- the lowest value, the highest value: 1 to 64 values, each within a million
 abbrev pub is_domain : ℤ → ℤ → Bool
-is_domain lo hi = int_le lo hi && int_le (negsuc 999999) lo && int_le hi (pos 1000000) && int_le (hi -ℤ lo) (pos 63)
+is_domain lo hi = int_le lo hi && int_le (negsuc 999999) lo && int_le hi (pos 1000000) && int_le
+    (hi -ℤ lo) (pos 63)
 
 -- how many values there are from the lowest to the highest
 abbrev pub values_between : ℤ → ℤ → ℕ
@@ -65,7 +73,8 @@ rising_lists n size = filter is_rising (tuples n size)
 
 -- for each arity that some relation has, rising, all such lists of that length
 abbrev pub all_scopes : ℕ → List Given → List (List ℕ)
-all_scopes n given = flat_map (λ arity. if list_any (λ (g : Given). g.arity == arity) given then rising_lists n arity else []) (1 ∷ 2 ∷ 3 ∷ 4 ∷ [])
+all_scopes n given = flat_map (λ arity. if list_any (λ (g : Given). g.arity == arity) given
+    then rising_lists n arity else []) (1 ∷ 2 ∷ 3 ∷ 4 ∷ [])
 
 -- whether two relations are the same
 abbrev pub is_same_relation : Relation → Relation → Bool
@@ -81,12 +90,14 @@ is_listed relations r = list_any (is_same_relation r) relations
 -- each relation once
 abbrev pub without_repeats : List Relation → List Relation
 without_repeats [] = []
-without_repeats (r ∷ relations) = if is_listed relations r then without_repeats relations else r ∷ without_repeats relations
+without_repeats (r ∷ relations) =
+    if is_listed relations r then without_repeats relations else r ∷ without_repeats relations
 
 -- the intersections of one or more of these, one for each sublist
 abbrev pub intersections : List Relation → List Relation
 intersections [] = []
-intersections (r ∷ relations) = r ∷ (map (meet r) (intersections relations) ++ intersections relations)
+intersections (r ∷ relations) =
+    r ∷ (map (meet r) (intersections relations) ++ intersections relations)
 
 -- the relations of the vocabulary
 abbrev pub relations_given : List Given → List Relation
@@ -98,11 +109,13 @@ relations_of_arity given arity = relations_given (filter (λ (g : Given). g.arit
 
 -- whether those of an arity have more than 64 intersections
 abbrev pub has_too_many : List Given → ℕ → Bool
-has_too_many given arity = nat_lt 64 (length (without_repeats (intersections (relations_of_arity given arity))))
+has_too_many given arity =
+    nat_lt 64 (length (without_repeats (intersections (relations_of_arity given arity))))
 
 -- why the relations aren't closed: the least arity with too many intersections
 abbrev pub closing_refusal : List Given → Option LangFault
-closing_refusal given = option_map (λ arity. Closing (TooMany arity)) (find (has_too_many given) (1 ∷ 2 ∷ 3 ∷ 4 ∷ []))
+closing_refusal given =
+    option_map (λ arity. Closing (TooMany arity)) (find (has_too_many given) (1 ∷ 2 ∷ 3 ∷ 4 ∷ []))
 
 -- ---- Scopes
 
@@ -128,8 +141,10 @@ is_ordered scope = nat_le 1 (length scope) && nat_le (length scope) 4 && is_risi
 abbrev pub are_nested : List ℕ → List ℕ → Bool
 are_nested scope other = is_within scope other || is_within other scope
 
--- the first of these scopes that is related to one before it: the number of the first such one, and its own, which counts those before
-unfoldable pub pair_after : (List ℕ → List ℕ → Bool) → List (List ℕ) → List (List ℕ) → Option (ℕ × ℕ)
+-- the first of these scopes that is related to one before it: the number of the first such one, and
+-- its own, which counts those before
+unfoldable pub pair_after : (List ℕ → List ℕ → Bool) → List (List ℕ) → List (List ℕ) →
+    Option (ℕ × ℕ)
 pair_after related before [] = None
 pair_after related before (scope ∷ scopes) =
     if list_any (λ earlier. related earlier scope) before
@@ -145,7 +160,8 @@ digits k (v ∷ vs) = digits (((k * 128) % 2 ^ 32 + v) % 2 ^ 32) vs
 abbrev pub first_pair : (List ℕ → List ℕ → Bool) → List (List ℕ) → Option (ℕ × ℕ)
 first_pair related scopes = pair_after related [] scopes
 
--- why so many scopes are too many, or why two of them can't stand side by side, or why one has no relation
+-- why so many scopes are too many, or why two of them can't stand side by side, or why one has no
+-- relation
 abbrev pub scope_list_refusal : List Given → List (List ℕ) → Option LangFault
 scope_list_refusal given scopes =
     if nat_lt 8192 (length scopes) then Some TooManyScopes else
@@ -156,7 +172,8 @@ scope_list_refusal given scopes =
 -- why the scopes are refused: their order comes first
 abbrev pub scopes_refusal : List Given → List (List ℕ) → Option LangFault
 scopes_refusal given scopes =
-    option_or (option_map ScopeOrder (position (λ scope. not (is_ordered scope)) scopes)) (scope_list_refusal given scopes)
+    option_or (option_map ScopeOrder (position (λ scope. not (is_ordered scope)) scopes))
+    (scope_list_refusal given scopes)
 
 -- ---- The language
 
@@ -177,10 +194,12 @@ AreCountable (Some scopes) = length scopes < 2 ^ 32
 -- why there is no language of n variables, these relations and these scopes
 abbrev pub build_refusal : ℕ → List Given → Option (List (List ℕ)) → Option LangFault
 build_refusal n [] listed = Some NoRelations
-build_refusal n (g ∷ given) listed = option_or (scopes_refusal (g ∷ given) (scopes_of n (g ∷ given) listed)) (closing_refusal (g ∷ given))
+build_refusal n (g ∷ given) listed = option_or
+    (scopes_refusal (g ∷ given) (scopes_of n (g ∷ given) listed)) (closing_refusal (g ∷ given))
 
 -- The language of a frame, of relations and of scopes.
-pub record IsBuilt (frame : Frame) (parts : List Given) (listed : Option (List (List ℕ))) (l : Language) : Type 0 where
+pub record IsBuilt (frame : Frame) (parts : List Given) (listed : Option (List (List ℕ)))
+    (l : Language) : Type 0 where
   pub names : l.names ≡ frame.names
   pub least_value : l.least_value ≡ frame.least_value
   pub value_count : l.value_count ≡ frame.value_count

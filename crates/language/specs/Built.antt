@@ -19,9 +19,11 @@ pub record AreScopes (n : ℕ) (given : List Given) (scopes : List Scope) : Type
   pub apart : AllPairs AreApart (map variables_in scopes)
   pub used : All (λ scope. IsTrue (has_arity given (length scope))) (map variables_in scopes)
 
--- the tables of an arity over d values: the intersections of the vocabulary's relations of this arity, at most 64
+-- the tables of an arity over d values: the intersections of the vocabulary's relations of this
+-- arity, at most 64
 pub record IsClosedOf (d arity : ℕ) (given : List Given) (tables : List TruthTable) : Type 0 where
-  pub closing : IsClosing (relations_of_arity given arity) (map (λ (t : TruthTable). t.truth) tables)
+  pub closing : IsClosing (relations_of_arity given arity)
+      (map (λ (t : TruthTable). t.truth) tables)
   pub kinds : All (IsOfKind arity d) tables
   pub few : length tables ≤ 64
 
@@ -33,16 +35,22 @@ pub record AreRanges (d : ℕ) (ranges : List ValueRange) : Type 0 where
 
 -- the vocabulary's relations of a scope's length on it
 abbrev pub given_at : List ValueRange → ℕ → List Given → List ℕ → List Relation
-given_at ranges d given scope = map (widened ranges d scope) (relations_of_arity given (length scope))
+given_at ranges d given scope =
+    map (widened ranges d scope) (relations_of_arity given (length scope))
 
 -- the numbered tables are those of the intersections of the vocabulary's relations on a scope
-pub record AreChosen (ranges : List ValueRange) (d : ℕ) (given : List Given) (tables : List TruthTable) (scope : List ℕ) (chosen : List ℕ) : Type 0 where
+pub record AreChosen (ranges : List ValueRange) (d : ℕ) (given : List Given)
+    (tables : List TruthTable) (scope : List ℕ) (chosen : List ℕ) : Type 0 where
   pub closing : IsClosing (given_at ranges d given scope) (chosen_on ranges d tables scope chosen)
   pub known : All (λ k. k < length tables) chosen
   pub few : length chosen ≤ 64
 
 -- on each scope, the numbered tables are those of the intersections there
-pub record AreAll (ranges : List ValueRange) (d : ℕ) (given : List Given) (tables : List (List TruthTable)) (scopes : List Scope) (on starts : List ℕ) : Type 0 where
+pub record AreAll (ranges : List ValueRange) (d : ℕ) (given : List Given)
+    (tables : List (List TruthTable)) (scopes : List Scope) (on starts : List ℕ) : Type 0 where
   pub parts : AreParts tables scopes on starts
-  pub closing : (s : ℕ) → s < length scopes → IsClosing (given_at ranges d given (variables_in (scope_in scopes s))) (relations_at ranges d tables scopes on starts s)
-  pub few : (s : ℕ) → s < length scopes → length (relations_at ranges d tables scopes on starts s) ≤ 64
+  pub closing : (s : ℕ) → s < length scopes →
+      IsClosing (given_at ranges d given (variables_in (scope_in scopes s)))
+      (relations_at ranges d tables scopes on starts s)
+  pub few : (s : ℕ) → s < length scopes →
+      length (relations_at ranges d tables scopes on starts s) ≤ 64

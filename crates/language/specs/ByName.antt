@@ -1,5 +1,6 @@
 -- Scopes and relations, told by their names.
-use Rattle.std.specs.Prelude.{◌≡◌, ℕ, ◌<◌, Bool, List, [], length, map, position, Option, Some, None, slice_index_or, option_map}
+use Rattle.std.specs.Prelude.{◌≡◌, ℕ, ◌<◌, Bool, List, [], length, map, position, Option, Some}
+use Rattle.std.specs.Prelude.{None, slice_index_or, option_map}
 use Rattle.std.specs.List.{find}
 use Rattle.std.specs.Borrow.{Bor}
 use Rattle.std.specs.Str.{bytes_eq}
@@ -23,7 +24,8 @@ scope_named l names = position (has_names l names) l.scopes
 
 -- the relation of this name
 abbrev pub relation_among : List ℕ → List Given → Option Relation
-relation_among name given = option_map (λ (g : Given). g.relation) (find (λ (g : Given). bytes_eq g.name name) given)
+relation_among name given =
+    option_map (λ (g : Given). g.relation) (find (λ (g : Given). bytes_eq g.name name) given)
 
 -- the vocabulary's relation of this name, among those on a scope
 abbrev pub relation_named : Language → ℕ → List ℕ → Option Relation
@@ -31,7 +33,8 @@ relation_named l s name = relation_among name (given_on l s)
 
 -- bit k of the mask tells whether relation k on the scope lies within this one
 abbrev pub TellsWithin : Language → ℕ → Relation → ℕ → Type 0
-TellsWithin l s r mask = (k : ℕ) → k < length (relations_on l s) → is_one mask k ≡ is_part (slice_index_or (relations_on l s) k []) r
+TellsWithin l s r mask = (k : ℕ) → k < length (relations_on l s) →
+    is_one mask k ≡ is_part (slice_index_or (relations_on l s) k []) r
 
 -- the same where there is a relation, and no mask where there is none
 abbrev pub TellsNamed : Language → ℕ → Option Relation → Option ℕ → Type 0

@@ -5,7 +5,12 @@ use Rattle.language.specs.Building.{Frame, IsFrame}
 use Rattle.language.specs.declared.frame.Frame.TheInside.{Inside}
 
 abbrev pub seen : Inside → Frame
-seen a = record { names = map (λ (s : String Global). string_bytes s) a.names.items; least_value = a.least_value; value_count = a.value_count; ranges = take (length a.names.items) a.ranges }
+seen a = record {
+  names = map (λ (s : String Global). string_bytes s) a.names.items;
+  least_value = a.least_value;
+  value_count = a.value_count;
+  ranges = take (length a.names.items) a.ranges;
+}
 
 abbrev pub IsSound : Inside → Type 0
 IsSound a = IsFrame (seen a)

@@ -1,5 +1,8 @@
 -- The language: the variables, the values, the scopes and the relations that a network may use.
-use Rattle.std.specs.Prelude.{ℕ, ℤ, pos, negsuc, ◌+ℤ◌, ◌≤ℤ◌, ◌^◌, ◌<◌, ◌≤◌, ◌≡◌, ◌≢◌, Bool, true, not, ◌&&◌, IsTrue, IsFalse, List, [], length, map, filter, position, ◌+◌, All, AllPairs, slice_index_or, ◌==◌, nat_le, Option, Some, None, if◌then◌else◌}
+use Rattle.std.specs.Prelude.{ℕ, ℤ, pos, negsuc, ◌+ℤ◌, ◌≤ℤ◌, ◌^◌, ◌<◌, ◌≤◌, ◌≡◌, ◌≢◌, Bool, true}
+use Rattle.std.specs.Prelude.{not, ◌&&◌, IsTrue, IsFalse, List, [], length, map, filter, position}
+use Rattle.std.specs.Prelude.{◌+◌, All, AllPairs, slice_index_or, ◌==◌, nat_le, Option, Some, None}
+use Rattle.std.specs.Prelude.{if◌then◌else◌}
 use Rattle.std.specs.Option.{option_map_or, ForSome}
 use Rattle.std.specs.List.{flat_map, list_all}
 use Rattle.std.specs.List.Sorted.{IsStrictlyIncreasing}
@@ -51,9 +54,11 @@ given_of l arity = of_arity arity l.given
 abbrev pub scope_at : Language → ℕ → List ℕ
 scope_at l s = slice_index_or l.scopes s []
 
--- the vocabulary's relations on the scope of this number: those of its arity, each true outside the ranges
+-- the vocabulary's relations on the scope of this number: those of its arity, each true outside the
+-- ranges
 abbrev pub given_within : List ValueRange → ℕ → List ℕ → Given → Given
-given_within ranges d scope g = record { name = g.name; arity = g.arity; relation = widened ranges d scope g.relation }
+given_within ranges d scope g =
+    record { name = g.name; arity = g.arity; relation = widened ranges d scope g.relation }
 
 abbrev pub on_scope_of : Language → List ℕ → Given → Given
 on_scope_of l scope g = given_within l.ranges l.value_count scope g
@@ -71,7 +76,8 @@ is_whole l s = are_whole l.ranges l.value_count (scope_at l s)
 
 -- where e's tuple on the scope of this number stands, if e covers the scope
 abbrev pub place_on : Language → ℕ → Assignment → Option ℕ
-place_on l s e = if covers e (scope_at l s) then Some (place l.value_count (tuple_on e (scope_at l s))) else None
+place_on l s e =
+    if covers e (scope_at l s) then Some (place l.value_count (tuple_on e (scope_at l s))) else None
 
 -- a candidate's variables, and its relation
 abbrev pub scope_of : Language → Candidate → List ℕ
@@ -88,7 +94,8 @@ candidates_on l s = map (λ r. record { scope = s; rel = r }) (numbers (length (
 abbrev pub candidates : Language → List Candidate
 candidates l = flat_map (candidates_on l) (numbers (length l.scopes))
 
--- how many candidates come before this one: those on earlier scopes, and those of earlier relations on its own
+-- how many candidates come before this one: those on earlier scopes, and those of earlier relations
+-- on its own
 abbrev pub number_of : Language → Candidate → ℕ
 number_of l c = length (flat_map (candidates_on l) (numbers c.scope)) + c.rel
 
@@ -103,7 +110,8 @@ pub record IsCandidate (l : Language) (c : Candidate) : Type 0 where
 
 -- the scope lies within the assigned variables, and the relation is false at the tuple there
 abbrev pub violates : Language → Candidate → Assignment → Bool
-violates l c e = covers e (scope_of l c) && not (holds l.value_count (relation_of l c) (tuple_on e (scope_of l c)))
+violates l c e = covers e (scope_of l c) && not
+    (holds l.value_count (relation_of l c) (tuple_on e (scope_of l c)))
 
 -- no candidate of the network is violated
 abbrev pub accepts : Language → List Candidate → Assignment → Bool
@@ -134,7 +142,8 @@ pub record AreApart (s u : List ℕ) : Type 0 where
   pub left : IsFalse (is_within s u)
   pub right : IsFalse (is_within u s)
 
--- The relations on each scope are the intersections of the vocabulary's there, and the scopes are apart.
+-- The relations on each scope are the intersections of the vocabulary's there, and the scopes are
+-- apart.
 pub record IsLanguage (l : Language) : Type 0 where
   pub some_variable : 1 ≤ length l.names
   pub few_variables : length l.names ≤ 128
@@ -150,8 +159,10 @@ pub record IsLanguage (l : Language) : Type 0 where
   pub few_scopes : length l.scopes ≤ 8192
   pub scopes : All (IsScope (length l.names)) l.scopes
   pub apart : AllPairs AreApart l.scopes
-  pub closed : (s : ℕ) → s < length l.scopes → IsClosing (map (λ (g : Given). g.relation) (given_on l s)) (relations_on l s)
-  pub sized : (s : ℕ) → s < length l.scopes → All (λ r. length r ≡ l.value_count ^ length (scope_at l s)) (relations_on l s)
+  pub closed : (s : ℕ) → s < length l.scopes →
+      IsClosing (map (λ (g : Given). g.relation) (given_on l s)) (relations_on l s)
+  pub sized : (s : ℕ) → s < length l.scopes →
+      All (λ r. length r ≡ l.value_count ^ length (scope_at l s)) (relations_on l s)
   pub few_relations : (s : ℕ) → s < length l.scopes → length (relations_on l s) ≤ 64
   pub small : All (λ scope. l.value_count ^ length scope ≤ 65536) l.scopes
   pub used : (s : ℕ) → s < length l.scopes → 1 ≤ length (relations_on l s)
@@ -168,12 +179,15 @@ pub record IsQuestion (l : Language) (e : Assignment) : Type 0 where
 
 -- whether it is one
 abbrev pub is_question : Language → Assignment → Bool
-is_question l e = (length e == variable_count l) && list_all (λ v. is_ranged l v (value_of e v)) (numbers (variable_count l))
+is_question l e = (length e == variable_count l) && list_all (λ v. is_ranged l v (value_of e v))
+    (numbers (variable_count l))
 
 -- the same solutions: each complete assignment is accepted by both or by neither
 abbrev pub HasSameSolutions : Language → List Candidate → List Candidate → Type 0
-HasSameSolutions l network other = (e : Assignment) → IsQuestion l e → IsTrue (is_complete e) → accepts l network e ≡ accepts l other e
+HasSameSolutions l network other = (e : Assignment) → IsQuestion l e → IsTrue (is_complete e) →
+    accepts l network e ≡ accepts l other e
 
 -- each solution of the network satisfies the candidate
 abbrev pub IsImplied : Language → List Candidate → Candidate → Type 0
-IsImplied l network c = (e : Assignment) → IsQuestion l e → IsTrue (is_complete e) → IsTrue (accepts l network e) → IsFalse (violates l c e)
+IsImplied l network c = (e : Assignment) → IsQuestion l e → IsTrue (is_complete e) →
+    IsTrue (accepts l network e) → IsFalse (violates l c e)

@@ -2,7 +2,8 @@
 use Rattle.std.specs.Prelude.{◌≡◌, ℕ, ◌<◌, ◌||◌, List, Option, length, slice_index_or}
 use Rattle.language.specs.declared.candidates.Candidate.{Candidate}
 use Rattle.assign.specs.Assignment.{Assignment}
-use Rattle.language.specs.Language.{Language, Given, IsLanguage, IsCandidate, candidates, number_of, violates}
+use Rattle.language.specs.Language.{Language, Given, IsLanguage, IsCandidate, candidates, number_of}
+use Rattle.language.specs.Language.{violates}
 use Rattle.assign.specs.Events.{Answer}
 use Rattle.language.specs.Building.{Frame, IsBuilt}
 use Rattle.language.specs.Answers.{IsNetwork, IsCovered, IsConverged}
@@ -15,7 +16,8 @@ pub record IsMeetOf (l : Language) (c d m : Candidate) : Type 0 where
 
 -- two candidates on one scope have an intersection among the candidates there
 abbrev pub HasMeets : Language → Type 0
-HasMeets l = (c d : Candidate) → IsCandidate l c → IsCandidate l d → c.scope ≡ d.scope → (m : Candidate) × IsMeetOf l c d m
+HasMeets l = (c d : Candidate) → IsCandidate l c → IsCandidate l d → c.scope ≡ d.scope →
+    (m : Candidate) × IsMeetOf l c d m
 
 abbrev pub CandidatesAreClosed : Type 0
 CandidatesAreClosed = (l : Language) → IsLanguage l → HasMeets l
@@ -29,8 +31,10 @@ CoveredIsConverged =
 -- Each candidate stands in the list of all at its number, and no two have one number.
 pub record AreNumbered (l : Language) : Type 0 where
   pub below : (c : Candidate) → IsCandidate l c → number_of l c < length (candidates l)
-  pub there : (c other : Candidate) → IsCandidate l c → slice_index_or (candidates l) (number_of l c) other ≡ c
-  pub apart : (c d : Candidate) → IsCandidate l c → IsCandidate l d → number_of l c ≡ number_of l d → c ≡ d
+  pub there : (c other : Candidate) → IsCandidate l c →
+      slice_index_or (candidates l) (number_of l c) other ≡ c
+  pub apart : (c d : Candidate) → IsCandidate l c → IsCandidate l d →
+      number_of l c ≡ number_of l d → c ≡ d
 
 abbrev pub CandidatesAreNumbered : Type 0
 CandidatesAreNumbered = (l : Language) → AreNumbered l

@@ -10,17 +10,20 @@ pub record IsRangeMask (d : ℕ) (range : ValueRange) (mask : ℕ) : Type 0 wher
   pub low : (y : ℕ) → y < d → (bit_at mask y == 1) ≡ is_in range y
   pub high : (y : ℕ) → d ≤ y → (bit_at mask y == 1) ≡ false
 
--- the least bit, of those of a third mask, that is in one of two masks alone, and whether the first has it
+-- the least bit, of those of a third mask, that is in one of two masks alone, and whether the first
+-- has it
 pub record IsFirstBit (one other among : ℕ) (on : Bool) : Type 0 where
   pub at : ℕ
   pub inside : (bit_at among at == 1) ≡ true
-  pub before : (y : ℕ) → y < at → (bit_at among y == 1) ≡ true → (bit_at one y == 1) ≡ (bit_at other y == 1)
+  pub before : (y : ℕ) → y < at → (bit_at among y == 1) ≡ true →
+      (bit_at one y == 1) ≡ (bit_at other y == 1)
   pub differ : (bit_at one at == 1) ≢ (bit_at other at == 1)
   pub is : on ≡ (bit_at one at == 1)
 
 -- whether the first of two masks has this bit, if there is one
 pub record TellsFirstBit (one other among : ℕ) (found : Option Bool) : Type 0 where
-  pub none : found ≡ None → (y : ℕ) → (bit_at among y == 1) ≡ true → (bit_at one y == 1) ≡ (bit_at other y == 1)
+  pub none : found ≡ None → (y : ℕ) → (bit_at among y == 1) ≡ true →
+      (bit_at one y == 1) ≡ (bit_at other y == 1)
   pub some : (on : Bool) → found ≡ Some on → IsFirstBit one other among on
 
 -- whether the first of two relations comes before the other, if they aren't the same

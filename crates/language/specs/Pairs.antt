@@ -1,5 +1,7 @@
--- The relations of two variables by masks: which values go together, and how many a value rejects at most.
-use Rattle.std.specs.Prelude.{ℕ, zero, suc, ◌+◌, ◌*◌, ◌<◌, ◌≡◌, ◌==◌, ◌&&◌, Bool, false, not, cond, nat_le, List, [], length, slice_index_or, max}
+-- The relations of two variables by masks: which values go together, and how many a value rejects
+-- at most.
+use Rattle.std.specs.Prelude.{ℕ, zero, suc, ◌+◌, ◌*◌, ◌<◌, ◌≡◌, ◌==◌, ◌&&◌, Bool, false, not, cond}
+use Rattle.std.specs.Prelude.{nat_le, List, [], length, slice_index_or, max}
 use Rattle.std.specs.Bool.{beq}
 use Rattle.std.specs.List.{filter, list_all}
 use Rattle.std.specs.Int.{bit_at}
@@ -21,7 +23,8 @@ IsPairTable l t = (pairs : List Relation) → ArePairTables l pairs → t < leng
 pub record IsPairTableOn (l : Language) (s r t : ℕ) : Type 0 where
   pub pairs : List Relation
   pub are : ArePairTables l pairs
-  pub agrees : AgreeWithin l.ranges l.value_count (scope_at l s) (slice_index_or pairs t []) (slice_index_or (relations_on l s) r [])
+  pub agrees : AgreeWithin l.ranges l.value_count (scope_at l s) (slice_index_or pairs t [])
+      (slice_index_or (relations_on l s) r [])
 
 -- whether by a relation over d values x of the first variable and y of the second go together
 abbrev pub go_together : ℕ → Relation → ℕ → ℕ → Bool
@@ -29,7 +32,8 @@ go_together d r x y = slice_index_or r (x * d + y) false
 
 -- for each of d values there is a mask, whose bits tell which of d others go with it
 abbrev pub AreMasksOf : ℕ → (ℕ → ℕ → Bool) → List ℕ → Type 0
-AreMasksOf d together masks = (x y : ℕ) → x < d → y < d → (bit_at (slice_index_or masks x 0) y == 1) ≡ together x y
+AreMasksOf d together masks = (x y : ℕ) → x < d → y < d →
+    (bit_at (slice_index_or masks x 0) y == 1) ≡ together x y
 
 -- how many of d values a test rejects
 abbrev pub rejected_of : ℕ → (ℕ → Bool) → ℕ
@@ -53,7 +57,8 @@ changes_of test zero = 0
 changes_of test (suc zero) = 0
 changes_of test (suc (suc k)) = changes_of test (suc k) + cond (beq (test k) (test (suc k))) 0 1
 
--- whether, as x goes over the values, each of the others begins or ceases to go with it once at most
+-- whether, as x goes over the values, each of the others begins or ceases to go with it once at
+-- most
 abbrev pub is_running : ℕ → (ℕ → ℕ → Bool) → Bool
 is_running d together = list_all (λ y. nat_le (changes_of (λ x. together x y) d) 1) (numbers d)
 

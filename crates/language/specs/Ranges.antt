@@ -1,5 +1,6 @@
 -- The values that each variable may have, and what they make of a relation on a scope.
-use Rattle.std.specs.Prelude.{ℕ, ◌+◌, ◌-◌, ◌<◌, ◌≤◌, ◌≡◌, Bool, true, false, IsTrue, not, ◌&&◌, ◌||◌, List, [], ◌∷◌, length, map, slice_index_or, nat_le, ◌==◌}
+use Rattle.std.specs.Prelude.{ℕ, ◌+◌, ◌-◌, ◌<◌, ◌≤◌, ◌≡◌, Bool, true, false, IsTrue, not, ◌&&◌}
+use Rattle.std.specs.Prelude.{◌||◌, List, [], ◌∷◌, length, map, slice_index_or, nat_le, ◌==◌}
 use Rattle.std.specs.List.{list_all, zip}
 use Rattle.rel_table.specs.Relation.{Relation, tuples, holds}
 use Rattle.language.specs.declared.ranges.ValueRange.{ValueRange}
@@ -40,11 +41,13 @@ have_same_ranges ranges [] [] = true
 have_same_ranges ranges [] (w ∷ other) = false
 have_same_ranges ranges (v ∷ scope) [] = false
 have_same_ranges ranges (v ∷ scope) (w ∷ other) =
-    ((range_in ranges v).first == (range_in ranges w).first) && ((range_in ranges v).last == (range_in ranges w).last) && have_same_ranges ranges scope other
+    ((range_in ranges v).first == (range_in ranges w).first) &&
+    ((range_in ranges v).last == (range_in ranges w).last) && have_same_ranges ranges scope other
 
 -- whether each value of a tuple on a scope is one of its variable's
 abbrev pub are_in : List ValueRange → List ℕ → List ℕ → Bool
-are_in ranges scope tuple = list_all (λ both. is_in (range_in ranges both.0) both.1) (zip scope tuple)
+are_in ranges scope tuple =
+    list_all (λ both. is_in (range_in ranges both.0) both.1) (zip scope tuple)
 
 -- which tuples on a scope are within the ranges
 abbrev pub inside : List ValueRange → ℕ → List ℕ → Relation
@@ -52,8 +55,10 @@ inside ranges d scope = map (are_in ranges scope) (tuples d (length scope))
 
 -- a relation on a scope: it holds at each tuple with a value outside its variable's range
 abbrev pub widened : List ValueRange → ℕ → List ℕ → Relation → Relation
-widened ranges d scope r = map (λ both. not (are_in ranges scope both.0) || both.1) (zip (tuples d (length scope)) r)
+widened ranges d scope r =
+    map (λ both. not (are_in ranges scope both.0) || both.1) (zip (tuples d (length scope)) r)
 
 -- two relations on a scope hold at the same tuples within the ranges
 abbrev pub AgreeWithin : List ValueRange → ℕ → List ℕ → Relation → Relation → Type 0
-AgreeWithin ranges d scope r q = (tuple : List ℕ) → length tuple ≡ length scope → IsTrue (are_in ranges scope tuple) → holds d r tuple ≡ holds d q tuple
+AgreeWithin ranges d scope r q = (tuple : List ℕ) → length tuple ≡ length scope →
+    IsTrue (are_in ranges scope tuple) → holds d r tuple ≡ holds d q tuple

@@ -1,5 +1,6 @@
 -- What the choices on a scope are about.
-use Rattle.std.specs.Prelude.{ℕ, ◌==◌, ◌&&◌, List, [], ◌∷◌, ◌++◌, length, map, filter, Some, None, slice_index_or}
+use Rattle.std.specs.Prelude.{ℕ, ◌==◌, ◌&&◌, List, [], ◌∷◌, ◌++◌, length, map, filter, Some, None}
+use Rattle.std.specs.Prelude.{slice_index_or}
 use Rattle.assign.specs.Assignment.{Assignment, assigned}
 use Rattle.language.specs.declared.candidates.Candidate.{Candidate}
 use Rattle.language.specs.Language.{Language, variable_count, scope_at, relations_on, violates}
@@ -8,7 +9,11 @@ use Rattle.language.specs.TellingApart.{Choice, Scene}
 -- what the choices on a scope are about
 abbrev pub scene_of : Language → ℕ → Scene
 scene_of l s =
-    record { value_count = l.value_count; arity = length (scope_at l s); relations = relations_on l s }
+    record {
+      value_count = l.value_count;
+      arity = length (scope_at l s);
+      relations = relations_on l s;
+    }
 
 -- a tuple as an assignment of exactly the scope of this number
 abbrev pub on_scope : Language → ℕ → List ℕ → Assignment
@@ -20,4 +25,5 @@ free_choices live s = map (λ c. Some c.rel) (filter (λ c. c.scope == s) live) 
 
 -- the kept candidates on a scope that e violates
 abbrev pub violated_choices : Language → List Candidate → Assignment → ℕ → List Choice
-violated_choices l live e s = map (λ c. Some c.rel) (filter (λ c. (c.scope == s) && violates l c e) live)
+violated_choices l live e s =
+    map (λ c. Some c.rel) (filter (λ c. (c.scope == s) && violates l c e) live)

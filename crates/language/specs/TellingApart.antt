@@ -1,5 +1,6 @@
 -- Telling relations apart by questions about single tuples.
-use Rattle.std.specs.Prelude.{ℕ, Bool, true, not, ◌&&◌, List, [], ◌∷◌, filter, find, Option, Some, None, is_none, slice_index_or, if◌then◌else◌}
+use Rattle.std.specs.Prelude.{ℕ, Bool, true, not, ◌&&◌, List, [], ◌∷◌, filter, find, Option, Some}
+use Rattle.std.specs.Prelude.{None, is_none, slice_index_or, if◌then◌else◌}
 use Rattle.std.specs.Bool.{beq}
 use Rattle.std.specs.List.{list_any}
 use Rattle.rel_table.specs.Relation.{Relation, holds, tuples}
@@ -21,11 +22,13 @@ allows scene tuple (Some r) = holds scene.value_count (slice_index_or scene.rela
 
 -- whether some choice accepts the tuple and some rejects it
 abbrev pub tells_apart : Scene → List Choice → List ℕ → Bool
-tells_apart scene choices tuple = list_any (allows scene tuple) choices && list_any (λ c. not (allows scene tuple c)) choices
+tells_apart scene choices tuple =
+    list_any (allows scene tuple) choices && list_any (λ c. not (allows scene tuple c)) choices
 
 -- the least tuple on which two choices differ
 abbrev pub splitting_tuple : Scene → List Choice → Option (List ℕ)
-splitting_tuple scene choices = find (tells_apart scene choices) (tuples scene.value_count scene.arity)
+splitting_tuple scene choices =
+    find (tells_apart scene choices) (tuples scene.value_count scene.arity)
 
 -- the choices that agree with a reply about a tuple
 abbrev pub after_reply : Scene → List ℕ → Bool → List Choice → List Choice
@@ -49,4 +52,5 @@ choose_at (Some tuple) choices next = next tuple
 unfoldable pub choose : Scene → List Choice → List Bool → Chosen
 choose scene choices [] = choose_at (splitting_tuple scene choices) choices Wants
 choose scene choices (reply ∷ replies) =
-    choose_at (splitting_tuple scene choices) choices (λ tuple. choose scene (after_reply scene tuple reply choices) replies)
+    choose_at (splitting_tuple scene choices) choices
+    (λ tuple. choose scene (after_reply scene tuple reply choices) replies)

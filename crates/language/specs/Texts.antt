@@ -1,5 +1,6 @@
 -- The texts of questions and candidates.
-use Rattle.std.specs.Prelude.{ℕ, ℤ, pos, ◌+ℤ◌, Bool, not, ◌||◌, List, [], ◌∷◌, ◌++◌, map, filter, Option, Some, None, slice_index_or}
+use Rattle.std.specs.Prelude.{ℕ, ℤ, pos, ◌+ℤ◌, Bool, not, ◌||◌, List, [], ◌∷◌, ◌++◌, map, filter}
+use Rattle.std.specs.Prelude.{Option, Some, None, slice_index_or}
 use Rattle.std.specs.List.{list_all, zip, flat_map}
 use Rattle.std.specs.Fmt.{decimal, signed_decimal}
 use Rattle.assign.specs.Assignment.{Assignment}
@@ -16,7 +17,8 @@ value_text least name (Some x) = 32 ∷ (name ++ 61 ∷ signed_decimal (least +�
 abbrev pub values_text : ℤ → List (List ℕ) → Assignment → List ℕ
 values_text least [] values = []
 values_text least (name ∷ names) [] = []
-values_text least (name ∷ names) (value ∷ values) = value_text least name value ++ values_text least names values
+values_text least (name ∷ names) (value ∷ values) =
+    value_text least name value ++ values_text least names values
 
 -- `q`, the number, and the values: `q1 a=1 b=2`
 abbrev pub question_text : Language → ℕ → Assignment → List ℕ
@@ -34,7 +36,8 @@ joined between (piece ∷ next ∷ pieces) = piece ++ between ∷ joined between
 
 -- the names of those that contain a relation
 abbrev pub names_containing : Relation → List Given → List (List ℕ)
-names_containing r given = map (λ (g : Given). g.name) (filter (λ (g : Given). is_part r g.relation) given)
+names_containing r given =
+    map (λ (g : Given). g.name) (filter (λ (g : Given). is_part r g.relation) given)
 
 -- the vocabulary's relations on the scope of this number that contain a relation there
 abbrev pub containing : Language → ℕ → Relation → List (List ℕ)
@@ -46,4 +49,5 @@ scope_names l scope = map (λ v. slice_index_or l.names v []) scope
 
 -- the relation's name, which lists those that contain it, and the scope's names: `eq&ne a b`
 abbrev pub candidate_text : Language → Candidate → List ℕ
-candidate_text l c = joined 38 (containing l c.scope (relation_of l c)) ++ flat_map (λ name. 32 ∷ name) (scope_names l (scope_of l c))
+candidate_text l c = joined 38 (containing l c.scope (relation_of l c))
+    ++ flat_map (λ name. 32 ∷ name) (scope_names l (scope_of l c))

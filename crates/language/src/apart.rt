@@ -1,9 +1,11 @@
-ghost use Rattle.std.specs.Prelude.{◌≡◌, ◌≢◌, true, ℕ, ◌≤◌, ◌<◌, ◌^◌, Some, None, length, map, position, not, nat_eq, All, IfOk, IfErr, IfSome, OnOk, List};
+ghost use Rattle.std.specs.Prelude.{◌≡◌, ◌≢◌, true, ℕ, ◌≤◌, ◌<◌, ◌^◌, Some, None, length, map};
+ghost use Rattle.std.specs.Prelude.{position, not, nat_eq, All, IfOk, IfErr, IfSome, OnOk, List};
 ghost use Rattle.std.specs.Cmp.Lexicographic.{pointwise};
 ghost use Rattle.assign.specs.Sets.{IsSet, is_same};
 ghost use Rattle.language.specs.Inside.{given_by};
 ghost use Rattle.language.specs.Scopes.{variables_in};
-ghost use Rattle.language.specs.Building.{are_nested, digits, first_pair, has_arity, scope_list_refusal};
+ghost use Rattle.language.specs.Building.{are_nested, digits, first_pair, has_arity};
+ghost use Rattle.language.specs.Building.{scope_list_refusal};
 
 use crate::choosing::has_arity;
 use crate::parts::{LangFault, RelPart};
@@ -55,8 +57,8 @@ fn number_in(set: VarSet) -> u32
     number
 }
 
-/// Whether the sets are seen at once to be apart: they have as many members each, and their numbers rise. So it is with all
-/// scopes of one length, which are too many to be compared in pairs.
+/// Whether the sets are seen at once to be apart: they have as many members each, and their numbers
+/// rise. So it is with all scopes of one length, which are too many to be compared in pairs.
 fn are_in_order(sets: &[VarSet]) -> bool
     ensures { result ≡ true → first_pair are_nested sets.now ≡ None }
 {
@@ -90,7 +92,8 @@ fn first_repeated(sets: &[VarSet]) -> Option<(usize, usize)>
     None
 }
 
-/// The first set that lies within one before it, or that one within it: the number of that one, and its own.
+/// The first set that lies within one before it, or that one within it: the number of that one, and
+/// its own.
 fn first_nested(sets: &[VarSet]) -> Option<(usize, usize)>
     ensures is { result ≡ first_pair are_nested sets.now }
     ensures low { IfSome result (λ pair. pair.0 < length sets.now) }
@@ -109,7 +112,8 @@ fn first_nested(sets: &[VarSet]) -> Option<(usize, usize)>
 
 /// The first set of so many variables as no relation has places.
 fn first_unused(rels: &[RelPart], sets: &[VarSet]) -> Option<usize>
-    ensures { result ≡ position (λ scope. not (has_arity (map given_by rels.now) (length scope))) sets.now }
+    ensures { result
+        ≡ position (λ scope. not (has_arity (map given_by rels.now) (length scope))) sets.now }
 {
     sets.iter().position(|set| !has_arity(rels, set.len()))
 }
@@ -119,7 +123,8 @@ pub(crate) fn refusal_of(rels: &[RelPart], sets: &[VarSet]) -> Option<LangFault>
     requires { length sets.now ≤ 8192 }
     ensures { result ≡ scope_list_refusal (map given_by rels.now) sets.now }
 {
-    // A set that stands twice lies within itself. So where none is nested, none is repeated, and the sets were gone over once.
+    // A set that stands twice lies within itself. So where none is nested, none is repeated, and
+    // the sets were gone over once.
     if let Some((i, j)) = first_nested(sets) {
         return match first_repeated(sets) {
             Some((i, j)) => Some(LangFault::ScopeRepeated(i as u32, j as u32)),

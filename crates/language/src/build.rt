@@ -1,8 +1,10 @@
-ghost use Rattle.std.specs.Prelude.{◌≡◌, ◌≢◌, ℕ, ◌-◌, ◌≤◌, [], map, length, slice_index_or, All, IfOk, IfErr, OnOk, Some, None};
+ghost use Rattle.std.specs.Prelude.{◌≡◌, ◌≢◌, ℕ, ◌-◌, ◌≤◌, [], map, length, slice_index_or, All};
+ghost use Rattle.std.specs.Prelude.{IfOk, IfErr, OnOk, Some, None};
 ghost use Rattle.rel_table.specs.Table.{TruthTable, IsTable};
 ghost use Rattle.language.specs.Language.{Given, AreNames};
 ghost use Rattle.language.specs.Inside.{given_by};
-ghost use Rattle.language.specs.Building.{build_refusal, closing_refusal, listed_in, AreCountable, AreKnown, IsBuilt, IsOver};
+ghost use Rattle.language.specs.Building.{build_refusal, closing_refusal, listed_in, AreCountable};
+ghost use Rattle.language.specs.Building.{AreKnown, IsBuilt, IsOver};
 ghost use Rattle.language.specs.Built.{IsClosedOf};
 
 use crate::frame::Frame;
@@ -34,11 +36,13 @@ fn tables_of(alloc: Global, rels: &[RelPart]) -> Result<Vec<Table>, Memory>
 fn closed_relations(alloc: Global, rels: &[RelPart]) -> Result<Closed, LangFault>
     ghost d: { ℕ }
     requires tables { All (IsOver d) rels.now }
-    ensures closed { IfOk result (λ lists. (arity : ℕ) → 1 ≤ arity → arity ≤ 4 → IsClosedOf d arity (map given_by rels.now) (slice_index_or lists (arity - 1) [])) }
+    ensures closed { IfOk result (λ lists. (arity : ℕ) → 1 ≤ arity → arity ≤ 4 →
+        IsClosedOf d arity (map given_by rels.now) (slice_index_or lists (arity - 1) [])) }
     ensures four { IfOk result (λ lists. length lists ≡ 4) }
     ensures made { OnOk result (closing_refusal (map given_by rels.now) ≡ None) }
     ensures lawful { OnOk result (All (λ (part : RelPart). IsTable part.table) rels.now) }
-    ensures refused { IfErr result (λ e. e ≢ LangFault.Memory → closing_refusal (map given_by rels.now) ≡ Some e) }
+    ensures refused { IfErr result (λ e. e ≢ LangFault.Memory →
+        closing_refusal (map given_by rels.now) ≡ Some e) }
 {
     let tables = tables_of(alloc, rels)?;
     match close(alloc, &tables) {
@@ -49,12 +53,13 @@ fn closed_relations(alloc: Global, rels: &[RelPart]) -> Result<Closed, LangFault
 }
 
 impl Language {
-    /// The language of these relations over these scopes, with the relations of each arity closed under intersection.
+    /// The language of these relations over these scopes, with the relations of each arity closed
+    /// under intersection.
     ///
-    /// Refused, in this order: no relation; a scope that is empty, longer than 4 or not strictly rising; more than
-    /// 8,192 scopes; a scope that stands twice; a scope within another; a scope with no relation of its length; an
-    /// arity with more than 64 intersections. The least scope is named, and of pairs the one whose second scope is
-    /// least, and then whose first is.
+    /// Refused, in this order: no relation; a scope that is empty, longer than 4 or not strictly
+    /// rising; more than 8,192 scopes; a scope that stands twice; a scope within another; a scope
+    /// with no relation of its length; an arity with more than 64 intersections. The least scope is
+    /// named, and of pairs the one whose second scope is least, and then whose first is.
     pub fn build(
         alloc: Global,
         frame: Frame,
@@ -65,9 +70,12 @@ impl Language {
         requires names { AreNames (map (λ (g : Given). g.name) (map given_by rels.items)) }
         requires known { AreKnown (length frame.names) (listed_in scopes) }
         requires countable { AreCountable (listed_in scopes) }
-        ensures built { IfOk result (λ l. IsBuilt frame (map given_by rels.items) (listed_in scopes) l) }
-        ensures made { OnOk result (build_refusal (length frame.names) (map given_by rels.items) (listed_in scopes) ≡ None) }
-        ensures refused { IfErr result (λ e. e ≢ LangFault.Memory → build_refusal (length frame.names) (map given_by rels.items) (listed_in scopes) ≡ Some e) }
+        ensures built { IfOk result
+            (λ l. IsBuilt frame (map given_by rels.items) (listed_in scopes) l) }
+        ensures made { OnOk result (build_refusal (length frame.names) (map given_by rels.items)
+            (listed_in scopes) ≡ None) }
+        ensures refused { IfErr result (λ e. e ≢ LangFault.Memory → build_refusal
+            (length frame.names) (map given_by rels.items) (listed_in scopes) ≡ Some e) }
     {
         if rels.is_empty() {
             return Err(LangFault::NoRelations);

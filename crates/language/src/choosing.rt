@@ -1,4 +1,5 @@
-ghost use Rattle.std.specs.Prelude.{◌≡◌, ◌≢◌, ℕ, ◌≤◌, ◌<◌, ◌^◌, ◌∷◌, ◌+◌, ◌++◌, ◌==◌, [], length, map, All, IfOk, IfErr, OnOk, if◌then◌else◌};
+ghost use Rattle.std.specs.Prelude.{◌≡◌, ◌≢◌, ℕ, ◌≤◌, ◌<◌, ◌^◌, ◌∷◌, ◌+◌, ◌++◌, ◌==◌, [], length};
+ghost use Rattle.std.specs.Prelude.{map, All, IfOk, IfErr, OnOk, if◌then◌else◌};
 ghost use Rattle.std.specs.List.{flat_map, list_any};
 ghost use Rattle.language.specs.Inside.{given_by};
 ghost use Rattle.language.specs.Scopes.{variables_in};
@@ -90,8 +91,10 @@ fn with_longer(mut longer: Vec<Scope>, scope: Scope, n: u8) -> Result<Vec<Scope>
     requires short { scope.size ≤ 3 }
     requires known { All (λ v. v < n) (variables_in scope) }
     requires few { n ≤ 128 }
-    ensures is { IfOk result (λ v. map variables_in v.items ≡ map variables_in longer.items ++ longer_by n 0 (variables_in scope)) }
-    ensures size { IfOk result (λ v. All (λ s. s.size ≡ scope.size + 1) longer.items → All (λ s. s.size ≡ scope.size + 1) v.items) }
+    ensures is { IfOk result (λ v. map variables_in v.items ≡ map variables_in longer.items
+        ++ longer_by n 0 (variables_in scope)) }
+    ensures size { IfOk result (λ v. All (λ s. s.size ≡ scope.size + 1) longer.items →
+        All (λ s. s.size ≡ scope.size + 1) v.items) }
 {
     for v in first_past(scope, n)..n {
         longer.push(with_last(scope, v))?;
@@ -105,7 +108,8 @@ fn one_longer(alloc: Global, n: u8, scopes: &[Scope], size: u8) -> Result<Vec<Sc
     requires short { size ≤ 3 }
     requires sized { All (λ s. s.size ≡ size) scopes.now }
     requires known { All (All (λ v. v < n)) (map variables_in scopes.now) }
-    ensures is { IfOk result (λ v. map variables_in v.items ≡ flat_map (longer_by n 0) (map variables_in scopes.now)) }
+    ensures is { IfOk result
+        (λ v. map variables_in v.items ≡ flat_map (longer_by n 0) (map variables_in scopes.now)) }
     ensures sized { IfOk result (λ v. All (λ s. s.size ≡ size + 1) v.items) }
 {
     let mut longer = Vec::new(alloc);
@@ -145,7 +149,8 @@ fn with_arity(
     requires some { 1 ≤ arity }
     requires short { arity ≤ 4 }
     requires sized { All (λ s. (1 ≤ s.size) × (s.size ≤ 4)) scopes.items }
-    ensures is { IfOk result (λ v. map variables_in v.items ≡ map variables_in scopes.items ++ (if has_arity (map given_by rels.now) arity then rising_lists n arity else [])) }
+    ensures is { IfOk result (λ v. map variables_in v.items ≡ map variables_in scopes.items
+        ++ (if has_arity (map given_by rels.now) arity then rising_lists n arity else [])) }
     ensures sized { IfOk result (λ v. All (λ s. (1 ≤ s.size) × (s.size ≤ 4)) v.items) }
 {
     if has_arity(rels, arity) {
@@ -158,7 +163,8 @@ fn with_arity(
 /// Each arity's, in turn.
 fn each_arity(alloc: Global, n: u8, rels: &[RelPart]) -> Result<Vec<Scope>, AllocError>
     requires { n ≤ 128 }
-    ensures is { IfOk result (λ v. map variables_in v.items ≡ all_scopes n (map given_by rels.now)) }
+    ensures is { IfOk result
+        (λ v. map variables_in v.items ≡ all_scopes n (map given_by rels.now)) }
     ensures sized { IfOk result (λ v. All (λ s. (1 ≤ s.size) × (s.size ≤ 4)) v.items) }
 {
     let mut scopes = Vec::new(alloc);
@@ -171,10 +177,12 @@ fn each_arity(alloc: Global, n: u8, rels: &[RelPart]) -> Result<Vec<Scope>, Allo
 /// All scopes of the arities that the relations have. They are counted before any is made.
 pub(crate) fn all_scopes(alloc: Global, n: u8, rels: &[RelPart]) -> Result<Vec<Scope>, LangFault>
     requires { n ≤ 128 }
-    ensures is { IfOk result (λ v. map variables_in v.items ≡ all_scopes n (map given_by rels.now)) }
+    ensures is { IfOk result
+        (λ v. map variables_in v.items ≡ all_scopes n (map given_by rels.now)) }
     ensures sized { IfOk result (λ v. All (λ s. (1 ≤ s.size) × (s.size ≤ 4)) v.items) }
     ensures few { OnOk result (length (all_scopes n (map given_by rels.now)) ≤ 8192) }
-    ensures many { IfErr result (λ e. e ≢ LangFault.Memory → (e ≡ LangFault.TooManyScopes) × (8192 < length (all_scopes n (map given_by rels.now)))) }
+    ensures many { IfErr result (λ e. e ≢ LangFault.Memory →
+        (e ≡ LangFault.TooManyScopes) × (8192 < length (all_scopes n (map given_by rels.now)))) }
 {
     if count_all(n, rels) as usize > MOST_SCOPES {
         return Err(LangFault::TooManyScopes);

@@ -1,7 +1,10 @@
-ghost use Rattle.std.specs.Prelude.{◌≡◌, ◌<◌, ◌≤◌, ◌+ℤ◌, ◌-ℤ◌, ◌<ℤ◌, ◌≤ℤ◌, pos, negsuc, unsigned_abs, map, length, replicate, set, true, string_bytes, IfOk, IfErr, OnOk, Some, None};
+ghost use Rattle.std.specs.Prelude.{◌≡◌, ◌<◌, ◌≤◌, ◌+ℤ◌, ◌-ℤ◌, ◌<ℤ◌, ◌≤ℤ◌, pos, negsuc};
+ghost use Rattle.std.specs.Prelude.{unsigned_abs, map, length, replicate, set, true, string_bytes};
+ghost use Rattle.std.specs.Prelude.{IfOk, IfErr, OnOk, Some, None};
 ghost use Rattle.language.specs.Language.{AreNames};
 ghost use Rattle.language.specs.Ranges.{whole_range};
-ghost use Rattle.language.specs.Building.{is_domain, values_between, range_between, frame_refusal, IsFrame};
+ghost use Rattle.language.specs.Building.{is_domain, values_between, range_between, frame_refusal};
+ghost use Rattle.language.specs.Building.{IsFrame};
 
 use crate::parts::LangFault;
 use crate::ranges::ValueRange;
@@ -78,17 +81,19 @@ fn whole_ranges(value_count: u8) -> [ValueRange; MOST_VARIABLES as usize]
 }
 
 impl Frame {
-    /// The frame of these variables and of the values from lo to hi: `NoVariables` where no name is given,
-    /// `TooManyVariables` for more than 128, `BadDomain` where hi is below lo, a bound lies outside a million or there
-    /// are more than 64 values.
+    /// The frame of these variables and of the values from lo to hi: `NoVariables` where no name is
+    /// given, `TooManyVariables` for more than 128, `BadDomain` where hi is below lo, a bound lies
+    /// outside a million or there are more than 64 values.
     pub fn new(names: Vec<String>, lo: i64, hi: i64) -> Result<Frame, LangFault>
         requires names { AreNames (map string_bytes names.items) }
         ensures names { IfOk result (λ f. f.names ≡ map string_bytes names.items) }
         ensures least { IfOk result (λ f. f.least_value ≡ lo) }
         ensures values { IfOk result (λ f. f.value_count ≡ values_between lo hi) }
-        ensures ranges { IfOk result (λ f. f.ranges ≡ replicate (length names.items) (whole_range (values_between lo hi))) }
+        ensures ranges { IfOk result
+            (λ f. f.ranges ≡ replicate (length names.items) (whole_range (values_between lo hi))) }
         ensures made { OnOk result (frame_refusal (map string_bytes names.items) lo hi ≡ None) }
-        ensures refused { IfErr result (λ e. frame_refusal (map string_bytes names.items) lo hi ≡ Some e) }
+        ensures refused { IfErr result
+            (λ e. frame_refusal (map string_bytes names.items) lo hi ≡ Some e) }
     {
         if names.is_empty() {
             return Err(LangFault::NoVariables);
@@ -117,7 +122,8 @@ impl Frame {
         ensures names { self.new.names ≡ self.old.names }
         ensures least { self.new.least_value ≡ self.old.least_value }
         ensures values { self.new.value_count ≡ self.old.value_count }
-        ensures ranges { self.new.ranges ≡ set self.old.ranges v (range_between self.old.least_value first last) }
+        ensures ranges { self.new.ranges
+            ≡ set self.old.ranges v (range_between self.old.least_value first last) }
     {
         self.ranges[v as usize] = ValueRange {
             first: index_of(self.least_value, first),

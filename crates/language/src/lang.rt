@@ -1,10 +1,15 @@
-ghost use Rattle.std.specs.Prelude.{◌≡◌, ◌<◌, ◌≤◌, ◌+◌, ◌^◌, ◌==◌, ℕ, IsTrue, length, slice_index_or, [], IfSome, IfOk, OnOk, string_bytes, false, not};
+ghost use Rattle.std.specs.Prelude.{◌≡◌, ◌<◌, ◌≤◌, ◌+◌, ◌^◌, ◌==◌, ℕ, IsTrue, length};
+ghost use Rattle.std.specs.Prelude.{slice_index_or, [], IfSome, IfOk, OnOk, string_bytes, false};
+ghost use Rattle.std.specs.Prelude.{not};
 ghost use Rattle.std.specs.Int.{bit_at};
 ghost use Rattle.assign.specs.Sets.{is_same, least_of};
 ghost use Rattle.language.specs.Texts.{question_text, candidate_text};
 ghost use Rattle.language.specs.Ranges.{are_in, widened, AgreeWithin};
 ghost use Rattle.rel_table.specs.Relation.{tuple_at};
-ghost use Rattle.language.specs.Language.{variable_count, range_of, is_whole, scope_at, scope_number, candidates, number_of, relations_on, place_on, violates, IsLanguage, IsScope, IsCandidate, IsQuestion};
+ghost use Rattle.language.specs.Language.{variable_count, range_of, is_whole, scope_at};
+ghost use Rattle.language.specs.Language.{scope_number, candidates, number_of, relations_on};
+ghost use Rattle.language.specs.Language.{place_on, violates, IsLanguage, IsScope, IsCandidate};
+ghost use Rattle.language.specs.Language.{IsQuestion};
 
 use crate::candidates::{Candidate, ScopeId};
 use crate::masks::PairMasks;
@@ -111,7 +116,8 @@ impl Language {
         set_of(self.scopes[s as usize].as_slice())
     }
 
-    /// Whether a scope has exactly these variables, where this is the least one. Most scopes begin with another one.
+    /// Whether a scope has exactly these variables, where this is the least one. Most scopes begin
+    /// with another one.
     fn has_variables(&self, s: ScopeId, w: VarSet, least: Option<u8>) -> bool
         requires scope { s < length self.now.scopes }
         requires least { least ≡ least_of w }
@@ -170,7 +176,8 @@ impl Language {
     fn is_inside(&self, s: ScopeId, place: u32) -> bool
         requires scope { s < length self.now.scopes }
         requires place { place < self.now.value_count ^ length (scope_at self.now s) }
-        ensures { result ≡ are_in self.now.ranges (scope_at self.now s) (tuple_at self.now.value_count (length (scope_at self.now s)) place) }
+        ensures { result ≡ are_in self.now.ranges (scope_at self.now s)
+            (tuple_at self.now.value_count (length (scope_at self.now s)) place) }
     {
         if self.is_whole {
             return true;
@@ -181,18 +188,22 @@ impl Language {
             || lies_within(ranges, self.value_count, scope, place)
     }
 
-    /// A table that agrees with relation r on a scope at each tuple within the ranges; outside them the relation holds. Where
-    /// each variable of the scope has all values it is the relation's.
+    /// A table that agrees with relation r on a scope at each tuple within the ranges; outside them
+    /// the relation holds. Where each variable of the scope has all values it is the relation's.
     #[inline]
     pub fn table_on(&self, s: ScopeId, r: u8) -> &Table
         requires scope { s < length self.now.scopes }
         requires rel { r < length (relations_on self.now s) }
-        ensures agrees { AgreeWithin self.now.ranges self.now.value_count (scope_at self.now s) result.now.truth (slice_index_or (relations_on self.now s) r []) }
-        ensures widened { widened self.now.ranges self.now.value_count (scope_at self.now s) result.now.truth ≡ slice_index_or (relations_on self.now s) r [] }
-        ensures whole { IsTrue (is_whole self.now s) → result.now.truth ≡ slice_index_or (relations_on self.now s) r [] }
+        ensures agrees { AgreeWithin self.now.ranges self.now.value_count
+            (scope_at self.now s) result.now.truth (slice_index_or (relations_on self.now s) r []) }
+        ensures widened { widened self.now.ranges self.now.value_count
+            (scope_at self.now s) result.now.truth ≡ slice_index_or (relations_on self.now s) r [] }
+        ensures whole { IsTrue (is_whole self.now s) →
+            result.now.truth ≡ slice_index_or (relations_on self.now s) r [] }
         ensures arity { result.now.arity ≡ length (scope_at self.now s) }
         ensures values { result.now.value_count ≡ self.now.value_count }
-        ensures size { length result.now.truth ≡ self.now.value_count ^ length (scope_at self.now s) }
+        ensures size { length result.now.truth
+            ≡ self.now.value_count ^ length (scope_at self.now s) }
     {
         let tables = self.relations.list(self.scope(s).len() as u8);
         let number = self.on[self.numbers[s as usize] as usize + r as usize];
@@ -204,30 +215,35 @@ impl Language {
         requires scope { s < length self.now.scopes }
         requires rel { r < length (relations_on self.now s) }
         requires place { place < self.now.value_count ^ length (scope_at self.now s) }
-        ensures { result ≡ slice_index_or (slice_index_or (relations_on self.now s) r []) place false }
+        ensures { result
+            ≡ slice_index_or (slice_index_or (relations_on self.now s) r []) place false }
     {
         self.table_on(s, r).at(place) || !self.is_inside(s, place)
     }
 
-    /// Whether relation r on a scope accepts the tuple at a place, of which it is known whether it is outside the ranges.
+    /// Whether relation r on a scope accepts the tuple at a place, of which it is known whether it
+    /// is outside the ranges.
     #[inline]
     fn holds_at(&self, s: ScopeId, r: u8, place: u32, outside: bool) -> bool
         requires scope { s < length self.now.scopes }
         requires rel { r < length (relations_on self.now s) }
         requires place { place < self.now.value_count ^ length (scope_at self.now s) }
-        requires outside { outside ≡ not (are_in self.now.ranges (scope_at self.now s) (tuple_at self.now.value_count (length (scope_at self.now s)) place)) }
-        ensures { result ≡ slice_index_or (slice_index_or (relations_on self.now s) r []) place false }
+        requires outside { outside ≡ not (are_in self.now.ranges (scope_at self.now s)
+            (tuple_at self.now.value_count (length (scope_at self.now s)) place)) }
+        ensures { result
+            ≡ slice_index_or (slice_index_or (relations_on self.now s) r []) place false }
     {
         let table = self.table_on(s, r);
         outside || table.at(place)
     }
 
-    /// The relations on a scope that accept the tuple at a place: bit r is 1 exactly where relation r does. Whether the tuple is
-    /// within the ranges is looked at once for all.
+    /// The relations on a scope that accept the tuple at a place: bit r is 1 exactly where relation
+    /// r does. Whether the tuple is within the ranges is looked at once for all.
     pub fn accepting(&self, s: ScopeId, place: u32) -> u64
         requires scope { s < length self.now.scopes }
         requires place { place < self.now.value_count ^ length (scope_at self.now s) }
-        ensures is { (r : ℕ) → (bit_at result r == 1) ≡ slice_index_or (slice_index_or (relations_on self.now s) r []) place false }
+        ensures is { (r : ℕ) → (bit_at result r == 1)
+            ≡ slice_index_or (slice_index_or (relations_on self.now s) r []) place false }
         ensures lawful { IsLanguage self.now }
     {
         let outside = !self.is_inside(s, place);
@@ -239,13 +255,16 @@ impl Language {
         relations
     }
 
-    /// The truth values of relation r on a scope from a place on, one for each value of the last variable: bit y is 1 where
-    /// it accepts the tuple y places further. The bits past the values mean nothing.
+    /// The truth values of relation r on a scope from a place on, one for each value of the last
+    /// variable: bit y is 1 where it accepts the tuple y places further. The bits past the values
+    /// mean nothing.
     pub fn row_on(&self, s: ScopeId, r: u8, place: u32) -> u64
         requires scope { s < length self.now.scopes }
         requires rel { r < length (relations_on self.now s) }
-        requires row { place + self.now.value_count ≤ self.now.value_count ^ length (scope_at self.now s) }
-        ensures { (y : ℕ) → y < self.now.value_count → (bit_at result y == 1) ≡ slice_index_or (slice_index_or (relations_on self.now s) r []) (place + y) false }
+        requires row { place + self.now.value_count
+            ≤ self.now.value_count ^ length (scope_at self.now s) }
+        ensures { (y : ℕ) → y < self.now.value_count → (bit_at result y == 1)
+            ≡ slice_index_or (slice_index_or (relations_on self.now s) r []) (place + y) false }
     {
         if self.is_whole(s) {
             return self.table_on(s, r).row(place);
@@ -271,7 +290,8 @@ impl Language {
         ensures candidate { IsCandidate self.now result }
         ensures number { number_of self.now result ≡ number }
     {
-        // The last scope whose first candidate has no greater number, of those that have candidates.
+        // The last scope whose first candidate has no greater number, of those that have
+        // candidates.
         let s = self.numbers.partition_point(|first| *first <= number) - 1;
         Candidate {
             scope: s as ScopeId,
@@ -288,18 +308,21 @@ impl Language {
         self.numbers[c.scope as usize] + u32::from(c.rel)
     }
 
-    /// The place of a question's tuple on a scope, where the question gives each variable there a value.
+    /// The place of a question's tuple on a scope, where the question gives each variable there a
+    /// value.
     pub fn place_on(&self, s: ScopeId, q: &Partial) -> Option<u32>
         requires scope { s < length self.now.scopes }
         requires question { IsQuestion self.now q.now }
         ensures is { result ≡ place_on self.now s q.now }
-        ensures below { IfSome result (λ at. at < self.now.value_count ^ length (scope_at self.now s)) }
+        ensures below { IfSome result
+            (λ at. at < self.now.value_count ^ length (scope_at self.now s)) }
         ensures small { self.now.value_count ^ length (scope_at self.now s) ≤ 65536 }
     {
         place_of_values(self.value_count, self.scope(s), q)
     }
 
-    /// Whether a question gives each variable of the candidate's scope a value, and the relation rejects them.
+    /// Whether a question gives each variable of the candidate's scope a value, and the relation
+    /// rejects them.
     pub fn candidate_violated(&self, c: Candidate, q: &Partial) -> bool
         requires candidate { IsCandidate self.now c }
         requires question { IsQuestion self.now q.now }
@@ -320,8 +343,9 @@ impl Language {
         Ok(text)
     }
 
-    /// Writes the text of question k in place of what `text` held, in the memory that it has, as far as that goes. Who writes
-    /// question after question is spared a new text for each. Where memory lacks, `text` is of no further use but for another call.
+    /// Writes the text of question k in place of what `text` held, in the memory that it has, as
+    /// far as that goes. Who writes question after question is spared a new text for each. Where
+    /// memory lacks, `text` is of no further use but for another call.
     pub fn write_question(&self, text: &mut String, k: u32, q: &Partial) -> Result<(), Memory>
         ensures { OnOk result (string_bytes text.new ≡ question_text self.now k q.now) }
     {
@@ -329,7 +353,8 @@ impl Language {
         Ok(())
     }
 
-    /// The names of the relations that contain the candidate's, and those of its variables: `eq&ne a b`.
+    /// The names of the relations that contain the candidate's, and those of its variables: `eq&ne
+    /// a b`.
     pub fn candidate_text(&self, alloc: Global, c: Candidate) -> Result<String, Memory>
         requires { IsCandidate self.now c }
         ensures { IfOk result (λ t. string_bytes t ≡ candidate_text self.now c) }

@@ -1,6 +1,7 @@
 //! Laws of the definitions, as contracts of functions that do nothing.
 
-ghost use Rattle.language.specs.Laws.{BuiltIsOne, CandidatesAreClosed, CandidatesAreNumbered, CoveredIsConverged};
+ghost use Rattle.language.specs.Laws.{BuiltIsOne, CandidatesAreClosed, CandidatesAreNumbered};
+ghost use Rattle.language.specs.Laws.{CoveredIsConverged};
 
 /// Two candidates on one scope have an intersection among the candidates there.
 pub fn candidates_are_closed()

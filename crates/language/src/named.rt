@@ -1,6 +1,7 @@
 //! Scopes and relations, told by their names.
 
-ghost use Rattle.std.specs.Prelude.{◌≡◌, ℕ, ◌^◌, ◌<◌, ◌≤◌, List, [], length, map, All, string_bytes, slice_index_or, option_map, IfSome};
+ghost use Rattle.std.specs.Prelude.{◌≡◌, ℕ, ◌^◌, ◌<◌, ◌≤◌, List, [], length, map, All};
+ghost use Rattle.std.specs.Prelude.{string_bytes, slice_index_or, option_map, IfSome};
 ghost use Rattle.std.specs.Str.{bytes_eq};
 ghost use Rattle.std.specs.Cmp.Lexicographic.{pointwise};
 ghost use Rattle.assign.specs.SetLemmas.{is_one};
@@ -8,7 +9,8 @@ ghost use Rattle.rel_table.specs.Table.{TruthTable};
 ghost use Rattle.language.specs.Inside.{given_by};
 ghost use Rattle.language.specs.Language.{of_arity, scope_at, relations_on, IsLanguage};
 ghost use Rattle.language.specs.Ranges.{widened};
-ghost use Rattle.language.specs.ByName.{texts_of, has_names, scope_named, relation_among, relation_named, TellsWithin, TellsNamed};
+ghost use Rattle.language.specs.ByName.{texts_of, has_names, scope_named, relation_among};
+ghost use Rattle.language.specs.ByName.{relation_named, TellsWithin, TellsNamed};
 
 use crate::candidates::ScopeId;
 use crate::lang::Language;
@@ -18,7 +20,8 @@ use rel_table::Table;
 
 /// The table of the relation of this arity and name.
 fn table_named<'a>(given: &'a [RelPart], arity: u8, name: &str) -> Option<&'a Table>
-    ensures { option_map (λ t. t.now.truth) result ≡ relation_among name.now (of_arity arity (map given_by given.entry.now)) }
+    ensures { option_map (λ t. t.now.truth) result
+        ≡ relation_among name.now (of_arity arity (map given_by given.entry.now)) }
 {
     for part in given {
         if part.table.arity() == arity && part.name.as_str() == name {
@@ -31,7 +34,8 @@ fn table_named<'a>(given: &'a [RelPart], arity: u8, name: &str) -> Option<&'a Ta
 /// Whether the variables of a scope have these names, in this order.
 fn are_named(all: &[String], scope: &[u8], names: &[&str]) -> bool
     requires { All (λ v. v < length all.now) scope.now }
-    ensures { result ≡ pointwise bytes_eq (map (λ (v : ℕ). slice_index_or (map string_bytes all.now) v []) scope.now) (texts_of names.now) }
+    ensures { result ≡ pointwise bytes_eq (map (λ (v : ℕ).
+        slice_index_or (map string_bytes all.now) v []) scope.now) (texts_of names.now) }
 {
     if scope.len() != names.len() {
         return false;
@@ -70,8 +74,10 @@ impl Language {
     /// Which relations on a scope lie within a table's there: bit r tells of relation r.
     fn within(&self, s: ScopeId, table: &Table) -> u64
         requires scope { s < length self.now.scopes }
-        requires size { length table.now.truth ≡ self.now.value_count ^ length (scope_at self.now s) }
-        ensures { TellsWithin self.now s (widened self.now.ranges self.now.value_count (scope_at self.now s) table.now.truth) result }
+        requires size { length table.now.truth
+            ≡ self.now.value_count ^ length (scope_at self.now s) }
+        ensures { TellsWithin self.now s (widened self.now.ranges self.now.value_count
+            (scope_at self.now s) table.now.truth) result }
     {
         let scope = self.scope(s);
         let ranges = self.own_ranges();
@@ -82,8 +88,9 @@ impl Language {
         relations
     }
 
-    /// Which relations on a scope lie within the vocabulary's relation of this name, of the scope's arity: bit r tells of
-    /// relation r. None where no relation of the arity has the name. Takes no memory.
+    /// Which relations on a scope lie within the vocabulary's relation of this name, of the scope's
+    /// arity: bit r tells of relation r. None where no relation of the arity has the name. Takes no
+    /// memory.
     pub fn within_named(&self, s: ScopeId, name: &str) -> Option<u64>
         requires { s < length self.now.scopes }
         ensures { TellsNamed self.now s (relation_named self.now s name.now) result }

@@ -18,8 +18,8 @@ fn are_name_bytes(bytes: &[u8]) -> bool
     bytes.iter().all(|byte| is_name_byte(*byte))
 }
 
-/// Whether a text has the form of a name: 1 to 64 visible ASCII characters, none of them `=` or `&`. `Frame::new` takes
-/// names of this form, no two of them equal.
+/// Whether a text has the form of a name: 1 to 64 visible ASCII characters, none of them `=` or
+/// `&`. `Frame::new` takes names of this form, no two of them equal.
 pub fn is_name(name: &str) -> bool
     ensures { result ≡ is_name name.now }
 {

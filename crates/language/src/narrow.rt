@@ -1,13 +1,15 @@
 //! The relations on a scope whose variables have ranges.
 
-ghost use Rattle.std.specs.Prelude.{◌≡◌, ℕ, ◌^◌, ◌<◌, ◌≤◌, [], length, map, take, drop, slice_index_or, ◌&&◌, All, Contains, IfOk, IfSome, None};
+ghost use Rattle.std.specs.Prelude.{◌≡◌, ℕ, ◌^◌, ◌<◌, ◌≤◌, [], length, map, take, drop};
+ghost use Rattle.std.specs.Prelude.{slice_index_or, ◌&&◌, All, Contains, IfOk, IfSome, None};
 ghost use Rattle.std.specs.List.{flat_map, range_with_len, list_all};
 ghost use Rattle.assign.specs.Sets.{numbers};
 ghost use Rattle.rel_table.specs.Relation.{Relation, meet, tuple_at};
 ghost use Rattle.rel_table.specs.Table.{TruthTable};
 ghost use Rattle.rel_table.specs.Closing.{IsOfKind};
 ghost use Rattle.rel_table.specs.InOrder.{Above, IsBelow, IsInOrder};
-ghost use Rattle.language.specs.Ranges.{is_in, range_in, is_whole_range, have_same_ranges, are_in, are_whole, inside, widened};
+ghost use Rattle.language.specs.Ranges.{is_in, range_in, is_whole_range, have_same_ranges, are_in};
+ghost use Rattle.language.specs.Ranges.{are_whole, inside, widened};
 ghost use Rattle.language.specs.Texts.{is_part};
 ghost use Rattle.language.specs.Language.{IsScope};
 ghost use Rattle.language.specs.Building.{relations_of_arity, IsOver};
@@ -110,7 +112,8 @@ fn is_pair_part(ranges: &[ValueRange], scope: &[u8], table: &Table, other: &Tabl
     requires size { length table.now.truth ≡ table.now.value_count ^ 2 }
     requires other { length other.now.truth ≡ table.now.value_count ^ 2 }
     requires values { other.now.value_count ≡ table.now.value_count }
-    ensures { let d = table.now.value_count in result ≡ is_part (widened ranges.now d scope.now table.now.truth) (widened ranges.now d scope.now other.now.truth) }
+    ensures { let d = table.now.value_count in result ≡ is_part (widened ranges.now d scope.now
+        table.now.truth) (widened ranges.now d scope.now other.now.truth) }
 {
     let d = table.value_count();
     let range = ranges[scope[0] as usize];
@@ -124,12 +127,14 @@ fn is_pair_part(ranges: &[ValueRange], scope: &[u8], table: &Table, other: &Tabl
     true
 }
 
-/// Whether each tuple of the first relation is one of the second on a scope, where both hold outside the ranges.
+/// Whether each tuple of the first relation is one of the second on a scope, where both hold
+/// outside the ranges.
 pub(crate) fn is_part_on(ranges: &[ValueRange], scope: &[u8], table: &Table, other: &Table) -> bool
     requires scope { IsScope (length ranges.now) scope.now }
     requires size { length table.now.truth ≡ table.now.value_count ^ length scope.now }
     requires other { length other.now.truth ≡ table.now.value_count ^ length scope.now }
-    ensures { let d = table.now.value_count in result ≡ is_part (widened ranges.now d scope.now table.now.truth) (widened ranges.now d scope.now other.now.truth) }
+    ensures { let d = table.now.value_count in result ≡ is_part (widened ranges.now d scope.now
+        table.now.truth) (widened ranges.now d scope.now other.now.truth) }
 {
     let value_count = table.value_count();
     if are_whole(ranges, value_count, scope) {
@@ -146,14 +151,16 @@ pub(crate) fn is_part_on(ranges: &[ValueRange], scope: &[u8], table: &Table, oth
     true
 }
 
-/// Puts each value before each tuple: it is within where the value is one of the range and the tuple was within.
+/// Puts each value before each tuple: it is within where the value is one of the range and the
+/// tuple was within.
 fn with_first(
     alloc: Global,
     range: ValueRange,
     d: u8,
     rest: &[bool],
 ) -> Result<Vec<bool>, AllocError>
-    ensures { IfOk result (λ v. v.items ≡ flat_map (λ x. map (λ within. is_in range x && within) rest.now) (numbers d)) }
+    ensures { IfOk result (λ v.
+        v.items ≡ flat_map (λ x. map (λ within. is_in range x && within) rest.now) (numbers d)) }
 {
     let mut truth = Vec::with_capacity(alloc, rest.len())?;
     for x in 0..d {
@@ -170,7 +177,11 @@ fn inside(alloc: Global, ranges: &[ValueRange], d: u8, scope: &[u8]) -> Result<T
     requires ranges { AreRanges d ranges.now }
     requires scope { IsScope (length ranges.now) scope.now }
     requires fits { d ^ length scope.now ≤ 65536 }
-    ensures { IfOk result (λ t. t ≡ record { arity = length scope.now; value_count = d; truth = inside ranges.now d scope.now }) }
+    ensures { IfOk result (λ t. t ≡ record {
+      arity = length scope.now;
+      value_count = d;
+      truth = inside ranges.now d scope.now;
+    }) }
 {
     // From the last variable back, so that no place has to be taken apart.
     let mut truth = vec![in alloc; true]?;
@@ -184,9 +195,11 @@ fn inside(alloc: Global, ranges: &[ValueRange], d: u8, scope: &[u8]) -> Result<T
 /// The vocabulary's relations of a table's arity, each cut down to the table.
 fn given_under(alloc: Global, rels: &[RelPart], mask: &Table) -> Result<Vec<Table>, Memory>
     requires { All (IsOver mask.now.value_count) rels.now }
-    ensures are { IfOk result (λ v. truths v.items ≡ map (λ r. meet r mask.now.truth) (relations_of_arity (map given_by rels.now) mask.now.arity)) }
+    ensures are { IfOk result (λ v. truths v.items ≡ map (λ r. meet r mask.now.truth)
+        (relations_of_arity (map given_by rels.now) mask.now.arity)) }
     ensures arity { IfOk result (λ v. All (λ (t : TruthTable). t.arity ≡ mask.now.arity) v.items) }
-    ensures values { IfOk result (λ v. All (λ (t : TruthTable). t.value_count ≡ mask.now.value_count) v.items) }
+    ensures values { IfOk result
+        (λ v. All (λ (t : TruthTable). t.value_count ≡ mask.now.value_count) v.items) }
 {
     let mut under = Vec::new(alloc);
     for part in rels {
@@ -200,9 +213,11 @@ fn given_under(alloc: Global, rels: &[RelPart], mask: &Table) -> Result<Vec<Tabl
 /// These tables, each cut down to another.
 fn tables_under(alloc: Global, tables: &[Table], mask: &Table) -> Result<Vec<Table>, Memory>
     requires { All (IsOfKind mask.now.arity mask.now.value_count) tables.now }
-    ensures are { IfOk result (λ v. truths v.items ≡ map (λ r. meet r mask.now.truth) (truths tables.now)) }
+    ensures are { IfOk result
+        (λ v. truths v.items ≡ map (λ r. meet r mask.now.truth) (truths tables.now)) }
     ensures arity { IfOk result (λ v. All (λ (t : TruthTable). t.arity ≡ mask.now.arity) v.items) }
-    ensures values { IfOk result (λ v. All (λ (t : TruthTable). t.value_count ≡ mask.now.value_count) v.items) }
+    ensures values { IfOk result
+        (λ v. All (λ (t : TruthTable). t.value_count ≡ mask.now.value_count) v.items) }
 {
     let mut under = Vec::new(alloc);
     for table in tables {
@@ -230,7 +245,8 @@ fn numbers_among(alloc: Global, tables: &[Table], chosen: &[Table]) -> Result<Ve
     requires there { All (Contains tables.now) chosen.now }
     requires few { length tables.now ≤ 64 }
     ensures below { IfOk result (λ v. All (λ k. k < length tables.now) v.items) }
-    ensures are { IfOk result (λ v. map (λ (k : ℕ). slice_index_or (truths tables.now) k []) v.items ≡ truths chosen.now) }
+    ensures are { IfOk result (λ v.
+        map (λ (k : ℕ). slice_index_or (truths tables.now) k []) v.items ≡ truths chosen.now) }
 {
     let mut numbers = Vec::with_capacity(alloc, chosen.len())?;
     for table in chosen {
@@ -239,7 +255,8 @@ fn numbers_among(alloc: Global, tables: &[Table], chosen: &[Table]) -> Result<Ve
     Ok(numbers)
 }
 
-/// The numbers of the tables whose relations differ within the ranges, one for each relation, in falling order.
+/// The numbers of the tables whose relations differ within the ranges, one for each relation, in
+/// falling order.
 fn narrow_numbers(
     alloc: Global,
     ranges: &[ValueRange],
@@ -253,7 +270,8 @@ fn narrow_numbers(
     requires fits { d ^ length scope.now ≤ 65536 }
     requires over { All (IsOver d) rels.now }
     requires closed { IsClosedOf d (length scope.now) (map given_by rels.now) tables.now }
-    ensures { IfOk result (λ v. AreChosen ranges.now d (map given_by rels.now) tables.now scope.now v.items) }
+    ensures { IfOk result
+        (λ v. AreChosen ranges.now d (map given_by rels.now) tables.now scope.now v.items) }
 {
     let mask = inside(alloc, ranges, d, scope)?;
     let given = given_under(alloc, rels, &mask)?;
@@ -277,7 +295,8 @@ fn all_numbers(alloc: Global, count: u8) -> Result<Vec<u8>, AllocError>
     Ok(numbers)
 }
 
-/// Whether the first of two masks has the least bit among these that is in one of them alone. Nothing where there is none.
+/// Whether the first of two masks has the least bit among these that is in one of them alone.
+/// Nothing where there is none.
 fn first_bit(one: u64, other: u64, among: u64) -> Option<bool>
     ensures { TellsFirstBit one other among result }
 {
@@ -288,8 +307,9 @@ fn first_bit(one: u64, other: u64, among: u64) -> Option<bool>
     Some((one >> differ.trailing_zeros()) & 1 == 1)
 }
 
-/// Whether the first of two tables of two variables comes before the other on a scope. Nothing where they are the same within the
-/// ranges. It goes by rows, of which the values of the second variable's range count.
+/// Whether the first of two tables of two variables comes before the other on a scope. Nothing
+/// where they are the same within the ranges. It goes by rows, of which the values of the second
+/// variable's range count.
 fn comes_before(
     ranges: &[ValueRange],
     d: u8,
@@ -304,7 +324,8 @@ fn comes_before(
     requires among { IsRangeMask d (range_in ranges.now (slice_index_or scope.now 1 0)) among }
     requires one { IsOfKind 2 d one.now }
     requires other { IsOfKind 2 d other.now }
-    ensures { TellsOrder (widened ranges.now d scope.now one.now.truth) (widened ranges.now d scope.now other.now.truth) result }
+    ensures { TellsOrder (widened ranges.now d scope.now one.now.truth)
+        (widened ranges.now d scope.now other.now.truth) result }
 {
     let range = ranges[scope[0] as usize];
     for x in range.first..range.last + 1 {
@@ -317,8 +338,8 @@ fn comes_before(
     None
 }
 
-/// How many of the chosen tables, which stand in falling order on a scope of two variables, come before another one; None where one
-/// of them is the same within the ranges.
+/// How many of the chosen tables, which stand in falling order on a scope of two variables, come
+/// before another one; None where one of them is the same within the ranges.
 fn place_within(
     ranges: &[ValueRange],
     d: u8,
@@ -335,10 +356,13 @@ fn place_within(
     requires kinds { All (IsOfKind 2 d) tables.now }
     requires known { All (λ k. k < length tables.now) chosen.now }
     requires table { IsOfKind 2 d table.now }
-    ensures there { result ≡ None → Contains (chosen_on ranges.now d tables.now scope.now chosen.now) (widened ranges.now d scope.now table.now.truth) }
+    ensures there { result ≡ None → Contains (chosen_on ranges.now d tables.now scope.now
+        chosen.now) (widened ranges.now d scope.now table.now.truth) }
     ensures within { IfSome result (λ at. at ≤ length chosen.now) }
-    ensures before { IfSome result (λ at. All (λ q. Above q (widened ranges.now d scope.now table.now.truth)) (take at (chosen_on ranges.now d tables.now scope.now chosen.now))) }
-    ensures after { IfSome result (λ at. IsBelow (widened ranges.now d scope.now table.now.truth) (drop at (chosen_on ranges.now d tables.now scope.now chosen.now))) }
+    ensures before { IfSome result (λ at. All (λ q. Above q (widened ranges.now d scope.now
+        table.now.truth)) (take at (chosen_on ranges.now d tables.now scope.now chosen.now))) }
+    ensures after { IfSome result (λ at. IsBelow (widened ranges.now d scope.now table.now.truth)
+        (drop at (chosen_on ranges.now d tables.now scope.now chosen.now))) }
 {
     for at in 0..chosen.len() {
         let here = &tables[chosen[at] as usize];
@@ -351,8 +375,8 @@ fn place_within(
     Some(chosen.len())
 }
 
-/// The numbers of the tables of two variables whose relations differ within the ranges, one for each relation, in falling order: with
-/// no table made, unlike `narrow_numbers`.
+/// The numbers of the tables of two variables whose relations differ within the ranges, one for
+/// each relation, in falling order: with no table made, unlike `narrow_numbers`.
 fn pair_numbers(
     alloc: Global,
     ranges: &[ValueRange],
@@ -365,7 +389,8 @@ fn pair_numbers(
     requires two { length scope.now ≡ 2 }
     requires kinds { All (IsOfKind 2 d) tables.now }
     requires few { length tables.now ≤ 64 }
-    ensures order { IfOk result (λ v. IsInOrder (map (widened ranges.now d scope.now) (truths tables.now)) (chosen_on ranges.now d tables.now scope.now v.items)) }
+    ensures order { IfOk result (λ v. IsInOrder (map (widened ranges.now d scope.now)
+        (truths tables.now)) (chosen_on ranges.now d tables.now scope.now v.items)) }
     ensures known { IfOk result (λ v. All (λ k. k < length tables.now) v.items) }
     ensures few { IfOk result (λ v. length v.items ≤ length tables.now) }
 {
@@ -393,7 +418,8 @@ pub(crate) fn numbers_on(
     requires fits { d ^ length scope.now ≤ 65536 }
     requires over { All (IsOver d) rels.now }
     requires closed { IsClosedOf d (length scope.now) (map given_by rels.now) tables.now }
-    ensures { IfOk result (λ v. AreChosen ranges.now d (map given_by rels.now) tables.now scope.now v.items) }
+    ensures { IfOk result
+        (λ v. AreChosen ranges.now d (map given_by rels.now) tables.now scope.now v.items) }
 {
     if are_whole(ranges, d, scope) {
         return Ok(all_numbers(alloc, tables.len() as u8)?);

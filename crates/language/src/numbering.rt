@@ -1,6 +1,7 @@
 //! The numbers of candidates, and of the tables of their relations.
 
-ghost use Rattle.std.specs.Prelude.{◌≡◌, ℕ, ◌-◌, ◌^◌, ◌≤◌, [], length, map, slice_index_or, All, IfOk, OnOk};
+ghost use Rattle.std.specs.Prelude.{◌≡◌, ℕ, ◌-◌, ◌^◌, ◌≤◌, [], length, map, slice_index_or, All};
+ghost use Rattle.std.specs.Prelude.{IfOk, OnOk};
 ghost use Rattle.language.specs.Scopes.{variables_in};
 ghost use Rattle.language.specs.Language.{IsScope};
 ghost use Rattle.language.specs.Building.{IsOver};
@@ -38,9 +39,12 @@ pub(crate) fn numbers_of(
     requires lawful { All (IsScope (length ranges.now)) (map variables_in scopes.now) }
     requires fits { All (λ scope. d ^ length scope ≤ 65536) (map variables_in scopes.now) }
     requires few { length scopes.now ≤ 8192 }
-    requires closed { (arity : ℕ) → 1 ≤ arity → arity ≤ 4 → IsClosedOf d arity (map given_by rels.now) (slice_index_or relations.now (arity - 1) []) }
-    ensures all { IfOk result (λ by. AreAll ranges.now d (map given_by rels.now) relations.now scopes.now by.on.items by.starts.items) }
-    ensures sized { OnOk result (All (λ (scope : Scope). length (variables_in scope) ≡ scope.size) scopes.now) }
+    requires closed { (arity : ℕ) → 1 ≤ arity → arity ≤ 4 →
+        IsClosedOf d arity (map given_by rels.now) (slice_index_or relations.now (arity - 1) []) }
+    ensures all { IfOk result (λ by. AreAll ranges.now d
+        (map given_by rels.now) relations.now scopes.now by.on.items by.starts.items) }
+    ensures sized { OnOk result
+        (All (λ (scope : Scope). length (variables_in scope) ≡ scope.size) scopes.now) }
 {
     let mut on = Vec::new(alloc);
     let mut starts = Vec::with_capacity(alloc, scopes.len() + 1)?;

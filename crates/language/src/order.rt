@@ -10,8 +10,8 @@ use arrayvec::ArrayVec;
 const ROOM: usize = 132;
 
 impl Language {
-    /// The order in which prefixes give values to search against a candidate: the variables of its scope, and then the
-    /// others in vocabulary order.
+    /// The order in which prefixes give values to search against a candidate: the variables of its
+    /// scope, and then the others in vocabulary order.
     pub fn order_of(&self, c: Candidate) -> ArrayVec<u8, ROOM>
         requires { IsCandidate self.now c }
         ensures is { result.items ≡ order_of self.now c }

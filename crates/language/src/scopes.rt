@@ -1,9 +1,11 @@
-ghost use Rattle.std.specs.Prelude.{◌≡◌, ◌≢◌, ℕ, ◌≤◌, ◌<◌, ◌^◌, Some, None, length, map, take, IsTrue, position, not, List, All, IfOk, IfErr, OnOk};
+ghost use Rattle.std.specs.Prelude.{◌≡◌, ◌≢◌, ℕ, ◌≤◌, ◌<◌, ◌^◌, Some, None, length, map, take};
+ghost use Rattle.std.specs.Prelude.{IsTrue, position, not, List, All, IfOk, IfErr, OnOk};
 ghost use Rattle.assign.specs.Sets.{IsSet};
 ghost use Rattle.language.specs.Inside.{given_by};
 ghost use Rattle.language.specs.Scopes.{variables_in};
 ghost use Rattle.language.specs.Language.{Given};
-ghost use Rattle.language.specs.Building.{is_ordered, scopes_of, scopes_refusal, listed_in, AreKnown, AreCountable};
+ghost use Rattle.language.specs.Building.{is_ordered, scopes_of, scopes_refusal, listed_in};
+ghost use Rattle.language.specs.Building.{AreKnown, AreCountable};
 ghost use Rattle.language.specs.Built.{AreScopes};
 
 use crate::apart::{refusal_of, sets_of};
@@ -78,7 +80,8 @@ fn to_scope(variables: &[u8]) -> Scope
 /// Copies of scopes that are in order.
 fn copies(alloc: Global, listed: &[SmallVec<u8, 4>]) -> Result<Vec<Scope>, AllocError>
     requires { All (λ scope. IsTrue (is_ordered scope.items)) listed.now }
-    ensures is { IfOk result (λ v. map variables_in v.items ≡ map (λ scope. scope.items) listed.now) }
+    ensures is { IfOk result
+        (λ v. map variables_in v.items ≡ map (λ scope. scope.items) listed.now) }
     ensures sized { IfOk result (λ v. All (λ scope. (1 ≤ scope.size) × (scope.size ≤ 4)) v.items) }
 {
     let mut scopes = Vec::with_capacity(alloc, listed.len())?;
@@ -100,11 +103,14 @@ fn first_unordered(listed: &[SmallVec<u8, 4>]) -> Option<usize>
 /// Copies of the listed scopes, each of which must be in order.
 fn listed_scopes(alloc: Global, listed: &[SmallVec<u8, 4>]) -> Result<Vec<Scope>, LangFault>
     requires { length listed.now < 2 ^ 32 }
-    ensures is { IfOk result (λ v. map variables_in v.items ≡ map (λ scope. scope.items) listed.now) }
+    ensures is { IfOk result
+        (λ v. map variables_in v.items ≡ map (λ scope. scope.items) listed.now) }
     ensures sized { IfOk result (λ v. All (λ scope. (1 ≤ scope.size) × (scope.size ≤ 4)) v.items) }
     ensures few { OnOk result (length listed.now ≤ 8192) }
-    ensures ordered { OnOk result (position (λ scope. not (is_ordered scope)) (map (λ scope. scope.items) listed.now) ≡ None) }
-    ensures refused { IfErr result (λ e. e ≢ LangFault.Memory → (given : List Given) → scopes_refusal given (map (λ scope. scope.items) listed.now) ≡ Some e) }
+    ensures ordered { OnOk result (position (λ scope. not (is_ordered scope))
+        (map (λ scope. scope.items) listed.now) ≡ None) }
+    ensures refused { IfErr result (λ e. e ≢ LangFault.Memory → (given : List Given) →
+        scopes_refusal given (map (λ scope. scope.items) listed.now) ≡ Some e) }
 {
     if let Some(i) = first_unordered(listed) {
         return Err(LangFault::ScopeOrder(i as u32));
@@ -124,11 +130,15 @@ fn scopes_in(
 ) -> Result<Vec<Scope>, LangFault>
     requires few { n ≤ 128 }
     requires countable { AreCountable (listed_in part.now) }
-    ensures is { IfOk result (λ v. map variables_in v.items ≡ scopes_of n (map given_by rels.now) (listed_in part.now)) }
+    ensures is { IfOk result
+        (λ v. map variables_in v.items ≡ scopes_of n (map given_by rels.now) (listed_in part.now)) }
     ensures sized { IfOk result (λ v. All (λ scope. (1 ≤ scope.size) × (scope.size ≤ 4)) v.items) }
-    ensures few { OnOk result (length (scopes_of n (map given_by rels.now) (listed_in part.now)) ≤ 8192) }
-    ensures ordered { OnOk result (position (λ scope. not (is_ordered scope)) (scopes_of n (map given_by rels.now) (listed_in part.now)) ≡ None) }
-    ensures refused { IfErr result (λ e. let given = map given_by rels.now in e ≢ LangFault.Memory → scopes_refusal given (scopes_of n given (listed_in part.now)) ≡ Some e) }
+    ensures few { OnOk result
+        (length (scopes_of n (map given_by rels.now) (listed_in part.now)) ≤ 8192) }
+    ensures ordered { OnOk result (position (λ scope. not (is_ordered scope))
+        (scopes_of n (map given_by rels.now) (listed_in part.now)) ≡ None) }
+    ensures refused { IfErr result (λ e. let given = map given_by rels.now in e ≢ LangFault.Memory →
+        scopes_refusal given (scopes_of n given (listed_in part.now)) ≡ Some e) }
 {
     match part {
         ScopePart::All => all_scopes(alloc, n, rels),
@@ -136,7 +146,8 @@ fn scopes_in(
     }
 }
 
-/// The scopes that are stated, each copied into fixed room, so that threads share no list of their own.
+/// The scopes that are stated, each copied into fixed room, so that threads share no list of their
+/// own.
 pub(crate) fn stated_scopes(
     alloc: Global,
     n: u8,
@@ -146,10 +157,13 @@ pub(crate) fn stated_scopes(
     requires few { n ≤ 128 }
     requires known { AreKnown n (listed_in part) }
     requires countable { AreCountable (listed_in part) }
-    ensures is { IfOk result (λ v. map variables_in v.items ≡ scopes_of n (map given_by rels.now) (listed_in part)) }
+    ensures is { IfOk result
+        (λ v. map variables_in v.items ≡ scopes_of n (map given_by rels.now) (listed_in part)) }
     ensures sound { IfOk result (λ v. AreScopes n (map given_by rels.now) v.items) }
-    ensures made { OnOk result (let given = map given_by rels.now in scopes_refusal given (scopes_of n given (listed_in part)) ≡ None) }
-    ensures refused { IfErr result (λ e. let given = map given_by rels.now in e ≢ LangFault.Memory → scopes_refusal given (scopes_of n given (listed_in part)) ≡ Some e) }
+    ensures made { OnOk result (let given = map given_by rels.now in
+        scopes_refusal given (scopes_of n given (listed_in part)) ≡ None) }
+    ensures refused { IfErr result (λ e. let given = map given_by rels.now in e ≢ LangFault.Memory →
+        scopes_refusal given (scopes_of n given (listed_in part)) ≡ Some e) }
 {
     let scopes = scopes_in(alloc, n, rels, &part)?;
     let sets = sets_of(alloc, &scopes)?;

@@ -1,4 +1,6 @@
-ghost use Rattle.std.specs.Prelude.{◌≡◌, ◌<◌, ◌≤◌, ◌^◌, ℕ, ◌++◌, ◌∷◌, ◌&&◌, ◌==◌, pos, negsuc, ◌≤ℤ◌, List, [], length, map, All, OnOk, IfOk, string_bytes, if◌then◌else◌, slice_index_or};
+ghost use Rattle.std.specs.Prelude.{◌≡◌, ◌<◌, ◌≤◌, ◌^◌, ℕ, ◌++◌, ◌∷◌, ◌&&◌, ◌==◌, pos, negsuc};
+ghost use Rattle.std.specs.Prelude.{◌≤ℤ◌, List, [], length, map, All, OnOk, IfOk, string_bytes};
+ghost use Rattle.std.specs.Prelude.{if◌then◌else◌, slice_index_or};
 ghost use Rattle.std.specs.List.{flat_map};
 ghost use Rattle.std.specs.Fmt.{decimal, signed_decimal};
 ghost use Rattle.language.specs.Inside.{given_by};
@@ -42,7 +44,8 @@ fn add_value(
 ) -> Result<(), AllocError>
     requires low { negsuc 999999 ≤ℤ least_value }
     requires high { least_value ≤ℤ pos 1000000 }
-    ensures { OnOk result (string_bytes text.new ≡ string_bytes text.old ++ value_text least_value name.now value) }
+    ensures { OnOk result
+        (string_bytes text.new ≡ string_bytes text.old ++ value_text least_value name.now value) }
 {
     let Some(value) = value else {
         return Ok(());
@@ -53,8 +56,8 @@ fn add_value(
     add_number(text, least_value + i64::from(value))
 }
 
-/// How many bytes a question's text takes that gives values to these variables, unless names or numbers are long. With so many
-/// at hand it needn't grow.
+/// How many bytes a question's text takes that gives values to these variables, unless names or
+/// numbers are long. With so many at hand it needn't grow.
 pub(crate) fn room_for(valued: VarSet) -> usize {
     16 + 8 * usize::from(valued.len())
 }
@@ -70,7 +73,8 @@ pub(crate) fn write_question(
     requires low { negsuc 999999 ≤ℤ least_value }
     requires high { least_value ≤ℤ pos 1000000 }
     requires few { length names.now ≤ 128 }
-    ensures { OnOk result (string_bytes text.new ≡ 113 ∷ (decimal k ++ values_text least_value (map string_bytes names.now) q.now)) }
+    ensures { OnOk result (string_bytes text.new ≡ 113
+        ∷ (decimal k ++ values_text least_value (map string_bytes names.now) q.now)) }
 {
     text.clear();
     add_mark(text, k)?;
@@ -91,14 +95,17 @@ fn contains(part: &RelPart, ranges: &[ValueRange], scope: &[u8], table: &Table) 
     requires scope { IsScope (length ranges.now) scope.now }
     requires size { length table.now.truth ≡ table.now.value_count ^ length scope.now }
     requires part { length part.now.table.truth ≡ table.now.value_count ^ part.now.table.arity }
-    ensures { let on : Relation → Relation = widened ranges.now table.now.value_count scope.now in result ≡ ((part.now.table.arity == length scope.now) && is_part (on table.now.truth) (on part.now.table.truth)) }
+    ensures { let on : Relation → Relation = widened ranges.now table.now.value_count scope.now in
+        result ≡ ((part.now.table.arity == length scope.now) && is_part (on table.now.truth)
+        (on part.now.table.truth)) }
 {
     part.table.arity() as usize == scope.len() && is_part_on(ranges, scope, table, &part.table)
 }
 
 /// Adds a name to others, with `&` between them.
 fn add_name(text: &mut String, name: &str) -> Result<(), AllocError>
-    ensures { OnOk result (string_bytes text.new ≡ (if length (string_bytes text.old) == 0 then name.now else string_bytes text.old ++ 38 ∷ name.now)) }
+    ensures { OnOk result (string_bytes text.new ≡ (if length (string_bytes text.old) == 0
+        then name.now else string_bytes text.old ++ 38 ∷ name.now)) }
 {
     if text.is_empty() {
         return text.push_str(name);
@@ -115,10 +122,13 @@ fn name_of(
     table: &Table,
 ) -> Result<String, AllocError>
     requires names { All (λ part. 1 ≤ length (string_bytes part.name)) given.now }
-    requires sized { All (λ part. length part.table.truth ≡ table.now.value_count ^ part.table.arity) given.now }
+    requires sized { All
+        (λ part. length part.table.truth ≡ table.now.value_count ^ part.table.arity) given.now }
     requires scope { IsScope (length ranges.now) scope.now }
     requires size { length table.now.truth ≡ table.now.value_count ^ length scope.now }
-    ensures { IfOk result (λ t. let d = table.now.value_count in string_bytes t ≡ joined 38 (names_containing (widened ranges.now d scope.now table.now.truth) (map (given_within ranges.now d scope.now) (of_arity (length scope.now) (map given_by given.now))))) }
+    ensures { IfOk result (λ t. let d = table.now.value_count in string_bytes t ≡ joined 38
+        (names_containing (widened ranges.now d scope.now table.now.truth) (map (given_within
+        ranges.now d scope.now) (of_arity (length scope.now) (map given_by given.now))))) }
 {
     let mut text = String::new(alloc);
     for part in given {
@@ -139,11 +149,16 @@ pub(crate) fn text_of_candidate(
     names: &[String],
 ) -> Result<String, AllocError>
     requires names { All (λ part. 1 ≤ length (string_bytes part.name)) given.now }
-    requires sized { All (λ part. length part.table.truth ≡ table.now.value_count ^ part.table.arity) given.now }
+    requires sized { All
+        (λ part. length part.table.truth ≡ table.now.value_count ^ part.table.arity) given.now }
     requires scope { IsScope (length ranges.now) scope.now }
     requires size { length table.now.truth ≡ table.now.value_count ^ length scope.now }
     requires known { length names.now ≡ length ranges.now }
-    ensures { IfOk result (λ t. let d = table.now.value_count in string_bytes t ≡ joined 38 (names_containing (widened ranges.now d scope.now table.now.truth) (map (given_within ranges.now d scope.now) (of_arity (length scope.now) (map given_by given.now)))) ++ flat_map (λ name. 32 ∷ name) (map (λ (v : ℕ). slice_index_or (map string_bytes names.now) v []) scope.now)) }
+    ensures { IfOk result (λ t. let d = table.now.value_count in
+        string_bytes t ≡ joined 38 (names_containing
+        (widened ranges.now d scope.now table.now.truth) (map (given_within ranges.now d scope.now)
+        (of_arity (length scope.now) (map given_by given.now)))) ++ flat_map (λ name.
+        32 ∷ name) (map (λ (v : ℕ). slice_index_or (map string_bytes names.now) v []) scope.now)) }
 {
     let mut text = name_of(alloc, given, ranges, scope, table)?;
     for v in scope {

@@ -10,7 +10,8 @@ use samples::assigned;
 use std::alloc::Global;
 use std::str::SplitWhitespace;
 
-/// Pairs `VARIABLE=VALUE`, variables by their numbers, and values from 1: the question that gives them.
+/// Pairs `VARIABLE=VALUE`, variables by their numbers, and values from 1: the question that gives
+/// them.
 pub(crate) fn question_in(
     alloc: Global,
     lang: &Language,
@@ -50,7 +51,8 @@ pub(crate) fn place(alloc: Global, lang: &Language, arguments: &str) -> Option<S
     }
 }
 
-/// A number, and what is asked: the candidate of the number, its scope and relation, and whether it is violated.
+/// A number, and what is asked: the candidate of the number, its scope and relation, and whether it
+/// is violated.
 pub(crate) fn candidate(alloc: Global, lang: &Language, arguments: &str) -> Option<String> {
     let mut words = arguments.split_whitespace();
     let at = number(&mut words)?;

@@ -1,6 +1,7 @@
-//! Trials of sets of variables and of assignments, of relations as tables, of vocabularies, of the languages that are made of
-//! them, and of networks: what they come to, and why they are refused, was worked out by hand. Formulas are held beside their
-//! worth in 128 bits. `stdin` is their table.
+//! Trials of sets of variables and of assignments, of relations as tables, of vocabularies, of the
+//! languages that are made of them, and of networks: what they come to, and why they are refused,
+//! was worked out by hand. Formulas are held beside their worth in 128 bits. `stdin` is their
+//! table.
 #![tactic(auto)]
 
 mod formulas;

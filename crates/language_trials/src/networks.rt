@@ -55,7 +55,8 @@ fn learn_all(lang: &Language, net: &mut Network, list: &str) -> Option<()>
     Some(())
 }
 
-/// The network that learns candidates, and where others stand behind ` then`, forgets them all and learns the others.
+/// The network that learns candidates, and where others stand behind ` then`, forgets them all and
+/// learns the others.
 fn network_in(alloc: Global, lang: &Language, text: &str) -> Option<Network>
     ensures { IfSome result (λ net. IsNetwork lang.now net.list) }
 {

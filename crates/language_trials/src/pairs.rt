@@ -9,7 +9,8 @@ use rel_table::{Closed, Table, close};
 use rows::{end, number};
 use std::alloc::Global;
 
-/// Of two values and nine: those of four tuples whose bits are in the mask. Two stand in the first 64 places, and two beyond.
+/// Of two values and nine: those of four tuples whose bits are in the mask. Two stand in the first
+/// 64 places, and two beyond.
 fn chosen(alloc: Global, mask: u8) -> Option<Table>
     ensures { IfSome result (λ (t : TruthTable). t.value_count ≡ 9) }
 {
@@ -55,8 +56,8 @@ pub(crate) fn masks(alloc: Global, arguments: &str) -> Option<String> {
     format!(in alloc; "{agree} pairs agree").ok()
 }
 
-/// Of two values, each one of two: the tuples whose bits are in the mask. The first tuple's bit is 8, so the falling order is
-/// that of the masks.
+/// Of two values, each one of two: the tuples whose bits are in the mask. The first tuple's bit is
+/// 8, so the falling order is that of the masks.
 fn pair(alloc: Global, mask: u8) -> Option<Table>
     ensures { IfSome result (λ (t : TruthTable). t.value_count ≡ 2) }
 {
@@ -197,7 +198,8 @@ fn chain(alloc: Global, arguments: &str) -> Option<Vec<Table>>
     Some(file)
 }
 
-/// How many relations of one place there are, and the truth of the first and of the last of them at each value.
+/// How many relations of one place there are, and the truth of the first and of the last of them at
+/// each value.
 fn chained(alloc: Global, closed: &Closed) -> Option<String> {
     let list = closed.list(1);
     let count = list.len();

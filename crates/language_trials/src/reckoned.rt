@@ -6,7 +6,8 @@ use crate::formulas::{fault_text, table_text};
 use rel_formula::TableOfFault;
 use std::alloc::Global;
 
-/// Numbers that follow one another without pattern: a linear congruence of 64 bits, of which the high bits are used.
+/// Numbers that follow one another without pattern: a linear congruence of 64 bits, of which the
+/// high bits are used.
 #[derive(Drop)]
 struct Dice {
     state: u64,
@@ -26,7 +27,8 @@ impl Dice {
     }
 }
 
-/// A part of a formula with what it is worth at each of the nine tuples over -1 to 1, reckoned in 128 bits beside the text.
+/// A part of a formula with what it is worth at each of the nine tuples over -1 to 1, reckoned in
+/// 128 bits beside the text.
 #[derive(Drop)]
 struct Sample {
     text: String,
@@ -185,7 +187,8 @@ fn one(alloc: Global, dice: &mut Dice) -> Option<(bool, bool)> {
     Some((found.as_str() == wanted.as_str(), wanted.len() != 9))
 }
 
-/// So many formulas without pattern: how many agree with their worth, and how many of them are too big at some place.
+/// So many formulas without pattern: how many agree with their worth, and how many of them are too
+/// big at some place.
 pub(crate) fn random(alloc: Global, arguments: &str) -> Option<String> {
     let mut dice = Dice { state: 1 };
     let mut agree = 0u32;

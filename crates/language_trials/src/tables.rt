@@ -98,7 +98,8 @@ pub(crate) fn tuples(alloc: Global, arguments: &str) -> Option<String> {
     }
 }
 
-/// The relation with one tuple, of one value again and again: an arity, a number of values, and the value.
+/// The relation with one tuple, of one value again and again: an arity, a number of values, and the
+/// value.
 fn constant(alloc: Global, text: &str) -> Option<Table> {
     let mut words = text.split_whitespace();
     let arity = number::<u8>(&mut words)?;

@@ -14,7 +14,8 @@ fn variable_in(word: &str) -> Option<u8>
     if v < 128 { Some(v) } else { None }
 }
 
-/// The set of these variables, one after the other: `all`, a number to put in, or a number behind a `-` to take out.
+/// The set of these variables, one after the other: `all`, a number to put in, or a number behind a
+/// `-` to take out.
 fn set_in(text: &str) -> Option<VarSet> {
     let mut set = VarSet::empty();
     for word in text.split_whitespace() {
@@ -84,7 +85,8 @@ fn push_pair(text: &mut String, one: VarSet, other: VarSet) -> Option<()> {
     write!(text, "{within}, {equal}").ok()
 }
 
-/// Two sets: the members of one or both, those of the first that the second lacks, and how the first stands to the second.
+/// Two sets: the members of one or both, those of the first that the second lacks, and how the
+/// first stands to the second.
 pub(crate) fn sets(alloc: Global, arguments: &str) -> Option<String> {
     let (one, other) = arguments.split_once(" and ")?;
     let one = set_in(one)?;
@@ -113,7 +115,8 @@ fn assignment_in(text: &str) -> Option<Partial> {
     Some(e)
 }
 
-/// The values, also at numbers past the variables, the variables that have one, and whether each has.
+/// The values, also at numbers past the variables, the variables that have one, and whether each
+/// has.
 fn push_assignment(text: &mut String, e: &Partial) -> Option<()> {
     text.push_str("values").ok()?;
     for v in 0..=u8::MAX {
@@ -176,7 +179,8 @@ pub(crate) fn compared(alloc: Global, over: &str, arguments: &str) -> Option<Str
     String::from_str(alloc, said(e.equals(&other))).ok()
 }
 
-/// How many options it has as an event holds it, and whether it is the same then, and when it is cut to its variables again.
+/// How many options it has as an event holds it, and whether it is the same then, and when it is
+/// cut to its variables again.
 fn recorded_text(alloc: Global, e: &Partial) -> Option<String> {
     let event = e.widened();
     if e.len() > event.len() {

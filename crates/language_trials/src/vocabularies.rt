@@ -25,7 +25,8 @@ pub(crate) fn of_bytes(alloc: Global, arguments: &str) -> Option<String> {
     told(alloc, &bytes)
 }
 
-/// A text: how many of its fronts, from the empty one up to all of it but the last byte, are no JSON.
+/// A text: how many of its fronts, from the empty one up to all of it but the last byte, are no
+/// JSON.
 pub(crate) fn fronts(alloc: Global, arguments: &str) -> Option<String> {
     let whole = arguments.as_bytes();
     let mut count = 0usize;
@@ -56,7 +57,8 @@ fn triples(alloc: Global, count: u32) -> Option<String> {
     Some(triples)
 }
 
-/// The vocabulary of 38 variables and a relation of three places on so many scopes: what reading it answers.
+/// The vocabulary of 38 variables and a relation of three places on so many scopes: what reading it
+/// answers.
 pub(crate) fn of_triples(alloc: Global, arguments: &str) -> Option<String> {
     let scopes = triples(alloc, arguments.parse().ok()?)?;
     let mut names = String::from_str(alloc, "\"v0\"").ok()?;

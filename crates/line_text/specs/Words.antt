@@ -1,5 +1,6 @@
 -- Lines and words, and the decimal numbers that words write.
-use Rattle.std.specs.Prelude.{ℕ, ◌+◌, ◌==◌, nat_le, nat_lt, Bool, not, ◌&&◌, ◌||◌, List, length, take, drop, slice_index, position, Option, Some, None, if◌then◌else◌}
+use Rattle.std.specs.Prelude.{ℕ, ◌+◌, ◌==◌, nat_le, nat_lt, Bool, not, ◌&&◌, ◌||◌, List, length}
+use Rattle.std.specs.Prelude.{take, drop, slice_index, position, Option, Some, None, if◌then◌else◌}
 use Rattle.std.specs.Char.{is_digit}
 use Rattle.std.specs.List.{list_all, slice_split}
 use Rattle.std.specs.Option.{option_map, option_and_then}
@@ -9,7 +10,8 @@ use Rattle.std.specs.Str.Parse.{digits_value}
 
 -- digits, of which the first is a 0 only where it stands alone
 abbrev pub begins_well : List ℕ → Bool
-begins_well digits = nat_lt 0 (length digits) && (not (slice_index digits 0 == 48) || (length digits == 1))
+begins_well digits =
+    nat_lt 0 (length digits) && (not (slice_index digits 0 == 48) || (length digits == 1))
 
 abbrev pub is_decimal : List ℕ → Bool
 is_decimal digits = begins_well digits && list_all (λ b. is_digit b 10) digits
@@ -24,17 +26,20 @@ capped n = if nat_lt n 4294967296 then n else 4294967295
 
 -- the same, where it is below a bound
 abbrev pub decimal_below : ℕ → List ℕ → Option ℕ
-decimal_below bound digits = option_and_then (λ n. if nat_lt n bound then Some n else None) (decimal_in digits)
+decimal_below bound digits =
+    option_and_then (λ n. if nat_lt n bound then Some n else None) (decimal_in digits)
 
 -- a number below a bound, and not below the least
 abbrev pub number_from : ℕ → ℕ → List ℕ → Option ℕ
-number_from least bound digits = option_and_then (λ n. if nat_le least n then Some n else None) (decimal_below bound digits)
+number_from least bound digits =
+    option_and_then (λ n. if nat_le least n then Some n else None) (decimal_below bound digits)
 
 -- ---- Lines and words
 
 -- what stands before and behind the first byte that is this, where there is one
 abbrev pub cut_at : ℕ → List ℕ → Option (List ℕ × List ℕ)
-cut_at byte bytes = option_map (λ i. (take i bytes, drop (i + 1) bytes)) (position (λ b. b == byte) bytes)
+cut_at byte bytes =
+    option_map (λ i. (take i bytes, drop (i + 1) bytes)) (position (λ b. b == byte) bytes)
 
 abbrev pub is_space : ℕ → Bool
 is_space b = b == 32

@@ -3,7 +3,8 @@
 ghost use Rattle.std.specs.Prelude.{◌≡◌, ◌<◌, ◌≤◌, ◌==◌, ◌∷◌, length, position, IfSome};
 ghost use Rattle.std.specs.Iterator.{YieldsFirstRef, item_count};
 ghost use Rattle.std.specs.Option.{option_map};
-ghost use Rattle.line_text.specs.Words.{begins_well, capped, cut_at, decimal_below, decimal_in, number_from, words_in};
+ghost use Rattle.line_text.specs.Words.{begins_well, capped, cut_at, decimal_below, decimal_in};
+ghost use Rattle.line_text.specs.Words.{number_from, words_in};
 ghost use Rattle.line_text.specs.Left.{words_left, words_of};
 
 /// Where the byte is for the first time.
@@ -36,8 +37,8 @@ fn begins_well(digits: &[u8]) -> bool
     !digits.is_empty() && (digits[0] != b'0' || digits.len() == 1)
 }
 
-/// The number that digits write, where a 0 stands first only alone. One that needs more than 32 bits is taken for the greatest
-/// of 32.
+/// The number that digits write, where a 0 stands first only alone. One that needs more than 32
+/// bits is taken for the greatest of 32.
 pub fn decimal_in(digits: &[u8]) -> Option<u32>
     ensures { result ≡ option_map capped (decimal_in digits.now) }
 {

@@ -1,5 +1,6 @@
 -- What an example violates, listed once for all sets that are taken.
-use Rattle.std.specs.Prelude.{ℕ, ◌≡◌, ◌≤◌, Bool, true, false, List, [], ◌∷◌, length, take, filter, find, map, Option}
+use Rattle.std.specs.Prelude.{ℕ, ◌≡◌, ◌≤◌, Bool, true, false, List, [], ◌∷◌, length, take, filter}
+use Rattle.std.specs.Prelude.{find, map, Option}
 use Rattle.std.specs.List.{list_any}
 use Rattle.std.specs.Option.{option_map}
 use Rattle.assign.specs.Sets.{is_within}
@@ -20,8 +21,10 @@ abbrev pub item_within : List Violated → List ℕ → Option Candidate
 item_within items set = option_map (λ v. v.item) (find (λ v. is_within v.variables set) items)
 
 -- in the first places are those that e violates among the items that were looked at
-pub record AreListed (l : Language) (network : List Candidate) (e : Assignment) (places : List Violated) (listed : Listed) : Type 0 where
-  pub is : take listed.count places ≡ map (beside_scope l) (filter (λ c. violates l c e) (take listed.looked_at network))
+pub record AreListed (l : Language) (network : List Candidate) (e : Assignment)
+    (places : List Violated) (listed : Listed) : Type 0 where
+  pub is : take listed.count places
+      ≡ map (beside_scope l) (filter (λ c. violates l c e) (take listed.looked_at network))
   pub few : listed.count ≤ length places
   pub within : listed.looked_at ≤ length network
 
@@ -30,11 +33,15 @@ abbrev pub IsListing : Language → List Candidate → Assignment → Listing �
 IsListing l network e listing = AreListed l network e listing.places.items listing.listed
 
 -- the sets are scopes of kept candidates that e violates, and all such ones where that is said
-pub record AreStruck (l : Language) (kept : List Candidate) (e : Assignment) (sets : List (List ℕ)) (are_all : Bool) : Type 0 where
-  pub some : (w : List ℕ) → list_any (λ set. is_within set w) sets ≡ true → is_struck_within l kept e w ≡ true
-  pub all : are_all ≡ true → (w : List ℕ) → is_struck_within l kept e w ≡ true → list_any (λ set. is_within set w) sets ≡ true
+pub record AreStruck (l : Language) (kept : List Candidate) (e : Assignment) (sets : List (List ℕ))
+    (are_all : Bool) : Type 0 where
+  pub some : (w : List ℕ) → list_any (λ set. is_within set w) sets ≡ true →
+      is_struck_within l kept e w ≡ true
+  pub all : are_all ≡ true → (w : List ℕ) → is_struck_within l kept e w ≡ true →
+      list_any (λ set. is_within set w) sets ≡ true
 
 -- where so many sets or more wait below one that waits, none of the others lies within it
 abbrev pub AreBarren : List (List ℕ) → ℕ → List (List ℕ) → Type 0
 AreBarren sets barren [] = Unit {0}
-AreBarren sets barren (set ∷ below) = (barren ≤ length below → list_any (λ u. is_within u set) sets ≡ false) × AreBarren sets barren below
+AreBarren sets barren (set ∷ below) = (barren ≤ length below →
+    list_any (λ u. is_within u set) sets ≡ false) × AreBarren sets barren below

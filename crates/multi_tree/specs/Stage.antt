@@ -47,12 +47,14 @@ IsWalkOn l (Done end) = Unit {0}
 
 -- it begins with the set of all variables
 abbrev pub stage_begun : Language → Assignment → Stage
-stage_begun l e = Ready (record { example = e; waiting = numbers (variable_count l) ∷ []; left = MOST_SETS })
+stage_begun l e =
+    Ready (record { example = e; waiting = numbers (variable_count l) ∷ []; left = MOST_SETS })
 
 -- the next turn
 abbrev pub turn_at : Language → List Candidate → List Candidate → Stage → Turn
 turn_at l network kept (Ready walk) = next_turn l network kept walk.example walk.left walk.waiting
-turn_at l network kept (Asked set walk) = next_turn l network kept walk.example walk.left walk.waiting
+turn_at l network kept (Asked set walk) =
+    next_turn l network kept walk.example walk.left walk.waiting
 turn_at l network kept (Done end) = Ends end
 
 abbrev pub stage_after : Turn → Stage
@@ -67,4 +69,5 @@ put_again (Done end) = Done end
 
 -- it has come to the set of all variables, as its first turn does for an example that may be put
 abbrev pub first_asked : Language → Assignment → Stage
-first_asked l e = Asked (numbers (variable_count l)) (record { example = e; waiting = []; left = 4095 })
+first_asked l e =
+    Asked (numbers (variable_count l)) (record { example = e; waiting = []; left = 4095 })

@@ -16,7 +16,8 @@ next_of_turn (Ends (Capped e)) = next.Capped
 
 -- the turn of an answer, with the sets and the number that it leaves
 abbrev pub turn_told : Assignment → TreeNext → List (List ℕ) → ℕ → Turn
-turn_told e (next.Ask set) waiting left = Asks set (record { example = e; waiting = waiting; left = left })
+turn_told e (next.Ask set) waiting left =
+    Asks set (record { example = e; waiting = waiting; left = left })
 turn_told e next.End waiting left = Ends (Ended e)
 turn_told e next.Capped waiting left = Ends (Capped e)
 

@@ -1,6 +1,7 @@
 //! The sets that wait in a walk, in room that is taken once.
 
-ghost use Rattle.std.specs.Prelude.{◌≡◌, ◌<◌, ◌≤◌, ◌++◌, ◌∷◌, ◌↔◌, IsTrue, true, [], length, All, IfOk, IfSome, IfNone};
+ghost use Rattle.std.specs.Prelude.{◌≡◌, ◌<◌, ◌≤◌, ◌++◌, ◌∷◌, ◌↔◌, IsTrue, true, [], length, All};
+ghost use Rattle.std.specs.Prelude.{IfOk, IfSome, IfNone};
 ghost use Rattle.assign.specs.Sets.{has, IsSet};
 ghost use Rattle.session_laws.specs.Walk.{parts_without};
 ghost use Rattle.multi_tree.specs.Depth.{FitsOn};

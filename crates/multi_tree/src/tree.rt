@@ -1,6 +1,8 @@
 //! The walk of an example, a turn at a time.
 
-ghost use Rattle.std.specs.Prelude.{◌≡◌, ◌≢◌, ◌<◌, ◌≤◌, ◌++◌, ◌∷◌, ℕ, List, [], false, if◌then◌else◌, length, min, not, take, true, IfOk, IfSome, IsTrue, Some, None};
+ghost use Rattle.std.specs.Prelude.{◌≡◌, ◌≢◌, ◌<◌, ◌≤◌, ◌++◌, ◌∷◌, ℕ, List, [], false};
+ghost use Rattle.std.specs.Prelude.{if◌then◌else◌, length, min, not, take, true, IfOk, IfSome};
+ghost use Rattle.std.specs.Prelude.{IsTrue, Some, None};
 ghost use Rattle.std.specs.List.{list_any};
 ghost use Rattle.assign.specs.Sets.{is_within};
 ghost use Rattle.assign.specs.Assignment.{restrict};
@@ -10,8 +12,10 @@ ghost use Rattle.bias_store.specs.KeptSet.{IsMadeFor};
 ghost use Rattle.session_laws.specs.Walk.{learned_within, next_turn, parts_without, violates_some};
 ghost use Rattle.multi_tree.specs.Depth.{FitsOn};
 ghost use Rattle.multi_tree.specs.Listed.{AreBarren, AreListed, AreStruck, IsListing, item_within};
-ghost use Rattle.multi_tree.specs.Stage.{walk_in, asked_in, example_in, stage_begun, turn_at, stage_after, put_again, IsWalkOn};
-ghost use Rattle.multi_tree.specs.Standing.{next_of_turn, turn_told, Move, Turns, PutsAgain, StageStandsFor};
+ghost use Rattle.multi_tree.specs.Stage.{walk_in, asked_in, example_in, stage_begun, turn_at};
+ghost use Rattle.multi_tree.specs.Stage.{stage_after, put_again, IsWalkOn};
+ghost use Rattle.multi_tree.specs.Standing.{next_of_turn, turn_told, Move, Turns, PutsAgain};
+ghost use Rattle.multi_tree.specs.Standing.{StageStandsFor};
 
 use crate::stack::Stack;
 use assign::{Partial, VarSet};
@@ -66,7 +70,8 @@ impl Model for Tree {
 
     ghost use Rattle.multi_tree.specs.Inside.{stage_of, AskedFits};
 
-    ghost view = { λ a. stage_of a.phase a.asked (record { example = a.example; waiting = a.waiting; left = a.left }) };
+    ghost view = { λ a. stage_of a.phase a.asked
+        (record { example = a.example; waiting = a.waiting; left = a.left }) };
 
     ghost invariant = { λ a. AskedFits a.phase a.asked a.waiting };
 }
@@ -123,18 +128,22 @@ impl Tree {
         self.example
     }
 
-    /// Takes sets up to the next one that is asked about, or to the end. A walk at its end stays there.
+    /// Takes sets up to the next one that is asked about, or to the end. A walk at its end stays
+    /// there.
     pub fn next(&mut self, lang: &Language, net: &Network, kept: &Kept) -> TreeNext
         requires example { IsWalkOn lang.now self.old }
         requires network { IsNetwork lang.now net.now.list }
         requires made { IsMadeFor lang.now kept.now }
-        ensures answer { result ≡ next_of_turn (turn_at lang.now net.now.list kept.now.members self.old) }
-        ensures stage { self.new ≡ stage_after (turn_at lang.now net.now.list kept.now.members self.old) }
+        ensures answer { result
+            ≡ next_of_turn (turn_at lang.now net.now.list kept.now.members self.old) }
+        ensures stage { self.new
+            ≡ stage_after (turn_at lang.now net.now.list kept.now.members self.old) }
         ensures asked { (set : List ℕ) → result ≡ TreeNext.Ask set → asked_in self.new ≡ Some set }
         ensures some { (set : List ℕ) → result ≡ TreeNext.Ask set → 0 < length set }
         ensures example { IsWalkOn lang.now self.new }
         ensures stands { (e : _) (moves : List Move) → StageStandsFor self.old lang.now e moves
-            → StageStandsFor self.new lang.now e (moves ++ Turns net.now.list kept.now.members ∷ []) }
+            →
+            StageStandsFor self.new lang.now e (moves ++ Turns net.now.list kept.now.members ∷ []) }
     {
         let mut places: [Violated; 0] = [];
         let mut listed = Listed {
@@ -156,14 +165,17 @@ impl Tree {
         requires network { IsNetwork lang.now net.now.list }
         requires made { IsMadeFor lang.now kept.now }
         requires listed { IsListing lang.now net.now.list (example_in self.old) listing.old }
-        ensures answer { result ≡ next_of_turn (turn_at lang.now net.now.list kept.now.members self.old) }
-        ensures stage { self.new ≡ stage_after (turn_at lang.now net.now.list kept.now.members self.old) }
+        ensures answer { result
+            ≡ next_of_turn (turn_at lang.now net.now.list kept.now.members self.old) }
+        ensures stage { self.new
+            ≡ stage_after (turn_at lang.now net.now.list kept.now.members self.old) }
         ensures asked { (set : List ℕ) → result ≡ TreeNext.Ask set → asked_in self.new ≡ Some set }
         ensures some { (set : List ℕ) → result ≡ TreeNext.Ask set → 0 < length set }
         ensures example { IsWalkOn lang.now self.new }
         ensures listed { IsListing lang.now net.now.list (example_in self.new) listing.new }
         ensures stands { (e : _) (moves : List Move) → StageStandsFor self.old lang.now e moves
-            → StageStandsFor self.new lang.now e (moves ++ Turns net.now.list kept.now.members ∷ []) }
+            →
+            StageStandsFor self.new lang.now e (moves ++ Turns net.now.list kept.now.members ∷ []) }
     {
         self.turn(lang, net, kept, &mut listing.places, &mut listing.listed)
     }
@@ -172,7 +184,8 @@ impl Tree {
     pub fn again(&mut self)
         requires { asked_in self.old ≢ None }
         ensures stage { self.new ≡ put_again self.old }
-        ensures stands { (l : _) (e : _) (moves : List Move) → StageStandsFor self.old l e moves → StageStandsFor self.new l e (moves ++ PutsAgain ∷ []) }
+        ensures stands { (l : _) (e : _) (moves : List Move) → StageStandsFor self.old l e moves →
+            StageStandsFor self.new l e (moves ++ PutsAgain ∷ []) }
     {
         self.waiting.push(self.asked);
         self.phase = Phase::Ready;
@@ -190,13 +203,17 @@ impl Tree {
         requires example { IsWalkOn lang.now self.old }
         requires network { IsNetwork lang.now net.now.list }
         requires made { IsMadeFor lang.now kept.now }
-        requires listed { AreListed lang.now net.now.list (example_in self.old) places.old listed.old }
-        ensures answer { result ≡ next_of_turn (turn_at lang.now net.now.list kept.now.members self.old) }
-        ensures stage { self.new ≡ stage_after (turn_at lang.now net.now.list kept.now.members self.old) }
+        requires listed { AreListed lang.now net.now.list
+            (example_in self.old) places.old listed.old }
+        ensures answer { result
+            ≡ next_of_turn (turn_at lang.now net.now.list kept.now.members self.old) }
+        ensures stage { self.new
+            ≡ stage_after (turn_at lang.now net.now.list kept.now.members self.old) }
         ensures asked { (set : List ℕ) → result ≡ TreeNext.Ask set → asked_in self.new ≡ Some set }
         ensures some { (set : List ℕ) → result ≡ TreeNext.Ask set → 0 < length set }
         ensures example { IsWalkOn lang.now self.new }
-        ensures listed { AreListed lang.now net.now.list (example_in self.new) places.new listed.new }
+        ensures listed { AreListed lang.now net.now.list
+            (example_in self.new) places.new listed.new }
     {
         match self.phase {
             Phase::Ended => TreeNext::End,
@@ -228,15 +245,16 @@ impl Tree {
     }
 }
 
-/// The scopes with kept candidates that an example strikes, so far as they are listed in the first places of a room, and where
-/// none of these lies.
+/// The scopes with kept candidates that an example strikes, so far as they are listed in the first
+/// places of a room, and where none of these lies.
 #[derive(Clone, Copy)]
 struct Struck {
     /// How many are listed. They stay the same while a walk takes sets.
     count: usize,
     /// Whether these are all.
     are_all: bool,
-    /// Where so many sets or more wait below a set, none of the listed ones lies within it: it is part of a set that has none.
+    /// Where so many sets or more wait below a set, none of the listed ones lies within it: it is
+    /// part of a set that has none.
     barren: usize,
 }
 
@@ -259,7 +277,8 @@ fn take_sets(
     requires network { IsNetwork lang.now net.now.list }
     requires made { IsMadeFor lang.now kept.now }
     requires listed { AreListed lang.now net.now.list example.now places.now listed.now }
-    ensures turn { turn_told example.now result waiting.new left.new ≡ next_turn lang.now net.now.list kept.now.members example.now left.old waiting.old }
+    ensures turn { turn_told example.now result waiting.new left.new
+        ≡ next_turn lang.now net.now.list kept.now.members example.now left.old waiting.old }
     ensures room { (set : List ℕ) → result ≡ TreeNext.Ask set → FitsOn set waiting.new }
     ensures some { (set : List ℕ) → result ≡ TreeNext.Ask set → 0 < length set }
 {
@@ -302,7 +321,8 @@ fn is_barren(sets: &[VarSet], barren: usize, below: usize, set: VarSet) -> bool
     below >= barren || !some_within(sets, set)
 }
 
-/// From where on sets are barren, once one that has so many below it was taken: it and its parts, if it is.
+/// From where on sets are barren, once one that has so many below it was taken: it and its parts,
+/// if it is.
 fn barren_from(barren: usize, below: usize, is_barren: bool) -> usize
     ensures { result ≡ (if is_barren then min below barren else 1024) }
 {
@@ -325,7 +345,8 @@ fn split(lang: &Language, waiting: &mut Stack, set: VarSet, c: Candidate)
     waiting.push_parts(set, lang.scope(c.scope));
 }
 
-/// Lists the variables of the scopes with kept candidates that an example violates, where none is listed yet.
+/// Lists the variables of the scopes with kept candidates that an example violates, where none is
+/// listed yet.
 fn list_once(
     lang: &Language,
     kept: &Kept,
@@ -335,11 +356,15 @@ fn list_once(
 ) -> Struck
     requires question { IsQuestion lang.now example.now }
     requires made { IsMadeFor lang.now kept.now }
-    requires before { AreStruck lang.now kept.now.members example.now (take struck.count room.old) struck.are_all }
+    requires before { AreStruck lang.now kept.now.members example.now
+        (take struck.count room.old) struck.are_all }
     requires few { struck.count ≤ length room.old }
-    ensures struck { AreStruck lang.now kept.now.members example.now (take result.count room.new) result.are_all }
+    ensures struck { AreStruck lang.now kept.now.members example.now
+        (take result.count room.new) result.are_all }
     ensures few { result.count ≤ length room.new }
-    ensures barren { (waiting : List (List ℕ)) → length waiting ≤ 385 → AreBarren (take struck.count room.old) struck.barren waiting → AreBarren (take result.count room.new) result.barren waiting }
+    ensures barren { (waiting : List (List ℕ)) → length waiting ≤ 385 →
+        AreBarren (take struck.count room.old) struck.barren waiting →
+        AreBarren (take result.count room.new) result.barren waiting }
 {
     if struck.count > 0 || struck.are_all {
         return struck;
@@ -359,8 +384,8 @@ fn some_within(sets: &[VarSet], set: VarSet) -> bool
     sets.iter().any(|inner| inner.within(set))
 }
 
-/// Whether the example violates a kept candidate whose scope lies within the set: on a listed scope, unless the set is barren, or,
-/// where they aren't all listed, on any.
+/// Whether the example violates a kept candidate whose scope lies within the set: on a listed
+/// scope, unless the set is barren, or, where they aren't all listed, on any.
 fn is_struck_within(
     lang: &Language,
     kept: &Kept,
@@ -371,8 +396,10 @@ fn is_struck_within(
 ) -> bool
     requires question { IsQuestion lang.now example.now }
     requires made { IsMadeFor lang.now kept.now }
-    requires struck { is_barren ≡ false → violates_some lang.now kept.now.members (restrict example.now set) ≡ true }
-    requires quiet { is_barren ≡ true → are_all ≡ true → violates_some lang.now kept.now.members (restrict example.now set) ≡ false }
+    requires struck { is_barren ≡ false →
+        violates_some lang.now kept.now.members (restrict example.now set) ≡ true }
+    requires quiet { is_barren ≡ true → are_all ≡ true →
+        violates_some lang.now kept.now.members (restrict example.now set) ≡ false }
     ensures { result ≡ violates_some lang.now kept.now.members (restrict example.now set) }
 {
     if !is_barren {
@@ -384,15 +411,16 @@ fn is_struck_within(
     kept.strikes_any(lang, &example.restrict(set))
 }
 
-/// An item that an example violates, beside the variables of its scope: each set that is taken is held against these.
+/// An item that an example violates, beside the variables of its scope: each set that is taken is
+/// held against these.
 #[derive(Clone, Copy)]
 struct Violated {
     item: Candidate,
     variables: VarSet,
 }
 
-/// The first items of a network that an example violates. The example stays the same while a walk takes sets, and mostly
-/// violates few of the items.
+/// The first items of a network that an example violates. The example stays the same while a walk
+/// takes sets, and mostly violates few of the items.
 #[derive(Clone, Copy)]
 struct Listed {
     /// How many there are. They stand in the first places of a room, in learning order.
@@ -401,8 +429,8 @@ struct Listed {
     looked_at: usize,
 }
 
-/// The items that the example of a walk violates, from one turn to the next: of a network that has grown only what is new is
-/// looked at.
+/// The items that the example of a walk violates, from one turn to the next: of a network that has
+/// grown only what is new is looked at.
 #[derive(Drop)]
 pub struct Listing {
     places: Vec<Violated>,
@@ -412,7 +440,8 @@ pub struct Listing {
 impl Listing {
     /// The room for a listing, with no item looked at. `Memory` where there is none for it.
     pub fn make(alloc: Global) -> Result<Listing, Memory>
-        ensures { IfOk result (λ listing. (l : _) (network : List Candidate) (e : _) → IsListing l network e listing) }
+        ensures { IfOk result (λ listing. (l : _) (network : List Candidate) (e : _) →
+            IsListing l network e listing) }
     {
         let nothing = Violated {
             item: Candidate { scope: 0, rel: 0 },
@@ -478,8 +507,8 @@ fn first_within(list: &[Violated], set: VarSet) -> Option<Candidate>
     None
 }
 
-/// The first learned candidate that the example violates and whose scope lies within the set: a listed one, or one of those
-/// that weren't looked at.
+/// The first learned candidate that the example violates and whose scope lies within the set: a
+/// listed one, or one of those that weren't looked at.
 fn listed_within(
     lang: &Language,
     net: &Network,

@@ -1,5 +1,7 @@
--- The clauses of a network, as DIMACS has them: lists of literals, each a number with or without a sign.
-use Rattle.std.specs.Prelude.{ℕ, ◌-◌, Bool, true, false, not, List, [], ◌∷◌, ◌++◌, map, slice_index_or}
+-- The clauses of a network, as DIMACS has them: lists of literals, each a number with or without a
+-- sign.
+use Rattle.std.specs.Prelude.{ℕ, ◌-◌, Bool, true, false, not, List, [], ◌∷◌, ◌++◌, map}
+use Rattle.std.specs.Prelude.{slice_index_or}
 use Rattle.std.specs.Bool.{beq}
 use Rattle.std.specs.List.{list_any, list_all, filter, flat_map}
 use Rattle.assign.specs.Sets.{numbers}
@@ -31,7 +33,8 @@ literal l positive b = record { number = boolean_number l b; positive = positive
 abbrev pub some_value : Language → ℕ → Clause
 some_value l v = map (literal l true) (booleans_of l v)
 
--- one of each two of a list: the first with each behind it, the second with each behind it, and so on
+-- one of each two of a list: the first with each behind it, the second with each behind it, and so
+-- on
 abbrev pub each_two : {X Y : Type 0} → (X → X → Y) → List X → List Y
 each_two f [] = []
 each_two f (x ∷ xs) = map (f x) xs ++ each_two f xs
@@ -46,14 +49,16 @@ no_two_values l v = each_two (not_both l) (booleans_of l v)
 -- the tuples of a scope, as lists of Booleans, in table order
 abbrev pub tuples_on : Language → List ℕ → List (List Boolean)
 tuples_on l [] = [] ∷ []
-tuples_on l (v ∷ scope) = flat_map (λ b. map (λ tuple. b ∷ tuple) (tuples_on l scope)) (booleans_of l v)
+tuples_on l (v ∷ scope) =
+    flat_map (λ b. map (λ tuple. b ∷ tuple) (tuples_on l scope)) (booleans_of l v)
 
 abbrev pub values_in : List Boolean → List ℕ
 values_in tuple = map (λ (b : Boolean). b.value) tuple
 
 -- the tuples that a candidate rejects
 abbrev pub rejected : Language → Candidate → List (List Boolean)
-rejected l c = filter (λ tuple. not (holds l.value_count (relation_of l c) (values_in tuple))) (tuples_on l (scope_of l c))
+rejected l c = filter (λ tuple. not (holds l.value_count (relation_of l c) (values_in tuple)))
+    (tuples_on l (scope_of l c))
 
 -- none of them is given
 abbrev pub none_rejected : Language → Candidate → List Clause

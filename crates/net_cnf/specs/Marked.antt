@@ -1,5 +1,6 @@
 -- The signs with which Booleans are named, as they are marked while a model is read.
-use Rattle.std.specs.Prelude.{◌≡◌, ◌≢◌, ℕ, Bool, true, false, List, length, map, Some, None, Vec, Result, Ok, Err}
+use Rattle.std.specs.Prelude.{◌≡◌, ◌≢◌, ℕ, Bool, true, false, List, length, map, Some, None, Vec}
+use Rattle.std.specs.Prelude.{Result, Ok, Err}
 use Rattle.std.specs.List.{range_with_len}
 use Rattle.std.specs.Option.{option_map}
 use Rattle.assign.specs.Assignment.{Assignment}
@@ -13,7 +14,8 @@ use Rattle.net_cnf.specs.declared.reading.Signs.{Signs}
 
 -- those of the Boolean of this number
 abbrev pub signs_of : List Literal → ℕ → Signs
-signs_of literals number = record { positive = is_named literals true number; negative = is_named literals false number }
+signs_of literals number =
+    record { positive = is_named literals true number; negative = is_named literals false number }
 
 -- those of so many Booleans
 abbrev pub marks : List Literal → ℕ → List Signs
@@ -34,12 +36,14 @@ pub record AreNamed (count : ℕ) (tokens : List (List ℕ)) (signs : List Signs
 -- or the first token that is none is told
 abbrev pub MarksTokens : List (List ℕ) → List Signs → Result (Unit {0}) ModelFault → Type 0
 MarksTokens tokens signs (Ok _) = AreNamed (length signs) tokens signs
-MarksTokens tokens signs (Err fault) = option_map BadToken (bad_token (length signs) tokens) ≡ Some fault
+MarksTokens tokens signs (Err fault) =
+    option_map BadToken (bad_token (length signs) tokens) ≡ Some fault
 
 -- the same of signs that are made
 abbrev pub Names : {Z : Type 0} → ℕ → List (List ℕ) → Result (Vec Signs Z) ModelFault → Type 0
 Names count tokens (Ok signs) = AreNamed count tokens signs.items
-Names count tokens (Err fault) = fault ≢ Memory → option_map BadToken (bad_token count tokens) ≡ Some fault
+Names count tokens (Err fault) = fault ≢ Memory →
+    option_map BadToken (bad_token count tokens) ≡ Some fault
 
 -- of each variable exactly one Boolean is true, and the assignment gives it that value
 pub record AreOnes (l : Language) (positive_signs : List Bool) (e : Assignment) : Type 0 where

@@ -5,7 +5,8 @@ use Rattle.assign.specs.Assignment.{Assignment}
 use Rattle.language.specs.Language.{Language}
 use Rattle.language.specs.Texts.{values_text}
 use Rattle.net_cnf.specs.declared.model_fault.ModelFault.{ModelFault}
-use Rattle.net_cnf.specs.declared.model_fault.ModelFault.TheVariants.{TooLong, BadToken, Twice, NotOne, Violates, Memory}
+use Rattle.net_cnf.specs.declared.model_fault.ModelFault.TheVariants.{TooLong, BadToken, Twice}
+use Rattle.net_cnf.specs.declared.model_fault.ModelFault.TheVariants.{NotOne, Violates, Memory}
 
 -- `solution a=1 b=2`
 abbrev pub solution_line : Language → Assignment → List ℕ

@@ -1,5 +1,6 @@
 -- Clauses by the numbers of variables, values and places, as the code has them.
-use Rattle.std.specs.Prelude.{ℕ, Bool, false, List, [], ◌∷◌, length, map, slice_index_or, if◌then◌else◌}
+use Rattle.std.specs.Prelude.{ℕ, Bool, false, List, [], ◌∷◌, length, map, slice_index_or}
+use Rattle.std.specs.Prelude.{if◌then◌else◌}
 use Rattle.std.specs.List.{flat_map}
 use Rattle.rel_table.specs.Relation.{tuple_at}
 use Rattle.language.specs.declared.candidates.Candidate.{Candidate}
@@ -23,8 +24,10 @@ accepts_there l c at = slice_index_or (relation_of l c) at false
 
 -- the line of a place: none where the tuple there is accepted
 abbrev pub place_piece : Language → Candidate → ℕ → List ℕ
-place_piece l c at = if accepts_there l c at then [] else clause_text (map (literal l false) (tuple_there l c at))
+place_piece l c at =
+    if accepts_there l c at then [] else clause_text (map (literal l false) (tuple_there l c at))
 
 -- the lines of the item of this number
 abbrev pub item_piece : Language → List Candidate → ℕ → List ℕ
-item_piece l network i = flat_map clause_text (none_rejected l (slice_index_or network i (record { scope = 0; rel = 0 })))
+item_piece l network i = flat_map clause_text
+    (none_rejected l (slice_index_or network i (record { scope = 0; rel = 0 })))

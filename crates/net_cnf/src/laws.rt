@@ -1,9 +1,11 @@
 //! Laws of the definitions, as contracts of functions that do nothing.
 
-ghost use Rattle.net_cnf.specs.Laws.{ClausesEncode, EachModelIsReadOrRefused, LiteralsAreRead, ReadsModels, ReadModelIsNotRefused};
+ghost use Rattle.net_cnf.specs.Laws.{ClausesEncode, EachModelIsReadOrRefused, LiteralsAreRead};
+ghost use Rattle.net_cnf.specs.Laws.{ReadsModels, ReadModelIsNotRefused};
 
-/// The models of a network's clauses are its solutions: a complete assignment is accepted exactly where its Booleans satisfy
-/// the clauses, and truth values that satisfy them are those of exactly one complete assignment.
+/// The models of a network's clauses are its solutions: a complete assignment is accepted exactly
+/// where its Booleans satisfy the clauses, and truth values that satisfy them are those of exactly
+/// one complete assignment.
 pub fn clauses_encode()
     ensures { ClausesEncode }
 {}

@@ -1,8 +1,10 @@
-//! A network as clauses for a SAT solver, in DIMACS and by the direct encoding (Walsh, SAT v CSP, CP 2000).
+//! A network as clauses for a SAT solver, in DIMACS and by the direct encoding (Walsh, SAT v CSP,
+//! CP 2000).
 //!
-//! There is a Boolean for each variable and each of its values. The clauses say that a variable has one value and no two,
-//! and that no learned candidate is violated. The floor above may rely on `laws`: the models of the clauses are the
-//! network's solutions, one for one. `read_model` reads the model that a solver prints back as that solution.
+//! There is a Boolean for each variable and each of its values. The clauses say that a variable has
+//! one value and no two, and that no learned candidate is violated. The floor above may rely on
+//! `laws`: the models of the clauses are the network's solutions, one for one. `read_model` reads
+//! the model that a solver prints back as that solution.
 #![tactic(auto)]
 
 mod fault;

@@ -1,11 +1,15 @@
-//! Pieces of the text, each added to what is written so far. A piece that makes the text too long isn't looked at further.
+//! Pieces of the text, each added to what is written so far. A piece that makes the text too long
+//! isn't looked at further.
 
-ghost use Rattle.std.specs.Prelude.{◌≡◌, ℕ, ◌+◌, ◌-◌, ◌*◌, ◌<◌, ◌≤◌, IsTrue, List, [], ◌∷◌, ◌++◌, length, All, MatchResult, IfOk, Some, string_bytes, slice_index_or, map, false, true};
+ghost use Rattle.std.specs.Prelude.{◌≡◌, ℕ, ◌+◌, ◌-◌, ◌*◌, ◌<◌, ◌≤◌, IsTrue, List, [], ◌∷◌, ◌++◌};
+ghost use Rattle.std.specs.Prelude.{length, All, MatchResult, IfOk, Some, string_bytes};
+ghost use Rattle.std.specs.Prelude.{slice_index_or, map, false, true};
 ghost use Rattle.std.specs.Fmt.{decimal};
 ghost use Rattle.std.specs.List.{flat_map, range_with_len};
 ghost use Rattle.assign.specs.Assignment.{Assignment};
 ghost use Rattle.assign.specs.Sets.{numbers};
-ghost use Rattle.language.specs.Language.{variable_count, range_of, values_of, IsLanguage, IsQuestion};
+ghost use Rattle.language.specs.Language.{variable_count, range_of, values_of, IsLanguage};
+ghost use Rattle.language.specs.Language.{IsQuestion};
 ghost use Rattle.language.specs.Ranges.{are_in};
 ghost use Rattle.language.specs.Texts.{values_text};
 ghost use Rattle.net_cnf.specs.Answers.{AddsText, Grown};
@@ -13,7 +17,8 @@ ghost use Rattle.net_cnf.specs.Booleans.{boolean, booleans_of, boolean_number};
 ghost use Rattle.net_cnf.specs.Clauses.{literal, some_value, not_both, no_two_values};
 ghost use Rattle.net_cnf.specs.Models.{boolean_count};
 ghost use Rattle.net_cnf.specs.Paired.{paired};
-ghost use Rattle.net_cnf.specs.Texts.{MOST_BYTES, literal_text, clause_text, boolean_text, head_text};
+ghost use Rattle.net_cnf.specs.Texts.{MOST_BYTES, literal_text, clause_text, boolean_text};
+ghost use Rattle.net_cnf.specs.Texts.{head_text};
 
 use crate::fault::CnfFault;
 use assign::Partial;
@@ -70,7 +75,8 @@ pub(crate) fn number_of(lang: &Language, v: u8, x: u8) -> u32
 
 /// Whether a text of so many bytes isn't too long.
 fn within(bytes: usize) -> Result<(), CnfFault>
-    ensures { MatchResult result (λ _. bytes ≤ MOST_BYTES) (λ fault. (fault ≡ CnfFault.TooLarge) × (MOST_BYTES < bytes)) }
+    ensures { MatchResult result (λ _. bytes ≤ MOST_BYTES) (λ fault. (fault ≡ CnfFault.TooLarge)
+        × (MOST_BYTES < bytes)) }
 {
     if bytes > MOST_TEXT {
         return Err(CnfFault::TooLarge);
@@ -89,7 +95,8 @@ fn add_literal(
     requires variable { v < variable_count lang.now }
     requires from { (range_of lang.now v).first ≤ x }
     requires to { x ≤ (range_of lang.now v).last }
-    ensures { AddsText (string_bytes text.old) (literal_text (literal lang.now positive (boolean v x)) ++ 32 ∷ []) (string_bytes text.new) result }
+    ensures { AddsText (string_bytes text.old) (literal_text
+        (literal lang.now positive (boolean v x)) ++ 32 ∷ []) (string_bytes text.new) result }
 {
     let number = number_of(lang, v, x);
     if positive {
@@ -113,7 +120,8 @@ pub(crate) fn add_some_value(text: &mut String, lang: &Language, v: u8) -> Resul
     requires room { length (string_bytes text.old) ≤ MOST_BYTES }
     requires variable { v < variable_count lang.now }
     requires lawful { IsLanguage lang.now }
-    ensures { AddsText (string_bytes text.old) (clause_text (some_value lang.now v)) (string_bytes text.new) result }
+    ensures { AddsText (string_bytes text.old) (clause_text (some_value lang.now v))
+        (string_bytes text.new) result }
 {
     let (first, last) = lang.range(v);
     for x in first..last + 1 {
@@ -129,7 +137,8 @@ fn add_not_both(text: &mut String, lang: &Language, v: u8, x: u8, y: u8) -> Resu
     requires from { (range_of lang.now v).first ≤ x }
     requires rising { x < y }
     requires to { y ≤ (range_of lang.now v).last }
-    ensures { AddsText (string_bytes text.old) (clause_text (not_both lang.now (boolean v x) (boolean v y))) (string_bytes text.new) result }
+    ensures { AddsText (string_bytes text.old) (clause_text
+        (not_both lang.now (boolean v x) (boolean v y))) (string_bytes text.new) result }
 {
     add_literal(text, lang, v, x, false)?;
     add_literal(text, lang, v, y, false)?;
@@ -143,7 +152,9 @@ fn add_not_above(text: &mut String, lang: &Language, v: u8, x: u8) -> Result<(),
     requires from { (range_of lang.now v).first ≤ x }
     requires to { x ≤ (range_of lang.now v).last }
     requires lawful { IsLanguage lang.now }
-    ensures { AddsText (string_bytes text.old) (flat_map (λ y. clause_text (not_both lang.now (boolean v x) (boolean v y))) (range_with_len (x + 1) ((range_of lang.now v).last - x))) (string_bytes text.new) result }
+    ensures { AddsText (string_bytes text.old)
+        (flat_map (λ y. clause_text (not_both lang.now (boolean v x) (boolean v y)))
+        (range_with_len (x + 1) ((range_of lang.now v).last - x))) (string_bytes text.new) result }
 {
     let (_, last) = lang.range(v);
     for y in x + 1..last + 1 {
@@ -157,7 +168,8 @@ pub(crate) fn add_no_two_values(text: &mut String, lang: &Language, v: u8) -> Re
     requires room { length (string_bytes text.old) ≤ MOST_BYTES }
     requires variable { v < variable_count lang.now }
     requires lawful { IsLanguage lang.now }
-    ensures { AddsText (string_bytes text.old) (flat_map clause_text (no_two_values lang.now v)) (string_bytes text.new) result }
+    ensures { AddsText (string_bytes text.old) (flat_map clause_text (no_two_values lang.now v))
+        (string_bytes text.new) result }
 {
     let (first, last) = lang.range(v);
     for x in first..last + 1 {
@@ -177,7 +189,8 @@ pub(crate) fn add_not_all(
     requires long { length scope.now ≡ length values.now }
     requires variables { All (λ v. v < variable_count lang.now) scope.now }
     requires values { IsTrue (are_in lang.now.ranges scope.now values.now) }
-    ensures { AddsText (string_bytes text.old) (clause_text (map (literal lang.now false) (paired scope.now values.now))) (string_bytes text.new) result }
+    ensures { AddsText (string_bytes text.old) (clause_text (map (literal lang.now false)
+        (paired scope.now values.now))) (string_bytes text.new) result }
 {
     for i in 0..scope.len() {
         add_literal(text, lang, scope[i], values[i], false)?;
@@ -200,7 +213,8 @@ fn values_behind<'a>(text: &'a str) -> &'a str
 
 /// A space, a name, `=` and a shown value, for each variable that has one.
 pub(crate) fn shown_values(alloc: Global, lang: &Language, e: &Partial) -> Result<String, Memory>
-    ensures { IfOk result (λ text. string_bytes text ≡ values_text lang.now.least_value lang.now.names e.now) }
+    ensures { IfOk result
+        (λ text. string_bytes text ≡ values_text lang.now.least_value lang.now.names e.now) }
 {
     let question = lang.question_text(alloc, 0, e)?;
     let text = String::from_str(alloc, values_behind(question.as_str()))?;
@@ -209,7 +223,8 @@ pub(crate) fn shown_values(alloc: Global, lang: &Language, e: &Partial) -> Resul
 
 /// Adds shown values and a number: `c a=1 1`.
 fn add_shown(text: &mut String, values: &str, number: u32) -> Result<(), CnfFault>
-    ensures { AddsText (string_bytes text.old) (99 ∷ (values.now ++ 32 ∷ (decimal number ++ 10 ∷ []))) (string_bytes text.new) result }
+    ensures { AddsText (string_bytes text.old)
+        (99 ∷ (values.now ++ 32 ∷ (decimal number ++ 10 ∷ []))) (string_bytes text.new) result }
 {
     write!(text, "c{values} {number}\n")?;
     within(text.len())
@@ -226,7 +241,8 @@ pub(crate) fn add_boolean(
     requires variable { v < variable_count lang.now }
     requires from { (range_of lang.now v).first ≤ x }
     requires to { x ≤ (range_of lang.now v).last }
-    ensures { AddsText (string_bytes text.old) (boolean_text lang.now (boolean v x)) (string_bytes text.new) result }
+    ensures { AddsText (string_bytes text.old) (boolean_text lang.now (boolean v x))
+        (string_bytes text.new) result }
 {
     let mut alone = Partial::blank(lang.n());
     alone.set(v, x);
@@ -236,7 +252,8 @@ pub(crate) fn add_boolean(
 
 /// Adds how many Booleans and clauses there are: `p cnf 4 6`.
 pub(crate) fn add_head(text: &mut String, variables: u32, clauses: u64) -> Result<(), CnfFault>
-    ensures { AddsText (string_bytes text.old) (head_text variables clauses) (string_bytes text.new) result }
+    ensures { AddsText (string_bytes text.old) (head_text variables clauses)
+        (string_bytes text.new) result }
 {
     write!(text, "p cnf {variables} {clauses}\n")?;
     within(text.len())

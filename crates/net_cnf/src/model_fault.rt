@@ -5,7 +5,8 @@ use language::Memory;
 use std::alloc::{AllocError, Global};
 use thiserror::Error;
 
-/// Why a solver's output gives no solution. Tokens and items count from 0, Booleans from 1, variables from 0.
+/// Why a solver's output gives no solution. Tokens and items count from 0, Booleans from 1,
+/// variables from 0.
 #[derive(Clone, Copy, Debug, PartialEq, Eq, Error)]
 pub enum ModelFault {
     /// There are more than 4,194,304 bytes.
@@ -38,7 +39,8 @@ impl From<AllocError> for ModelFault {
     }
 }
 
-/// What is told of a fault, a line: `refused model twice 1`. No bytes cause want of memory; it is told as `memory`.
+/// What is told of a fault, a line: `refused model twice 1`. No bytes cause want of memory; it is
+/// told as `memory`.
 pub fn model_fault_text(alloc: Global, fault: &ModelFault) -> Result<String, Memory>
     ensures { IfOk result (λ text. string_bytes text ≡ model_fault_line fault.now) }
 {

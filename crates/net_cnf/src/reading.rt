@@ -5,7 +5,8 @@ ghost use Rattle.language.specs.Answers.{IsNetwork};
 ghost use Rattle.language.specs.Language.{variable_count, IsLanguage, IsQuestion};
 ghost use Rattle.net_cnf.specs.Answers.{Reads};
 ghost use Rattle.net_cnf.specs.Marked.{IsMarked, MarksTokens, Names, HasOnes, positive_signs};
-ghost use Rattle.net_cnf.specs.Models.{boolean_count, true_values, only_of, both_named, violated, solution_of, model_of, IsModel};
+ghost use Rattle.net_cnf.specs.Models.{boolean_count, true_values, only_of, both_named, violated};
+ghost use Rattle.net_cnf.specs.Models.{solution_of, model_of, IsModel};
 ghost use Rattle.net_cnf.specs.Tokens.{tokens};
 ghost use Rattle.net_cnf.specs.declared.literal.Literal.{Literal};
 
@@ -34,7 +35,8 @@ pub(crate) struct Signs {
 fn mark(signs: &mut [Signs], literal: Literal)
     requires some { 0 < literal.number }
     requires known { literal.number ≤ length signs.old }
-    ensures { (literals : List Literal) → IsMarked literals signs.old → IsMarked (literals ++ literal ∷ []) signs.new }
+    ensures { (literals : List Literal) → IsMarked literals signs.old →
+        IsMarked (literals ++ literal ∷ []) signs.new }
 {
     let place = (literal.number - 1) as usize;
     if literal.positive {
@@ -82,7 +84,8 @@ fn named(alloc: Global, bytes: &[u8], count: u32) -> Result<Vec<Signs>, ModelFau
 /// The least Boolean that is named with both signs.
 fn twice(signs: &[Signs]) -> Option<u32>
     requires { length signs.now ≤ 8192 }
-    ensures { (literals : List Literal) → IsMarked literals signs.now → result ≡ both_named (length signs.now) literals }
+    ensures { (literals : List Literal) → IsMarked literals signs.now →
+        result ≡ both_named (length signs.now) literals }
 {
     for place in 0..signs.len() {
         if signs[place].positive && signs[place].negative {
@@ -143,12 +146,14 @@ fn violated(lang: &Language, net: &Network, e: &Partial) -> Option<u32>
     None
 }
 
-/// The network's solution that a solver's model gives. The first token that is no literal of a Boolean refuses it; then the
-/// least Boolean that is named with both signs; the least variable of which not exactly one Boolean is true, where a Boolean
-/// that isn't named is false; and the least item of the network that is violated.
+/// The network's solution that a solver's model gives. The first token that is no literal of a
+/// Boolean refuses it; then the least Boolean that is named with both signs; the least variable of
+/// which not exactly one Boolean is true, where a Boolean that isn't named is false; and the least
+/// item of the network that is violated.
 ///
-/// Lines end at newlines. One that begins with `c`, `s`, `S` or `U` is passed over. The others are cut at spaces, tabs and
-/// carriage returns into tokens, a first token `v` left out. What follows the first token `0` isn't read.
+/// Lines end at newlines. One that begins with `c`, `s`, `S` or `U` is passed over. The others are
+/// cut at spaces, tabs and carriage returns into tokens, a first token `v` left out. What follows
+/// the first token `0` isn't read.
 pub fn read_model(
     alloc: Global,
     lang: &Language,

@@ -1,13 +1,16 @@
 //! The whole text of a network's clauses.
 
-ghost use Rattle.std.specs.Prelude.{◌≡◌, ◌^◌, ◌<◌, ◌≤◌, ◌++◌, ◌∷◌, [], length, map, string_bytes, IfOk, codes};
+ghost use Rattle.std.specs.Prelude.{◌≡◌, ◌^◌, ◌<◌, ◌≤◌, ◌++◌, ◌∷◌, [], length, map, string_bytes};
+ghost use Rattle.std.specs.Prelude.{IfOk, codes};
 ghost use Rattle.std.specs.List.{flat_map};
 ghost use Rattle.assign.specs.Sets.{numbers};
-ghost use Rattle.language.specs.Language.{variable_count, scope_at, scope_of, IsLanguage, IsCandidate};
+ghost use Rattle.language.specs.Language.{variable_count, scope_at, scope_of, IsLanguage};
+ghost use Rattle.language.specs.Language.{IsCandidate};
 ghost use Rattle.language.specs.Answers.{IsNetwork};
 ghost use Rattle.net_cnf.specs.Answers.{AddsText, Writes};
 ghost use Rattle.net_cnf.specs.Booleans.{booleans, booleans_of};
-ghost use Rattle.net_cnf.specs.Clauses.{some_value, no_two_values, rejected, none_rejected, clauses};
+ghost use Rattle.net_cnf.specs.Clauses.{some_value, no_two_values, rejected, none_rejected};
+ghost use Rattle.net_cnf.specs.Clauses.{clauses};
 ghost use Rattle.net_cnf.specs.ModelTexts.{solution_line};
 ghost use Rattle.net_cnf.specs.Paired.{place_piece};
 ghost use Rattle.net_cnf.specs.Texts.{MOST_BYTES, boolean_text, clause_text, cnf_text, cnf_of};
@@ -27,7 +30,8 @@ use std::alloc::Global;
 
 /// How many pairs of values the variables have.
 fn pair_count(lang: &Language) -> u32
-    ensures is { result ≡ length (flat_map (no_two_values lang.now) (numbers (variable_count lang.now))) }
+    ensures is { result
+        ≡ length (flat_map (no_two_values lang.now) (numbers (variable_count lang.now))) }
     ensures few { result ≤ 8388608 }
 {
     let mut count = 0;
@@ -38,7 +42,8 @@ fn pair_count(lang: &Language) -> u32
     count
 }
 
-/// How many tuples of values there are on a scope. Its relations accept those with a value outside its variable's range.
+/// How many tuples of values there are on a scope. Its relations accept those with a value outside
+/// its variable's range.
 fn places_on(lang: &Language, s: ScopeId) -> u32
     requires { s < length lang.now.scopes }
     ensures is { result ≡ lang.now.value_count ^ length (scope_at lang.now s) }
@@ -90,7 +95,8 @@ fn add_booleans_of(text: &mut String, alloc: Global, lang: &Language, v: u8) -> 
     requires room { length (string_bytes text.old) ≤ MOST_BYTES }
     requires variable { v < variable_count lang.now }
     requires lawful { IsLanguage lang.now }
-    ensures { AddsText (string_bytes text.old) (flat_map (boolean_text lang.now) (booleans_of lang.now v)) (string_bytes text.new) result }
+    ensures { AddsText (string_bytes text.old)
+        (flat_map (boolean_text lang.now) (booleans_of lang.now v)) (string_bytes text.new) result }
 {
     let (first, last) = lang.range(v);
     for x in first..last + 1 {
@@ -102,7 +108,8 @@ fn add_booleans_of(text: &mut String, alloc: Global, lang: &Language, v: u8) -> 
 /// What each Boolean stands for.
 fn add_booleans(text: &mut String, alloc: Global, lang: &Language) -> Result<(), CnfFault>
     requires { length (string_bytes text.old) ≤ MOST_BYTES }
-    ensures { AddsText (string_bytes text.old) (flat_map (boolean_text lang.now) (booleans lang.now)) (string_bytes text.new) result }
+    ensures { AddsText (string_bytes text.old)
+        (flat_map (boolean_text lang.now) (booleans lang.now)) (string_bytes text.new) result }
 {
     for v in 0..lang.n() {
         add_booleans_of(text, alloc, lang, v)?;
@@ -113,7 +120,8 @@ fn add_booleans(text: &mut String, alloc: Global, lang: &Language) -> Result<(),
 /// That each variable has a value.
 fn add_some_values(text: &mut String, lang: &Language) -> Result<(), CnfFault>
     requires { length (string_bytes text.old) ≤ MOST_BYTES }
-    ensures { AddsText (string_bytes text.old) (flat_map clause_text (map (some_value lang.now) (numbers (variable_count lang.now)))) (string_bytes text.new) result }
+    ensures { AddsText (string_bytes text.old) (flat_map clause_text (map (some_value lang.now)
+        (numbers (variable_count lang.now)))) (string_bytes text.new) result }
 {
     for v in 0..lang.n() {
         add_some_value(text, lang, v)?;
@@ -124,7 +132,8 @@ fn add_some_values(text: &mut String, lang: &Language) -> Result<(), CnfFault>
 /// That no variable has two values.
 fn add_all_no_two_values(text: &mut String, lang: &Language) -> Result<(), CnfFault>
     requires { length (string_bytes text.old) ≤ MOST_BYTES }
-    ensures { AddsText (string_bytes text.old) (flat_map clause_text (flat_map (no_two_values lang.now) (numbers (variable_count lang.now)))) (string_bytes text.new) result }
+    ensures { AddsText (string_bytes text.old) (flat_map clause_text (flat_map (no_two_values
+        lang.now) (numbers (variable_count lang.now)))) (string_bytes text.new) result }
 {
     for v in 0..lang.n() {
         add_no_two_values(text, lang, v)?;
@@ -137,7 +146,8 @@ fn add_place(text: &mut String, lang: &Language, c: Candidate, place: u32) -> Re
     requires room { length (string_bytes text.old) ≤ MOST_BYTES }
     requires candidate { IsCandidate lang.now c }
     requires place { place < lang.now.value_count ^ length (scope_of lang.now c) }
-    ensures { AddsText (string_bytes text.old) (place_piece lang.now c place) (string_bytes text.new) result }
+    ensures { AddsText (string_bytes text.old) (place_piece lang.now c place)
+        (string_bytes text.new) result }
 {
     if lang.holds(c.scope, c.rel, place) {
         return Ok(());
@@ -151,7 +161,8 @@ fn add_place(text: &mut String, lang: &Language, c: Candidate, place: u32) -> Re
 fn add_none_rejected(text: &mut String, lang: &Language, c: Candidate) -> Result<(), CnfFault>
     requires room { length (string_bytes text.old) ≤ MOST_BYTES }
     requires candidate { IsCandidate lang.now c }
-    ensures { AddsText (string_bytes text.old) (flat_map clause_text (none_rejected lang.now c)) (string_bytes text.new) result }
+    ensures { AddsText (string_bytes text.old) (flat_map clause_text (none_rejected lang.now c))
+        (string_bytes text.new) result }
 {
     for place in 0..places_on(lang, c.scope) {
         add_place(text, lang, c, place)?;
@@ -163,7 +174,8 @@ fn add_none_rejected(text: &mut String, lang: &Language, c: Candidate) -> Result
 fn add_items(text: &mut String, lang: &Language, net: &Network) -> Result<(), CnfFault>
     requires room { length (string_bytes text.old) ≤ MOST_BYTES }
     requires network { IsNetwork lang.now net.now.list }
-    ensures { AddsText (string_bytes text.old) (flat_map clause_text (flat_map (none_rejected lang.now) net.now.list)) (string_bytes text.new) result }
+    ensures { AddsText (string_bytes text.old) (flat_map clause_text
+        (flat_map (none_rejected lang.now) net.now.list)) (string_bytes text.new) result }
 {
     for i in 0..net.len() {
         add_none_rejected(text, lang, net.item(i))?;
@@ -175,7 +187,8 @@ fn add_items(text: &mut String, lang: &Language, net: &Network) -> Result<(), Cn
 fn add_clauses(text: &mut String, lang: &Language, net: &Network) -> Result<(), CnfFault>
     requires room { length (string_bytes text.old) ≤ MOST_BYTES }
     requires network { IsNetwork lang.now net.now.list }
-    ensures { AddsText (string_bytes text.old) (flat_map clause_text (clauses lang.now net.now.list)) (string_bytes text.new) result }
+    ensures { AddsText (string_bytes text.old)
+        (flat_map clause_text (clauses lang.now net.now.list)) (string_bytes text.new) result }
 {
     add_some_values(text, lang)?;
     add_all_no_two_values(text, lang)?;
@@ -186,15 +199,17 @@ fn add_clauses(text: &mut String, lang: &Language, net: &Network) -> Result<(), 
 fn add_all(text: &mut String, alloc: Global, lang: &Language, net: &Network) -> Result<(), CnfFault>
     requires room { length (string_bytes text.old) ≤ MOST_BYTES }
     requires network { IsNetwork lang.now net.now.list }
-    ensures { AddsText (string_bytes text.old) (cnf_text lang.now net.now.list) (string_bytes text.new) result }
+    ensures { AddsText (string_bytes text.old) (cnf_text lang.now net.now.list)
+        (string_bytes text.new) result }
 {
     add_booleans(text, alloc, lang)?;
     add_head(text, boolean_count(lang), clause_count(lang, net))?;
     add_clauses(text, lang, net)
 }
 
-/// The network's clauses in DIMACS: a line for each Boolean, which says what it stands for, the head, and a line for each
-/// clause. `TooLarge` where that is more than 67,108,864 bytes. A text that is too long isn't written to its end.
+/// The network's clauses in DIMACS: a line for each Boolean, which says what it stands for, the
+/// head, and a line for each clause. `TooLarge` where that is more than 67,108,864 bytes. A text
+/// that is too long isn't written to its end.
 pub fn cnf_text(alloc: Global, lang: &Language, net: &Network) -> Result<String, CnfFault>
     requires { IsNetwork lang.now net.now.list }
     ensures { Writes string_bytes (cnf_of lang.now net.now.list) result }

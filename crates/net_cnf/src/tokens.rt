@@ -1,10 +1,12 @@
 //! The tokens of a solver's output.
 
-ghost use Rattle.std.specs.Prelude.{◌≡◌, ◌<◌, [], ◌∷◌, length, false, not, position, slice_index, MatchOption};
+ghost use Rattle.std.specs.Prelude.{◌≡◌, ◌<◌, [], ◌∷◌, length, false, not, position, slice_index};
+ghost use Rattle.std.specs.Prelude.{MatchOption};
 ghost use Rattle.std.specs.Iterator.{YieldsFirstRef, item_count};
 ghost use Rattle.std.specs.List.{before_first, after_first};
 ghost use Rattle.net_cnf.specs.Left.{tokens_left};
-ghost use Rattle.net_cnf.specs.Tokens.{is_blank, is_newline, is_remark, words, tokens_of_line, all_tokens};
+ghost use Rattle.net_cnf.specs.Tokens.{is_blank, is_newline, is_remark, words, tokens_of_line};
+ghost use Rattle.net_cnf.specs.Tokens.{all_tokens};
 
 /// A space, a tab or a carriage return.
 fn is_blank(byte: u8) -> bool
@@ -69,13 +71,15 @@ fn cut_word(line: &[u8]) -> (&[u8], &[u8])
 
 /// The first word of a line, and what is behind it. None where there is no word.
 fn first_word(line: &[u8]) -> Option<(&[u8], &[u8])>
-    ensures { MatchOption result (words line.now ≡ []) (λ cut. words line.now ≡ cut.0.now ∷ words cut.1.now) }
+    ensures { MatchOption result
+        (words line.now ≡ []) (λ cut. words line.now ≡ cut.0.now ∷ words cut.1.now) }
 {
     let start = word_in(line)?;
     Some(cut_word(&line[start..]))
 }
 
-/// The part of a line whose words are its tokens: nothing of a remark, and else what is behind a first word `v`.
+/// The part of a line whose words are its tokens: nothing of a remark, and else what is behind a
+/// first word `v`.
 fn token_part(line: &[u8]) -> &[u8]
     ensures { words result.now ≡ tokens_of_line line.now }
 {

@@ -4,7 +4,8 @@ use thiserror::Error;
 /// Why a network isn't reduced.
 #[derive(Clone, Copy, Debug, PartialEq, Eq, Error)]
 pub enum ReduceFault {
-    /// The search of this item, counted from 0 in learning order, spent its budget, and no earlier one did.
+    /// The search of this item, counted from 0 in learning order, spent its budget, and no earlier
+    /// one did.
     #[error("the search of item {0} spent its budget")]
     Spent(u32),
     #[error("out of memory")]

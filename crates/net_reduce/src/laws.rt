@@ -1,6 +1,7 @@
 //! Laws of sifting, as contracts of functions that do nothing.
 
-ghost use Rattle.net_reduce.specs.Laws.{EachIsSearchedOrSpent, ReducedIsTarget, SiftedIsOne, SiftedIsReduction};
+ghost use Rattle.net_reduce.specs.Laws.{EachIsSearchedOrSpent, ReducedIsTarget, SiftedIsOne};
+ghost use Rattle.net_reduce.specs.Laws.{SiftedIsReduction};
 
 /// What sifting leaves of a network is a reduction of it.
 pub fn sifted_is_reduction()

@@ -37,9 +37,10 @@ fn outcome_of(
 
 /// A part of the network with its solutions, in which no item is implied by the others.
 ///
-/// The items are gone through in learning order. Each is searched against the others that remain, under the budget: it is
-/// dropped where the search ends with nothing, and kept where it finds something. The first item whose search is spent is
-/// refused with its number. The cost is a search for each item, and the work of moving the items behind it by one place.
+/// The items are gone through in learning order. Each is searched against the others that remain,
+/// under the budget: it is dropped where the search ends with nothing, and kept where it finds
+/// something. The first item whose search is spent is refused with its number. The cost is a search
+/// for each item, and the work of moving the items behind it by one place.
 pub fn reduce(
     alloc: Global,
     work: &mut Work,
@@ -50,7 +51,8 @@ pub fn reduce(
     requires network { IsNetwork lang.now net.now.list }
     requires some_budget { 1 ≤ budget }
     requires small_budget { budget ≤ 1000000000 }
-    ensures searched { IfOk result (λ part. IsReducedBySearch lang.now net.now.list budget part.items) }
+    ensures searched { IfOk result
+        (λ part. IsReducedBySearch lang.now net.now.list budget part.items) }
     ensures sifted { IfOk result (λ part. Sifts lang.now [] net.now.list part.items) }
     ensures reduction { IfOk result (λ part. IsReduction lang.now net.now.list part.items) }
     ensures known { IfOk result (λ part. IsNetwork lang.now part.items) }

@@ -5,8 +5,8 @@ ghost use Rattle.net_reduce.specs.Texts.{reduced_text, spent_text};
 use language::{Candidate, Language, Memory};
 use std::alloc::Global;
 
-/// `reduced 2 of 3`, where so many items of a network remain, and a line for each of them: `eq a c`, and so on, each with a
-/// newline. `Memory` where there is none for the text.
+/// `reduced 2 of 3`, where so many items of a network remain, and a line for each of them: `eq a
+/// c`, and so on, each with a newline. `Memory` where there is none for the text.
 pub fn reduced_text(
     alloc: Global,
     lang: &Language,
@@ -26,7 +26,8 @@ pub fn reduced_text(
     Ok(text)
 }
 
-/// The line for the first item whose search spent its budget, with its newline: `refused reduce open 1`.
+/// The line for the first item whose search spent its budget, with its newline: `refused reduce
+/// open 1`.
 pub fn spent_text(alloc: Global, i: u32) -> Result<String, Memory>
     ensures { IfOk result (λ text. string_bytes text ≡ spent_text i) }
 {

@@ -4,7 +4,8 @@ use Rattle.network.specs.declared.fault.NetFault.{NetFault}
 use Rattle.network.specs.declared.fault.NetFault.TheVariants.{Memory}
 
 -- goes on with the value, where there is one
-abbrev pub then_on : {A B : Type 0} → Result A NetFault → (A → Result B NetFault) → Result B NetFault
+abbrev pub then_on : {A B : Type 0} → Result A NetFault → (A → Result B NetFault) →
+    Result B NetFault
 then_on (Ok x) next = next x
 then_on (Err fault) next = Err fault
 

@@ -2,7 +2,9 @@
 use Rattle.std.specs.Prelude.{ℕ, List, ◌∷◌, ◌++◌, codes}
 use Rattle.std.specs.Fmt.{decimal}
 use Rattle.network.specs.declared.fault.NetFault.{NetFault}
-use Rattle.network.specs.declared.fault.NetFault.TheVariants.{TooLong, NotJson, NotList, BadItem, UnknownScope, UnknownRelation, ScopeRepeated, Memory}
+use Rattle.network.specs.declared.fault.NetFault.TheVariants.{TooLong, NotJson, NotList, BadItem}
+use Rattle.network.specs.declared.fault.NetFault.TheVariants.{UnknownScope, UnknownRelation}
+use Rattle.network.specs.declared.fault.NetFault.TheVariants.{ScopeRepeated, Memory}
 
 -- why a network is refused
 abbrev pub net_fault_text : NetFault → List ℕ

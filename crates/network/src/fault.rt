@@ -66,8 +66,8 @@ impl From<Memory> for NetFault {
     }
 }
 
-/// The text of a fault, as a user reads it behind `refused target `. No bytes cause want of memory; it is told as
-/// `memory`.
+/// The text of a fault, as a user reads it behind `refused target `. No bytes cause want of memory;
+/// it is told as `memory`.
 pub fn net_text(alloc: Global, fault: NetFault) -> Result<String, AllocError>
     ensures { IfOk result (λ text. string_bytes text ≡ net_fault_text fault) }
 {

@@ -1,4 +1,5 @@
-ghost use Rattle.std.specs.Prelude.{◌≡◌, ◌++◌, ◌∷◌, [], ◌<◌, ◌≤◌, IfOk, Some, false, length, slice_get};
+ghost use Rattle.std.specs.Prelude.{◌≡◌, ◌++◌, ◌∷◌, [], ◌<◌, ◌≤◌, IfOk, Some, false, length};
+ghost use Rattle.std.specs.Prelude.{slice_get};
 ghost use Rattle.language.specs.Language.{accepts, IsQuestion};
 ghost use Rattle.language.specs.Answers.{has_scope, IsNetwork};
 
@@ -29,7 +30,8 @@ impl Model for Network {
 }
 
 impl Network {
-    /// Nothing learned yet, with room for one candidate on each scope. `Memory` where there is none for that.
+    /// Nothing learned yet, with room for one candidate on each scope. `Memory` where there is none
+    /// for that.
     pub fn new(alloc: Global, lang: &Language) -> Result<Network, Memory>
         ensures empty { IfOk result (λ net. net.list ≡ []) }
         ensures scopes { IfOk result (λ net. net.scopes ≡ length lang.now.scopes) }
@@ -80,8 +82,8 @@ impl Network {
         &self.list
     }
 
-    /// Whether a question violates none of them: the answer of a user whose network this is. A candidate with a variable
-    /// that the question leaves open isn't violated.
+    /// Whether a question violates none of them: the answer of a user whose network this is. A
+    /// candidate with a variable that the question leaves open isn't violated.
     pub fn accepts(&self, lang: &Language, q: &Partial) -> bool
         requires network { IsNetwork lang.now self.now.list }
         requires question { IsQuestion lang.now q.now }

@@ -1,6 +1,8 @@
-//! Reading a network in JSON: an array of items, each the names of a relation and of the variables of its scope.
+//! Reading a network in JSON: an array of items, each the names of a relation and of the variables
+//! of its scope.
 
-ghost use Rattle.std.specs.Prelude.{◌≡◌, ◌<◌, ◌≤◌, ◌^◌, ◌++◌, ◌∷◌, [], length, false, None, IfOk, IfSome};
+ghost use Rattle.std.specs.Prelude.{◌≡◌, ◌<◌, ◌≤◌, ◌^◌, ◌++◌, ◌∷◌, [], length, false, None, IfOk};
+ghost use Rattle.std.specs.Prelude.{IfSome};
 ghost use Rattle.std.specs.Option.{ok_or};
 ghost use Rattle.serde_json.specs.View.{view, items_view};
 ghost use Rattle.language.specs.Language.{relations_on, IsLanguage, IsCandidate};
@@ -9,7 +11,9 @@ ghost use Rattle.language.specs.ByName.{texts_of};
 ghost use Rattle.network.specs.Answers.{Reads};
 ghost use Rattle.network.specs.Learned.{Learned};
 ghost use Rattle.network.specs.Masks.{TellsWithinAll};
-ghost use Rattle.network.specs.Target.{each_text, text_list, pieces, relations_named, relation_by, repeat_of, candidate_of, candidate_in, network_from, network_of};
+ghost use Rattle.network.specs.Target.{each_text, text_list, pieces, relations_named, relation_by};
+ghost use Rattle.network.specs.Target.{repeat_of, candidate_of, candidate_in, network_from};
+ghost use Rattle.network.specs.Target.{network_of};
 ghost use Rattle.rel_formula.specs.Json.{json_of};
 
 use crate::fault::NetFault;
@@ -39,7 +43,8 @@ fn json_of(alloc: Global, bytes: &[u8]) -> Result<Value, NetFault>
 
 /// The strings of a list, for item i.
 fn texts_in<'a>(alloc: Global, list: &'a [Value], i: u32) -> Result<Vec<&'a str>, NetFault>
-    ensures { Reads (λ v. texts_of v.items) (ok_or (each_text (items_view list.entry.now)) (NetFault.BadItem i)) result }
+    ensures { Reads (λ v. texts_of v.items)
+        (ok_or (each_text (items_view list.entry.now)) (NetFault.BadItem i)) result }
 {
     let mut texts = Vec::new(alloc);
     for value in list {
@@ -51,7 +56,8 @@ fn texts_in<'a>(alloc: Global, list: &'a [Value], i: u32) -> Result<Vec<&'a str>
 
 /// The strings of item i.
 fn text_list<'a>(alloc: Global, value: &'a Value, i: u32) -> Result<Vec<&'a str>, NetFault>
-    ensures { Reads (λ v. texts_of v.items) (ok_or (text_list (view value.entry.now)) (NetFault.BadItem i)) result }
+    ensures { Reads (λ v. texts_of v.items)
+        (ok_or (text_list (view value.entry.now)) (NetFault.BadItem i)) result }
 {
     match value.as_array() {
         Some(list) => texts_in(alloc, list.as_slice(), i),
@@ -70,7 +76,8 @@ fn pieces_of<'a>(alloc: Global, text: &'a str) -> Result<Vec<&'a str>, AllocErro
 fn within_named(lang: &Language, s: ScopeId, names: &[&str]) -> Option<u64>
     requires lawful { IsLanguage lang.now }
     requires scope { s < length lang.now.scopes }
-    ensures tells { TellsWithinAll lang.now s (relations_named lang.now s (texts_of names.now)) result }
+    ensures tells { TellsWithinAll lang.now s
+        (relations_named lang.now s (texts_of names.now)) result }
     ensures small { IfSome result (λ relations. relations < 2 ^ 64) }
 {
     let mut relations = u64::MAX;
@@ -80,8 +87,8 @@ fn within_named(lang: &Language, s: ScopeId, names: &[&str]) -> Option<u64>
     Some(relations)
 }
 
-/// The relation on a scope that names stand for: the intersection of the vocabulary's relations of these names. It comes
-/// first among those that lie within each of them.
+/// The relation on a scope that names stand for: the intersection of the vocabulary's relations of
+/// these names. It comes first among those that lie within each of them.
 fn relation_by(lang: &Language, s: ScopeId, names: &[&str]) -> Option<u8>
     requires lawful { IsLanguage lang.now }
     requires scope { s < length lang.now.scopes }
@@ -107,7 +114,8 @@ fn first_on(net: &Network, s: ScopeId) -> Option<u32>
     None
 }
 
-/// The candidate of a relation's text and the names of its scope's variables, behind those of a network.
+/// The candidate of a relation's text and the names of its scope's variables, behind those of a
+/// network.
 fn candidate_of(
     alloc: Global,
     lang: &Language,
@@ -115,7 +123,8 @@ fn candidate_of(
     relation: &str,
     variables: &[&str],
 ) -> Result<Candidate, NetFault>
-    ensures is { Reads (λ c. c) (candidate_of lang.now net.now.list (record { relation = relation.now; variables = texts_of variables.now })) result }
+    ensures is { Reads (λ c. c) (candidate_of lang.now net.now.list
+        (record { relation = relation.now; variables = texts_of variables.now })) result }
     ensures candidate { IfOk result (IsCandidate lang.now) }
     ensures fresh { IfOk result (λ c. has_scope net.now.list c.scope ≡ false) }
 {
@@ -152,7 +161,8 @@ fn candidate_in(
 
 /// The network of items.
 fn network_of(alloc: Global, lang: &Language, items: &[Value]) -> Result<Network, NetFault>
-    ensures is { Reads (λ (net : Learned). net.list) (network_from lang.now [] (items_view items.now)) result }
+    ensures is { Reads
+        (λ (net : Learned). net.list) (network_from lang.now [] (items_view items.now)) result }
     ensures network { IfOk result (λ (net : Learned). IsNetwork lang.now net.list) }
     ensures scopes { IfOk result (λ (net : Learned). net.scopes ≡ length lang.now.scopes) }
 {
@@ -165,7 +175,8 @@ fn network_of(alloc: Global, lang: &Language, items: &[Value]) -> Result<Network
 }
 
 #[tactic(auto, unfolding(crate::specs::Target::network_of))]
-/// The network that a JSON text describes, or the first fault in the order of the format. Items are learned in their order.
+/// The network that a JSON text describes, or the first fault in the order of the format. Items are
+/// learned in their order.
 pub fn read_network(alloc: Global, lang: &Language, bytes: &[u8]) -> Result<Network, NetFault>
     ensures is { Reads (λ (net : Learned). net.list) (network_of lang.now bytes.now) result }
     ensures network { IfOk result (λ (net : Learned). IsNetwork lang.now net.list) }

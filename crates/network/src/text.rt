@@ -6,8 +6,8 @@ use crate::network::Network;
 use language::{Candidate, Language, Memory};
 use std::alloc::{AllocError, Global};
 
-/// The text of each learned candidate, in learning order, each with a newline: `eq a b`, and so on. Nothing learned is
-/// the empty text. `Memory` where there is none for the text.
+/// The text of each learned candidate, in learning order, each with a newline: `eq a b`, and so on.
+/// Nothing learned is the empty text. `Memory` where there is none for the text.
 pub fn network_text(alloc: Global, lang: &Language, net: &Network) -> Result<String, Memory>
     requires { IsNetwork lang.now net.now.list }
     ensures { IfOk result (λ text. string_bytes text ≡ network_text lang.now net.now.list) }

@@ -48,7 +48,8 @@ fn search_part<G: Gate>(
     requires network { IsNetwork lang.now net.now.list }
     requires some_budget { 1 ≤ budget }
     requires small_budget { budget ≤ 1000000000 }
-    ensures searched { IsSearched lang.now net.now.list kept.now.members budget (part_start lang.now part) (part_start lang.now (part + 1)) place.new.marks.items place.new.answer }
+    ensures searched { IsSearched lang.now net.now.list kept.now.members budget (part_start lang.now
+        part) (part_start lang.now (part + 1)) place.new.marks.items place.new.answer }
     ensures size { vec_len place.new.marks ≡ vec_len place.old.marks }
 {
     let first = part_start(lang, part);
@@ -84,8 +85,13 @@ fn search_parts<R: Threads + Sync, G: Gate>(
         places,
         PARTS as usize,
         &|part, place: &mut Place|
-            requires { (part < 8) × (vec_len place.now.marks ≡ part_size lang.now) × AreMarksFor lang.now screen.now × MarksHold lang.now net.now.list budget screen.now × IsKeptOf lang.now kept.now × IsNetwork lang.now net.now.list × (1 ≤ budget) × (budget ≤ 1000000000) }
-            ensures searched { IsSearched lang.entry.now net.entry.now.list kept.entry.now.members budget (part_start lang.entry.now part) (part_start lang.entry.now (part + 1)) place.exit.now.marks.items place.exit.now.answer }
+            requires { (part < 8) × (vec_len place.now.marks ≡ part_size lang.now)
+                × AreMarksFor lang.now screen.now
+                × MarksHold lang.now net.now.list budget screen.now × IsKeptOf lang.now kept.now
+                × IsNetwork lang.now net.now.list × (1 ≤ budget) × (budget ≤ 1000000000) }
+            ensures searched { IsSearched lang.entry.now net.entry.now.list kept.entry.now.members
+                budget (part_start lang.entry.now part) (part_start lang.entry.now (part + 1))
+                place.exit.now.marks.items place.exit.now.answer }
             ensures size { vec_len place.exit.now.marks ≡ vec_len place.entry.now.marks }
         { search_part(gate, part as u32, place, screen, lang, kept, net, budget) },
     );
@@ -107,7 +113,9 @@ fn take_parts(
     requires searched { AreSearched lang.now net.now.list kept.now.members budget places.now }
     ensures screen { AreMarksFor lang.now screen.new }
     ensures marks { MarksHold lang.now net.now.list budget screen.new }
-    ensures open { is_ask (next_query lang.now net.now.list kept.now.members budget) ≡ false → (c : Candidate) → IsCandidate lang.now c → is_open lang.now screen.new c ≡ (is_among kept.now.members c && is_spent (outcome_of_candidate lang.now net.now.list c budget)) }
+    ensures open { is_ask (next_query lang.now net.now.list kept.now.members budget) ≡ false →
+        (c : Candidate) → IsCandidate lang.now c → is_open lang.now screen.new c ≡ (is_among
+        kept.now.members c && is_spent (outcome_of_candidate lang.now net.now.list c budget)) }
 {
     for part in 0..PARTS {
         screen.take_marks(
@@ -120,7 +128,8 @@ fn take_parts(
     }
 }
 
-/// Puts into the screen what the parts found of the candidates that were searched for, as where one of them found a question.
+/// Puts into the screen what the parts found of the candidates that were searched for, as where one
+/// of them found a question.
 fn take_searched(
     places: &[Place],
     screen: &mut Screen,
@@ -157,12 +166,13 @@ fn answer_of(places: &[Place], lang: &Language, kept: &Kept, net: &Network, budg
     answer
 }
 
-/// The next question, as `next_query` answers it: that of the first kept candidate, in candidate order, whose search under the
-/// budget finds one.
+/// The next question, as `next_query` answers it: that of the first kept candidate, in candidate
+/// order, whose search under the budget finds one.
 ///
-/// The candidates are cut into eight parts of equal size, of which the last ones may be shorter or empty. Each part is searched
-/// by one call of the gate, in its place, by a thread of its own where one can be made. What the parts found is put into the
-/// screen when all have returned. The places are made for the language.
+/// The candidates are cut into eight parts of equal size, of which the last ones may be shorter or
+/// empty. Each part is searched by one call of the gate, in its place, by a thread of its own where
+/// one can be made. What the parts found is put into the screen when all have returned. The places
+/// are made for the language.
 pub fn next_query_forked<R: Threads + Sync, G: Gate>(
     rt: &R,
     places: &mut [Place; 8],
@@ -186,7 +196,9 @@ pub fn next_query_forked<R: Threads + Sync, G: Gate>(
     ensures screen { AreMarksFor lang.now screen.new }
     ensures marks { MarksHold lang.now net.now.list budget screen.new }
     // exactly the kept candidates whose search was spent are open
-    ensures open { result ≡ Query.Undecided → (c : Candidate) → IsCandidate lang.now c → is_open lang.now screen.new c ≡ (is_among kept.now.members c && is_spent (outcome_of_candidate lang.now net.now.list c budget)) }
+    ensures open { result ≡ Query.Undecided → (c : Candidate) → IsCandidate lang.now c →
+        is_open lang.now screen.new c ≡ (is_among kept.now.members c && is_spent
+        (outcome_of_candidate lang.now net.now.list c budget)) }
 {
     screen.follow(lang, net);
     search_parts(

@@ -14,8 +14,8 @@ use query_gen::{Place, Screen};
 
 /// Does the search of each part. The calls may come from several threads at once.
 pub trait Gate: Sync {
-    /// Searches the kept candidates with numbers from `first` to below `end` in the place, as `Place::search` does. The job is
-    /// the part's number, from 0 to 7.
+    /// Searches the kept candidates with numbers from `first` to below `end` in the place, as
+    /// `Place::search` does. The job is the part's number, from 0 to 7.
     fn search(
         &self,
         job: u32,
@@ -38,7 +38,8 @@ pub trait Gate: Sync {
         requires small_budget { budget ≤ 1000000000 }
         requires part { (first ≤ end) × (end ≤ length (candidates lang.now)) }
         requires room { end - first ≤ vec_len place.old.marks }
-        ensures is { IsSearched lang.now net.now.list kept.now.members budget first end place.new.marks.items place.new.answer }
+        ensures is { IsSearched lang.now net.now.list kept.now.members budget first end
+            place.new.marks.items place.new.answer }
         ensures size { vec_len place.new.marks ≡ vec_len place.old.marks };
 }
 

@@ -15,7 +15,8 @@ fn place_for(alloc: Global, lang: &Language) -> Result<Place, Memory>
     Place::new(alloc, lang)
 }
 
-/// Places for two parts. Few at a time are made beside a refusal, since each that is made is dropped by it.
+/// Places for two parts. Few at a time are made beside a refusal, since each that is made is
+/// dropped by it.
 fn two_places(alloc: Global, lang: &Language) -> Result<(Place, Place), Memory>
     ensures made { IfOk result (λ two. AreMadeFor lang.now (two.0 ∷ two.1 ∷ [])) }
     ensures new { IfOk result (λ two. AreNew lang.now (two.0 ∷ two.1 ∷ [])) }
@@ -27,7 +28,8 @@ fn two_places(alloc: Global, lang: &Language) -> Result<(Place, Place), Memory>
 
 /// Places for four parts.
 fn four_places(alloc: Global, lang: &Language) -> Result<(Place, Place, Place, Place), Memory>
-    ensures made { IfOk result (λ four. AreMadeFor lang.now (four.0 ∷ four.1 ∷ four.2 ∷ four.3 ∷ [])) }
+    ensures made { IfOk result
+        (λ four. AreMadeFor lang.now (four.0 ∷ four.1 ∷ four.2 ∷ four.3 ∷ [])) }
     ensures new { IfOk result (λ four. AreNew lang.now (four.0 ∷ four.1 ∷ four.2 ∷ four.3 ∷ [])) }
 {
     let (first, second) = two_places(alloc, lang)?;

@@ -8,7 +8,8 @@ use Rattle.language.specs.Answers.{IsNetwork}
 use Rattle.language.specs.Search.{satisfies}
 
 -- candidates of the language
-pub record AreConstraints (l : Language) (holding : List Candidate) (failing : Option Candidate) : Type 0 where
+pub record AreConstraints (l : Language) (holding : List Candidate) (failing : Option Candidate) :
+    Type 0 where
   pub list : IsNetwork l holding
   pub against : ForSome failing (IsCandidate l)
 

@@ -1,5 +1,6 @@
 -- What is known of a condition before the search.
-use Rattle.std.specs.Prelude.{ℕ, zero, suc, ◌≡◌, ◌<◌, ◌≤◌, ◌==◌, ◌⊎◌, Bool, not, false, List, [], ◌∷◌, length, take, slice_index_or}
+use Rattle.std.specs.Prelude.{ℕ, zero, suc, ◌≡◌, ◌<◌, ◌≤◌, ◌==◌, ◌⊎◌, Bool, not, false, List, []}
+use Rattle.std.specs.Prelude.{◌∷◌, length, take, slice_index_or}
 use Rattle.rel_table.specs.Relation.{Relation}
 use Rattle.language.specs.Language.{Language, IsCandidate, scope_of}
 use Rattle.language.specs.Pairs.{ArePairTables, IsPairTable}
@@ -36,9 +37,11 @@ TellsApart d accepted = (x y : ℕ) → x < d → y < d → accepted (x ∷ y �
 -- a condition that two variables differ
 pub record IsApartOf (l : Language) (a : Arc) (p : Pair) : Type 0 where
   pub pair : IsPairOf l a p
-  pub apart : (pairs : List Relation) → ArePairTables l pairs → TellsApart l.value_count (by_pair l pairs p)
+  pub apart : (pairs : List Relation) → ArePairTables l pairs →
+      TellsApart l.value_count (by_pair l pairs p)
 
--- a condition that a candidate holds, or that it doesn't, whose variables stand in the first ones of four places
+-- a condition that a candidate holds, or that it doesn't, whose variables stand in the first ones
+-- of four places
 pub record IsOnScope (l : Language) (a : Arc) (o : OnScope) : Type 0 where
   pub candidate : IsCandidate l o.candidate
   pub is : a ≡ arc_of l o.candidate o.holding
@@ -52,11 +55,13 @@ IsBriefOf l a (Other o) = IsOnScope l a o
 
 -- what stands for a brief where there is none
 abbrev pub blank : Brief
-blank = Other (record { scope = []; size = 0; holding = false; candidate = record { scope = 0; rel = 0 } })
+blank = Other
+    (record { scope = []; size = 0; holding = false; candidate = record { scope = 0; rel = 0 } })
 
 -- the first conditions have theirs, as far as these go
 abbrev pub AreBriefs : Language → List Arc → List Brief → Type 0
-AreBriefs l arcs briefs = (k : ℕ) (a : Arc) (b : Brief) → k < length briefs → k < length arcs → IsBriefOf l (slice_index_or arcs k a) (slice_index_or briefs k b)
+AreBriefs l arcs briefs = (k : ℕ) (a : Arc) (b : Brief) → k < length briefs → k < length arcs →
+    IsBriefOf l (slice_index_or arcs k a) (slice_index_or briefs k b)
 
 -- the bound of the variable at a place of the scope
 abbrev pub at_place : PairBounds → ℕ → ℕ

@@ -1,5 +1,6 @@
 -- What is known of candidates that hold before searches against others.
-use Rattle.std.specs.Prelude.{ℕ, ◌≡◌, ◌≤◌, Bool, true, false, List, [], ◌∷◌, ◌++◌, length, map, take, None}
+use Rattle.std.specs.Prelude.{ℕ, ◌≡◌, ◌≤◌, Bool, true, false, List, [], ◌∷◌, ◌++◌, length, map}
+use Rattle.std.specs.Prelude.{take, None}
 use Rattle.assign.specs.Sets.{numbers}
 use Rattle.language.specs.declared.candidates.Candidate.{Candidate}
 use Rattle.language.specs.Language.{Language, variable_count, values_of}
@@ -23,7 +24,8 @@ pub record IsRoot (l : Language) (arcs : List Arc) (root : Family) (is_alive : B
   pub dead : is_alive ≡ false → RunsEmpty arcs (all_values l)
 
 -- the last condition has this scope, and it is known what those before it leave
-pub record IsRootBefore (l : Language) (arcs : List Arc) (scope : List ℕ) (left : Family) (is_alive : Bool) : Type 0 where
+pub record IsRootBefore (l : Language) (arcs : List Arc) (scope : List ℕ) (left : Family)
+    (is_alive : Bool) : Type 0 where
   pub before : List Arc
   pub last : Arc
   pub is : arcs ≡ before ++ last ∷ []

@@ -17,8 +17,8 @@ pub struct Pair {
     pub(crate) table: u8,
     /// Whether the relation is to hold, or not to hold.
     pub(crate) holding: bool,
-    /// How many values of either variable it rejects at most with one of the other. With more of them it takes no value of
-    /// the other away.
+    /// How many values of either variable it rejects at most with one of the other. With more of
+    /// them it takes no value of the other away.
     pub(crate) bounds: PairBounds,
 }
 
@@ -107,7 +107,8 @@ fn raise(limits: &mut [u8], v: u8, bound: u8)
 pub(crate) fn raise_all(limits: &mut [u8], scope: &[u8], brief: Brief)
     requires known { All (λ v. v < length limits.old) scope.now }
     requires is { IsBriefOn scope.now brief }
-    ensures there { (j : ℕ) → j < length scope.now → bound_at brief j ≤ slice_index_or limits.new (slice_index_or scope.now j 0) 0 }
+    ensures there { (j : ℕ) → j < length scope.now →
+        bound_at brief j ≤ slice_index_or limits.new (slice_index_or scope.now j 0) 0 }
     ensures grows { (u : ℕ) → slice_index_or limits.old u 0 ≤ slice_index_or limits.new u 0 }
 {
     match brief {

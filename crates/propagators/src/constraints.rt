@@ -6,7 +6,8 @@ ghost use Rattle.propagators.specs.Families.{Arc, arc_of, arcs_of};
 use assign::Partial;
 use language::{Candidate, Language};
 
-/// What a solution has to meet: each candidate of the list holds, and `against` is false at the tuple of its scope.
+/// What a solution has to meet: each candidate of the list holds, and `against` is false at the
+/// tuple of its scope.
 #[derive(Clone, Copy)]
 pub struct Constraints<'a> {
     /// Of which the candidates are.
@@ -18,8 +19,8 @@ pub struct Constraints<'a> {
 }
 
 impl<'a> Constraints<'a> {
-    /// Whether the assignment gives each variable of `against` a value and the relation accepts them. False without an
-    /// `against`.
+    /// Whether the assignment gives each variable of `against` a value and the relation accepts
+    /// them. False without an `against`.
     pub fn satisfies_against(&self, e: &Partial) -> bool
         requires constraints { AreConstraints self.now.lang.now self.now.list.now self.now.against }
         requires question { IsQuestion self.now.lang.now e.now }
@@ -34,7 +35,8 @@ impl<'a> Constraints<'a> {
         }
     }
 
-    /// How many conditions there are: one for each candidate of the list, and then one for `against`.
+    /// How many conditions there are: one for each candidate of the list, and then one for
+    /// `against`.
     pub(crate) fn count(&self) -> usize
         ensures { result ≡ length (arcs_of self.now.lang.now self.now.list.now self.now.against) }
     {
@@ -49,7 +51,8 @@ impl<'a> Constraints<'a> {
         requires constraints { AreConstraints self.now.lang.now self.now.list.now self.now.against }
         requires low { i < length (arcs_of self.now.lang.now self.now.list.now self.now.against) }
         ensures candidate { IsCandidate self.now.lang.now result.0 }
-        ensures is { (a : Arc) → slice_index_or (arcs_of self.now.lang.now self.now.list.now self.now.against) i a ≡ arc_of self.now.lang.now result.0 result.1 }
+        ensures is { (a : Arc) → slice_index_or (arcs_of self.now.lang.now self.now.list.now
+            self.now.against) i a ≡ arc_of self.now.lang.now result.0 result.1 }
     {
         if i < self.list.len() {
             return (self.list[i], true);

@@ -1,4 +1,6 @@
-ghost use Rattle.std.specs.Prelude.{◌≡◌, ◌<◌, ◌≤◌, ◌==◌, ◌&&◌, ℕ, [], true, false, not, nat_lt, length, map, take, slice_index_or, slice_set, All, IfSome, None};
+ghost use Rattle.std.specs.Prelude.{◌≡◌, ◌<◌, ◌≤◌, ◌==◌, ◌&&◌, ℕ, [], true, false, not, nat_lt};
+ghost use Rattle.std.specs.Prelude.{length, map, take, slice_index_or, slice_set, All, IfSome};
+ghost use Rattle.std.specs.Prelude.{None};
 ghost use Rattle.std.specs.List.{filter, list_all, list_any};
 ghost use Rattle.std.specs.Int.{bit_at};
 ghost use Rattle.assign.specs.Sets.{numbers, has, IsSet, ones_of};
@@ -62,7 +64,8 @@ impl Domains {
         Domains { sets, size: n }
     }
 
-    /// Becomes the same as another one. Where both have as many variables, only the sets of these are written.
+    /// Becomes the same as another one. Where both have as many variables, only the sets of these
+    /// are written.
     pub fn take(&mut self, other: &Domains)
         ensures { self.new ≡ other.now }
     {
@@ -78,7 +81,8 @@ impl Domains {
     pub fn fix(&mut self, v: u8, value: u8)
         requires known { v < length self.old }
         requires small { value < 64 }
-        ensures is { self.new ≡ slice_set self.old v (filter (λ x. value == x) (slice_index_or self.old v [])) }
+        ensures is { self.new
+            ≡ slice_set self.old v (filter (λ x. value == x) (slice_index_or self.old v [])) }
         ensures family { (l : Language) → IsFamilyOf l self.old → IsFamilyOf l self.new }
     {
         self.sets[v as usize] = only_value(self.sets[v as usize], value);
@@ -98,8 +102,10 @@ impl Domains {
         requires { v < length self.now }
         ensures from { IfSome result (λ y. x ≤ y) }
         ensures there { IfSome result (λ y. has (slice_index_or self.now v []) y ≡ true) }
-        ensures least { IfSome result (λ y. (z : ℕ) → x ≤ z → z < y → has (slice_index_or self.now v []) z ≡ false) }
-        ensures none { result ≡ None → (z : ℕ) → x ≤ z → has (slice_index_or self.now v []) z ≡ false }
+        ensures least { IfSome result (λ y. (z : ℕ) → x ≤ z → z < y →
+            has (slice_index_or self.now v []) z ≡ false) }
+        ensures none { result ≡ None → (z : ℕ) → x ≤ z →
+            has (slice_index_or self.now v []) z ≡ false }
     {
         least_from(self.sets[v as usize], x)
     }
@@ -125,7 +131,8 @@ impl Domains {
     pub fn only(&self, v: u8) -> Option<u8>
         requires { v < length self.now }
         ensures only { IfSome result (λ x. IsOnly (slice_index_or self.now v []) x) }
-        ensures two { result ≡ None → is_not_empty (slice_index_or self.now v []) ≡ true → HasTwo (slice_index_or self.now v []) }
+        ensures two { result ≡ None → is_not_empty (slice_index_or self.now v []) ≡ true →
+            HasTwo (slice_index_or self.now v []) }
     {
         only_member(self.sets[v as usize])
     }
@@ -140,11 +147,13 @@ impl Domains {
         are_more(self.sets[v as usize], most)
     }
 
-    /// Those of the variable's values that pass: whose bit in the row is 1, or is 0 where the row isn't to hold.
+    /// Those of the variable's values that pass: whose bit in the row is 1, or is 0 where the row
+    /// isn't to hold.
     #[inline]
     pub(crate) fn passing(&self, v: u8, row: u64, holding: bool) -> u64
         requires { v < length self.now }
-        ensures { (x : ℕ) → has (ones_of result) x ≡ (has (slice_index_or self.now v []) x && is_wanted holding (bit_at row x == 1)) }
+        ensures { (x : ℕ) → has (ones_of result) x
+            ≡ (has (slice_index_or self.now v []) x && is_wanted holding (bit_at row x == 1)) }
     {
         passing(self.sets[v as usize], row, holding)
     }
@@ -154,7 +163,8 @@ impl Domains {
     pub(crate) fn others(&self, v: u8, x: u8) -> u64
         requires known { v < length self.now }
         requires small { x < 64 }
-        ensures { (y : ℕ) → has (ones_of result) y ≡ (has (slice_index_or self.now v []) y && not (x == y)) }
+        ensures { (y : ℕ) →
+            has (ones_of result) y ≡ (has (slice_index_or self.now v []) y && not (x == y)) }
     {
         others(self.sets[v as usize], x)
     }
@@ -175,7 +185,8 @@ impl Domains {
     /// Leaves the variable these of its values, and says whether it had others.
     pub(crate) fn cut(&mut self, v: u8, values: u64) -> bool
         requires known { v < length self.old }
-        requires within { (x : ℕ) → has (ones_of values) x ≡ true → has (slice_index_or self.old v []) x ≡ true }
+        requires within { (x : ℕ) → has (ones_of values) x ≡ true →
+            has (slice_index_or self.old v []) x ≡ true }
         ensures is { self.new ≡ slice_set self.old v (ones_of values) }
         ensures same { result ≡ false → self.new ≡ self.old }
         ensures less { result ≡ true → family_size self.new < family_size self.old }

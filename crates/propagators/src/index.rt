@@ -4,7 +4,8 @@ use crate::domains::Domains;
 use crate::plan::Plan;
 use language::Candidate;
 
-/// A list of candidates that hold, with what is known before searches against others: its plan, and what it leaves to the variables.
+/// A list of candidates that hold, with what is known before searches against others: its plan, and
+/// what it leaves to the variables.
 #[derive(Drop)]
 pub struct Index {
     /// The first ones, so many, are the list. The others mean nothing.

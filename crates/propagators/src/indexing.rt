@@ -1,6 +1,7 @@
 //! What is known before searches of candidates that hold, whichever one doesn't.
 
-ghost use Rattle.std.specs.Prelude.{◌≡◌, ◌<◌, ◌≤◌, ◌+◌, ◌++◌, ◌∷◌, [], true, false, IfOk, IfSome, None, length, take, List};
+ghost use Rattle.std.specs.Prelude.{◌≡◌, ◌<◌, ◌≤◌, ◌+◌, ◌++◌, ◌∷◌, [], true, false, IfOk, IfSome};
+ghost use Rattle.std.specs.Prelude.{None, length, take, List};
 ghost use Rattle.language.specs.declared.candidates.Candidate.{Candidate};
 ghost use Rattle.language.specs.Language.{IsLanguage, IsCandidate};
 ghost use Rattle.language.specs.Answers.{IsNetwork};
@@ -47,7 +48,8 @@ fn is_yes(alive: Alive) -> bool
     }
 }
 
-/// What a condition more leaves to the variables, of which it is known what the others leave. Says whether each has a value left.
+/// What a condition more leaves to the variables, of which it is known what the others leave. Says
+/// whether each has a value left.
 fn leave_more(
     cons: &Constraints,
     plan: &Plan,
@@ -57,9 +59,12 @@ fn leave_more(
 ) -> bool
     requires lawful { IsLanguage cons.now.lang.now }
     requires constraints { AreConstraints cons.now.lang.now cons.now.list.now cons.now.against }
-    requires plan { IsPlanOf cons.now.lang.now (arcs_of cons.now.lang.now cons.now.list.now cons.now.against) plan.now }
-    requires before { IsRootBefore cons.now.lang.now (arcs_of cons.now.lang.now cons.now.list.now cons.now.against) changed root.old was_alive }
-    ensures { IsRoot cons.now.lang.now (arcs_of cons.now.lang.now cons.now.list.now cons.now.against) root.new result }
+    requires plan { IsPlanOf cons.now.lang.now
+        (arcs_of cons.now.lang.now cons.now.list.now cons.now.against) plan.now }
+    requires before { IsRootBefore cons.now.lang.now
+        (arcs_of cons.now.lang.now cons.now.list.now cons.now.against) changed root.old was_alive }
+    ensures { IsRoot cons.now.lang.now
+        (arcs_of cons.now.lang.now cons.now.list.now cons.now.against) root.new result }
 {
     if !was_alive {
         return false;
@@ -68,7 +73,8 @@ fn leave_more(
 }
 
 impl Index {
-    /// The index of no candidates, with room for as many as there are scopes: some 32 bytes for each. `Memory` where there is none.
+    /// The index of no candidates, with room for as many as there are scopes: some 32 bytes for
+    /// each. `Memory` where there is none.
     pub fn new(alloc: Global, lang: &Language) -> Result<Index, Memory>
         ensures { IfOk result (IsIndexOf lang.now) }
     {
@@ -145,8 +151,8 @@ impl Index {
         self.is_alive = leave_more(&cons, &self.plan, &mut self.root, self.is_alive, last);
     }
 
-    /// Brings it up to a list of candidates, where there is room for them. Where its own ones stand at the front, the others are taken
-    /// in one by one.
+    /// Brings it up to a list of candidates, where there is room for them. Where its own ones stand
+    /// at the front, the others are taken in one by one.
     pub fn follow(&mut self, lang: &Language, list: &[Candidate])
         requires known { IsNetwork lang.now list.now }
         requires index { IsIndexOf lang.now self.old }
@@ -165,14 +171,18 @@ impl Index {
         }
     }
 
-    /// Makes a plan one of these conditions, and gives what they leave to the variables: `None` where that is nothing for some variable.
+    /// Makes a plan one of these conditions, and gives what they leave to the variables: `None`
+    /// where that is nothing for some variable.
     pub fn begin(&self, cons: &Constraints, plan: &mut Plan) -> Option<Domains>
         requires lawful { IsLanguage cons.now.lang.now }
         requires constraints { AreConstraints cons.now.lang.now cons.now.list.now cons.now.against }
         requires index { IsIndexOf cons.now.lang.now self.now }
-        ensures plan { IsPlanOf cons.now.lang.now (arcs_of cons.now.lang.now cons.now.list.now cons.now.against) plan.new }
-        ensures left { IfSome result (IsPropagated cons.now.lang.now (arcs_of cons.now.lang.now cons.now.list.now cons.now.against) (all_values cons.now.lang.now)) }
-        ensures nothing { result ≡ None → RunsEmpty (arcs_of cons.now.lang.now cons.now.list.now cons.now.against) (all_values cons.now.lang.now) }
+        ensures plan { IsPlanOf cons.now.lang.now
+            (arcs_of cons.now.lang.now cons.now.list.now cons.now.against) plan.new }
+        ensures left { IfSome result (IsPropagated cons.now.lang.now (arcs_of cons.now.lang.now
+            cons.now.list.now cons.now.against) (all_values cons.now.lang.now)) }
+        ensures nothing { result ≡ None → RunsEmpty (arcs_of cons.now.lang.now cons.now.list.now
+            cons.now.against) (all_values cons.now.lang.now) }
     {
         if self.is_of(cons.list) {
             plan.arrange_beside(cons, &self.plan);
@@ -186,15 +196,18 @@ impl Index {
         }
     }
 
-    /// What the one against the list leaves to the variables of what the list leaves. Says whether each has a value left.
+    /// What the one against the list leaves to the variables of what the list leaves. Says whether
+    /// each has a value left.
     fn narrow(&self, cons: &Constraints, plan: &Plan, root: &mut Domains) -> bool
         requires lawful { IsLanguage cons.now.lang.now }
         requires constraints { AreConstraints cons.now.lang.now cons.now.list.now cons.now.against }
         requires index { IsIndexOf cons.now.lang.now self.now }
         requires list { list_in self.now ≡ cons.now.list.now }
-        requires plan { IsPlanOf cons.now.lang.now (arcs_of cons.now.lang.now cons.now.list.now cons.now.against) plan.now }
+        requires plan { IsPlanOf cons.now.lang.now
+            (arcs_of cons.now.lang.now cons.now.list.now cons.now.against) plan.now }
         requires root { root.old ≡ self.now.root }
-        ensures { IsRoot cons.now.lang.now (arcs_of cons.now.lang.now cons.now.list.now cons.now.against) root.new result }
+        ensures { IsRoot cons.now.lang.now
+            (arcs_of cons.now.lang.now cons.now.list.now cons.now.against) root.new result }
     {
         match cons.against {
             None => self.is_alive,
@@ -205,15 +218,19 @@ impl Index {
         }
     }
 
-    /// What the list and the one against it leave to the variables: `None` where that is nothing for some variable.
+    /// What the list and the one against it leave to the variables: `None` where that is nothing
+    /// for some variable.
     fn root_beside(&self, cons: &Constraints, plan: &Plan) -> Option<Domains>
         requires lawful { IsLanguage cons.now.lang.now }
         requires constraints { AreConstraints cons.now.lang.now cons.now.list.now cons.now.against }
         requires index { IsIndexOf cons.now.lang.now self.now }
         requires list { list_in self.now ≡ cons.now.list.now }
-        requires plan { IsPlanOf cons.now.lang.now (arcs_of cons.now.lang.now cons.now.list.now cons.now.against) plan.now }
-        ensures left { IfSome result (IsPropagated cons.now.lang.now (arcs_of cons.now.lang.now cons.now.list.now cons.now.against) (all_values cons.now.lang.now)) }
-        ensures nothing { result ≡ None → RunsEmpty (arcs_of cons.now.lang.now cons.now.list.now cons.now.against) (all_values cons.now.lang.now) }
+        requires plan { IsPlanOf cons.now.lang.now
+            (arcs_of cons.now.lang.now cons.now.list.now cons.now.against) plan.now }
+        ensures left { IfSome result (IsPropagated cons.now.lang.now (arcs_of cons.now.lang.now
+            cons.now.list.now cons.now.against) (all_values cons.now.lang.now)) }
+        ensures nothing { result ≡ None → RunsEmpty (arcs_of cons.now.lang.now cons.now.list.now
+            cons.now.against) (all_values cons.now.lang.now) }
     {
         let mut root = self.root;
         if self.narrow(cons, plan, &mut root) {

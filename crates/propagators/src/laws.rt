@@ -12,12 +12,14 @@ pub fn largest_is_one()
     ensures { LargestIsOne }
 {}
 
-/// There is an arc-consistent family of nonempty sets exactly where the largest one has no empty set.
+/// There is an arc-consistent family of nonempty sets exactly where the largest one has no empty
+/// set.
 pub fn largest_tells()
     ensures { LargestTells }
 {}
 
-/// Where values are taken away from the largest, the new largest lies within what is left of the old one.
+/// Where values are taken away from the largest, the new largest lies within what is left of the
+/// old one.
 pub fn largest_again()
     ensures { LargestAgain }
 {}

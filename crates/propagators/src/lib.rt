@@ -1,12 +1,13 @@
 //! Constraints over the variables of a language, and what an assignment tells of them.
 //!
-//! `Constraints` are a list of candidates that hold and perhaps one candidate that doesn't. The floors above may rely
-//! on this: an assignment is allowed where it violates no candidate of the list and doesn't satisfy the one that
-//! doesn't hold (`is_allowed`). No call takes memory.
+//! `Constraints` are a list of candidates that hold and perhaps one candidate that doesn't. The
+//! floors above may rely on this: an assignment is allowed where it violates no candidate of the
+//! list and doesn't satisfy the one that doesn't hold (`is_allowed`). No call takes memory.
 //!
-//! Propagation is AC-3 (Mackworth, Artificial Intelligence 8, 1977): a queue of the variables that lost values, whose
-//! constraints are revised until none loses a value. A constraint on two variables is revised by rows of bits, as in
-//! AC-3bit (Lecoutre and Vion, Constraint Programming Letters 2, 2008).
+//! Propagation is AC-3 (Mackworth, Artificial Intelligence 8, 1977): a queue of the variables that
+//! lost values, whose constraints are revised until none loses a value. A constraint on two
+//! variables is revised by rows of bits, as in AC-3bit (Lecoutre and Vion, Constraint Programming
+//! Letters 2, 2008).
 #![tactic(auto)]
 
 mod arranging;

@@ -17,7 +17,8 @@ use language::{Language, PairBounds};
 fn most_rejected(masks: &[u64], d: u8, holding: bool) -> u8
     requires few { d ≤ 64 }
     requires long { length masks.now ≡ 64 }
-    ensures { (x : ℕ) → x < d → rejected_of d (λ y. is_wanted holding (bit_at (slice_index_or masks.now x 0) y == 1)) ≤ result }
+    ensures { (x : ℕ) → x < d → rejected_of d
+        (λ y. is_wanted holding (bit_at (slice_index_or masks.now x 0) y == 1)) ≤ result }
 {
     let all = first_values(d);
     let mut most = 0;
@@ -27,11 +28,13 @@ fn most_rejected(masks: &[u64], d: u8, holding: bool) -> u8
     most
 }
 
-/// Whether a table of two variables, where it is to hold, or not to hold, has the pairs of different values and no others.
+/// Whether a table of two variables, where it is to hold, or not to hold, has the pairs of
+/// different values and no others.
 pub(crate) fn tells_apart(lang: &Language, table: u8, holding: bool) -> bool
     requires lawful { IsLanguage lang.now }
     requires table { IsPairTable lang.now table }
-    ensures { result ≡ true → (pairs : List Relation) → ArePairTables lang.now pairs → TellsApart lang.now.value_count (by_table lang.now pairs table holding) }
+    ensures { result ≡ true → (pairs : List Relation) → ArePairTables lang.now pairs →
+        TellsApart lang.now.value_count (by_table lang.now pairs table holding) }
 {
     let all = first_values(lang.d());
     let rows = lang.pair_rows(table);
@@ -48,7 +51,8 @@ pub(crate) fn tells_apart(lang: &Language, table: u8, holding: bool) -> bool
 pub(crate) fn bounds_of(lang: &Language, table: u8, holding: bool) -> PairBounds
     requires lawful { IsLanguage lang.now }
     requires table { IsPairTable lang.now table }
-    ensures { (pairs : List Relation) → ArePairTables lang.now pairs → IsBounded lang.now.value_count (by_table lang.now pairs table holding) result }
+    ensures { (pairs : List Relation) → ArePairTables lang.now pairs →
+        IsBounded lang.now.value_count (by_table lang.now pairs table holding) result }
 {
     let bounds = lang.pair_bounds(table);
     if holding {

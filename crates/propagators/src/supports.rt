@@ -1,10 +1,13 @@
 //! Which values of some sets an accepted tuple goes through.
 
-ghost use Rattle.std.specs.Prelude.{◌≡◌, ◌+◌, ◌-◌, ◌*◌, ◌^◌, ◌<◌, ◌≤◌, ◌==◌, ◌&&◌, ◌||◌, ℕ, Bool, true, false, List, [], ◌∷◌, length, map, take, slice_index_or, slice_set, All, IfSome};
+ghost use Rattle.std.specs.Prelude.{◌≡◌, ◌+◌, ◌-◌, ◌*◌, ◌^◌, ◌<◌, ◌≤◌, ◌==◌, ◌&&◌, ◌||◌, ℕ, Bool};
+ghost use Rattle.std.specs.Prelude.{true, false, List, [], ◌∷◌, length, map, take, slice_index_or};
+ghost use Rattle.std.specs.Prelude.{slice_set, All, IfSome};
 ghost use Rattle.std.specs.Int.{bit_at};
 ghost use Rattle.std.specs.List.{list_all};
 ghost use Rattle.assign.specs.Sets.{has, ones_of};
-ghost use Rattle.propagators.specs.Supports.{AreSupported, AreAlong, AreBelow, AreSupportedBeside, HasTuple, HasNoTuple, continues, firsts_on};
+ghost use Rattle.propagators.specs.Supports.{AreSupported, AreAlong, AreBelow, AreSupportedBeside};
+ghost use Rattle.propagators.specs.Supports.{HasTuple, HasNoTuple, continues, firsts_on};
 ghost use Rattle.propagators.specs.Entailed.{HasOne, AreFixedBut};
 ghost use Rattle.propagators.specs.Families.{is_wanted, is_not_empty, sets_on};
 ghost use Rattle.propagators.specs.Loose.{IsBounded};
@@ -29,7 +32,8 @@ use rel_table::Table;
 fn in_one(table: &Table, holding: bool, at: u32, last: u64) -> u64
     requires fits { (at + 1) * table.now.value_count ≤ length table.now.truth }
     requires last { AreBelow table.now.value_count (ones_of last) }
-    ensures { AreSupported (ones_of last ∷ []) (continues table.now holding at) (ones_of result ∷ []) }
+    ensures { AreSupported (ones_of last ∷ []) (continues table.now holding at)
+        (ones_of result ∷ []) }
 {
     passing(
         last,
@@ -41,10 +45,12 @@ fn in_one(table: &Table, holding: bool, at: u32, last: u64) -> u64
 /// The supported values of two sets.
 #[inline]
 fn in_two(table: &Table, holding: bool, at: u32, first: u64, last: u64) -> (u64, u64)
-    requires fits { (at + 1) * (table.now.value_count * table.now.value_count) ≤ length table.now.truth }
+    requires fits { (at + 1) * (table.now.value_count * table.now.value_count)
+        ≤ length table.now.truth }
     requires first { AreBelow table.now.value_count (ones_of first) }
     requires last { AreBelow table.now.value_count (ones_of last) }
-    ensures { AreSupported (ones_of first ∷ ones_of last ∷ []) (continues table.now holding at) (ones_of result.0 ∷ ones_of result.1 ∷ []) }
+    ensures { AreSupported (ones_of first ∷ ones_of last ∷ []) (continues table.now holding at)
+        (ones_of result.0 ∷ ones_of result.1 ∷ []) }
 {
     let d = u32::from(table.value_count());
     let (mut a, mut b) = (0, 0);
@@ -62,11 +68,14 @@ fn in_two(table: &Table, holding: bool, at: u32, first: u64, last: u64) -> (u64,
 /// Whether an accepted tuple takes its values from two sets.
 #[inline]
 fn is_any_in_two(table: &Table, holding: bool, at: u32, first: u64, last: u64) -> bool
-    requires fits { (at + 1) * (table.now.value_count * table.now.value_count) ≤ length table.now.truth }
+    requires fits { (at + 1) * (table.now.value_count * table.now.value_count)
+        ≤ length table.now.truth }
     requires first { AreBelow table.now.value_count (ones_of first) }
     requires last { AreBelow table.now.value_count (ones_of last) }
-    ensures some { result ≡ true → HasTuple (ones_of first ∷ ones_of last ∷ []) (continues table.now holding at) }
-    ensures none { result ≡ false → HasNoTuple (ones_of first ∷ ones_of last ∷ []) (continues table.now holding at) }
+    ensures some { result ≡ true →
+        HasTuple (ones_of first ∷ ones_of last ∷ []) (continues table.now holding at) }
+    ensures none { result ≡ false →
+        HasNoTuple (ones_of first ∷ ones_of last ∷ []) (continues table.now holding at) }
 {
     let d = u32::from(table.value_count());
     let mut rest = first;
@@ -81,8 +90,8 @@ fn is_any_in_two(table: &Table, holding: bool, at: u32, first: u64, last: u64) -
     false
 }
 
-/// The supported values of two sets. Where each of them was found before, it matters alone whether there are any: then all are
-/// told, or none.
+/// The supported values of two sets. Where each of them was found before, it matters alone whether
+/// there are any: then all are told, or none.
 #[inline]
 fn in_two_beside(
     table: &Table,
@@ -92,10 +101,12 @@ fn in_two_beside(
     last: u64,
     found: (u64, u64),
 ) -> (u64, u64)
-    requires fits { (at + 1) * (table.now.value_count * table.now.value_count) ≤ length table.now.truth }
+    requires fits { (at + 1) * (table.now.value_count * table.now.value_count)
+        ≤ length table.now.truth }
     requires first { AreBelow table.now.value_count (ones_of first) }
     requires last { AreBelow table.now.value_count (ones_of last) }
-    ensures { AreSupportedBeside (ones_of first ∷ ones_of last ∷ []) (continues table.now holding at) (ones_of found.0 ∷ ones_of found.1 ∷ []) (ones_of result.0 ∷ ones_of result.1 ∷ []) }
+    ensures { AreSupportedBeside (ones_of first ∷ ones_of last ∷ []) (continues table.now holding
+        at) (ones_of found.0 ∷ ones_of found.1 ∷ []) (ones_of result.0 ∷ ones_of result.1 ∷ []) }
 {
     if found.0 != first || found.1 != last {
         return in_two(table, holding, at, first, last);
@@ -111,7 +122,8 @@ fn in_two_beside(
 #[inline]
 fn in_rows(rows: &[u64], holding: bool, first: u64, last: u64) -> (u64, u64)
     requires { length rows.now ≡ 64 }
-    ensures { AreSupported (ones_of first ∷ ones_of last ∷ []) (goes_by rows.now holding) (ones_of result.0 ∷ ones_of result.1 ∷ []) }
+    ensures { AreSupported (ones_of first ∷ ones_of last ∷ []) (goes_by rows.now holding)
+        (ones_of result.0 ∷ ones_of result.1 ∷ []) }
 {
     let (mut a, mut b) = (0, 0);
     let mut rest = first;
@@ -125,10 +137,13 @@ fn in_rows(rows: &[u64], holding: bool, first: u64, last: u64) -> (u64, u64)
     (a, b)
 }
 
-/// The values that go with one of two others, by the masks of these, or don't, where that is wanted.
+/// The values that go with one of two others, by the masks of these, or don't, where that is
+/// wanted.
 #[inline]
 fn with_either(values: u64, one: u64, other: u64, holding: bool) -> u64
-    ensures { (y : ℕ) → has (ones_of result) y ≡ ((has (ones_of values) y && is_wanted holding (bit_at one y == 1)) || (has (ones_of values) y && is_wanted holding (bit_at other y == 1))) }
+    ensures { (y : ℕ) →
+        has (ones_of result) y ≡ ((has (ones_of values) y && is_wanted holding (bit_at one y == 1))
+        || (has (ones_of values) y && is_wanted holding (bit_at other y == 1))) }
 {
     either(
         passing(values, one, holding),
@@ -136,14 +151,18 @@ fn with_either(values: u64, one: u64, other: u64, holding: bool) -> u64
     )
 }
 
-/// `in_pair` for a chain: what goes with some value of a set goes with the least or the greatest one.
+/// `in_pair` for a chain: what goes with some value of a set goes with the least or the greatest
+/// one.
 #[inline]
 fn in_chain(rows: &[u64], columns: &[u64], holding: bool, first: u64, last: u64) -> (u64, u64)
     requires rows_long { length rows.now ≡ 64 }
     requires columns_long { length columns.now ≡ 64 }
     ensures first { (x : ℕ) → has (ones_of result.0) x ≡ true → has (ones_of first) x ≡ true }
     ensures last { (y : ℕ) → has (ones_of result.1) y ≡ true → has (ones_of last) y ≡ true }
-    ensures supported { (d : ℕ) (accepted : List ℕ → Bool) → AreSides d accepted holding rows.now columns.now → IsChain d accepted → AreBelow d (ones_of first) → AreBelow d (ones_of last) → AreSupported (ones_of first ∷ ones_of last ∷ []) accepted (ones_of result.0 ∷ ones_of result.1 ∷ []) }
+    ensures supported { (d : ℕ) (accepted : List ℕ → Bool) →
+        AreSides d accepted holding rows.now columns.now → IsChain d accepted →
+        AreBelow d (ones_of first) → AreBelow d (ones_of last) → AreSupported (ones_of first
+        ∷ ones_of last ∷ []) accepted (ones_of result.0 ∷ ones_of result.1 ∷ []) }
 {
     if first == 0 {
         return (0, 0);
@@ -165,7 +184,11 @@ pub(crate) fn in_pair(lang: &Language, pair: Pair, first: u64, last: u64) -> (u6
     requires table { IsPairTable lang.now pair.table }
     ensures first { (x : ℕ) → has (ones_of result.0) x ≡ true → has (ones_of first) x ≡ true }
     ensures last { (y : ℕ) → has (ones_of result.1) y ≡ true → has (ones_of last) y ≡ true }
-    ensures supported { (pairs : List Relation) → ArePairTables lang.now pairs → IsBounded lang.now.value_count (by_pair lang.now pairs pair) pair.bounds → AreBelow lang.now.value_count (ones_of first) → AreBelow lang.now.value_count (ones_of last) → AreSupported (ones_of first ∷ ones_of last ∷ []) (by_pair lang.now pairs pair) (ones_of result.0 ∷ ones_of result.1 ∷ []) }
+    ensures supported { (pairs : List Relation) → ArePairTables lang.now pairs →
+        IsBounded lang.now.value_count (by_pair lang.now pairs pair) pair.bounds →
+        AreBelow lang.now.value_count (ones_of first) →
+        AreBelow lang.now.value_count (ones_of last) → AreSupported (ones_of first ∷ ones_of last
+        ∷ []) (by_pair lang.now pairs pair) (ones_of result.0 ∷ ones_of result.1 ∷ []) }
 {
     let rows = lang.pair_rows(pair.table);
     if pair.bounds.is_chain {
@@ -190,11 +213,13 @@ fn in_three(
     second: u64,
     last: u64,
 ) -> (u64, u64, u64)
-    requires fits { (at + 1) * (table.now.value_count * (table.now.value_count * table.now.value_count)) ≤ length table.now.truth }
+    requires fits { (at + 1) * (table.now.value_count
+        * (table.now.value_count * table.now.value_count)) ≤ length table.now.truth }
     requires first { AreBelow table.now.value_count (ones_of first) }
     requires second { AreBelow table.now.value_count (ones_of second) }
     requires last { AreBelow table.now.value_count (ones_of last) }
-    ensures { AreSupported (ones_of first ∷ ones_of second ∷ ones_of last ∷ []) (continues table.now holding at) (ones_of result.0 ∷ ones_of result.1 ∷ ones_of result.2 ∷ []) }
+    ensures { AreSupported (ones_of first ∷ ones_of second ∷ ones_of last ∷ []) (continues table.now
+        holding at) (ones_of result.0 ∷ ones_of result.1 ∷ ones_of result.2 ∷ []) }
 {
     let d = u32::from(table.value_count());
     if let Some(x) = only_member(first) {
@@ -225,12 +250,15 @@ fn is_any_in_three(
     second: u64,
     last: u64,
 ) -> bool
-    requires fits { (at + 1) * (table.now.value_count * (table.now.value_count * table.now.value_count)) ≤ length table.now.truth }
+    requires fits { (at + 1) * (table.now.value_count
+        * (table.now.value_count * table.now.value_count)) ≤ length table.now.truth }
     requires first { AreBelow table.now.value_count (ones_of first) }
     requires second { AreBelow table.now.value_count (ones_of second) }
     requires last { AreBelow table.now.value_count (ones_of last) }
-    ensures some { result ≡ true → HasTuple (ones_of first ∷ ones_of second ∷ ones_of last ∷ []) (continues table.now holding at) }
-    ensures none { result ≡ false → HasNoTuple (ones_of first ∷ ones_of second ∷ ones_of last ∷ []) (continues table.now holding at) }
+    ensures some { result ≡ true → HasTuple (ones_of first ∷ ones_of second ∷ ones_of last
+        ∷ []) (continues table.now holding at) }
+    ensures none { result ≡ false → HasNoTuple (ones_of first ∷ ones_of second ∷ ones_of last
+        ∷ []) (continues table.now holding at) }
 {
     let d = u32::from(table.value_count());
     let mut rest = first;
@@ -255,11 +283,14 @@ fn in_three_beside(
     last: u64,
     found: (u64, u64, u64),
 ) -> (u64, u64, u64)
-    requires fits { (at + 1) * (table.now.value_count * (table.now.value_count * table.now.value_count)) ≤ length table.now.truth }
+    requires fits { (at + 1) * (table.now.value_count
+        * (table.now.value_count * table.now.value_count)) ≤ length table.now.truth }
     requires first { AreBelow table.now.value_count (ones_of first) }
     requires second { AreBelow table.now.value_count (ones_of second) }
     requires last { AreBelow table.now.value_count (ones_of last) }
-    ensures { AreSupportedBeside (ones_of first ∷ ones_of second ∷ ones_of last ∷ []) (continues table.now holding at) (ones_of found.0 ∷ ones_of found.1 ∷ ones_of found.2 ∷ []) (ones_of result.0 ∷ ones_of result.1 ∷ ones_of result.2 ∷ []) }
+    ensures { AreSupportedBeside (ones_of first ∷ ones_of second ∷ ones_of last
+        ∷ []) (continues table.now holding at) (ones_of found.0 ∷ ones_of found.1 ∷ ones_of found.2
+        ∷ []) (ones_of result.0 ∷ ones_of result.1 ∷ ones_of result.2 ∷ []) }
 {
     if found.0 != first || found.1 != second || found.2 != last {
         return in_three(table, holding, at, first, second, last);
@@ -280,12 +311,15 @@ fn in_four(
     third: u64,
     last: u64,
 ) -> (u64, u64, u64, u64)
-    requires fits { table.now.value_count * (table.now.value_count * (table.now.value_count * table.now.value_count)) ≤ length table.now.truth }
+    requires fits { table.now.value_count * (table.now.value_count
+        * (table.now.value_count * table.now.value_count)) ≤ length table.now.truth }
     requires first { AreBelow table.now.value_count (ones_of first) }
     requires second { AreBelow table.now.value_count (ones_of second) }
     requires third { AreBelow table.now.value_count (ones_of third) }
     requires last { AreBelow table.now.value_count (ones_of last) }
-    ensures { AreSupported (ones_of first ∷ ones_of second ∷ ones_of third ∷ ones_of last ∷ []) (continues table.now holding 0) (ones_of result.0 ∷ ones_of result.1 ∷ ones_of result.2 ∷ ones_of result.3 ∷ []) }
+    ensures { AreSupported (ones_of first ∷ ones_of second ∷ ones_of third
+        ∷ ones_of last ∷ []) (continues table.now holding 0)
+        (ones_of result.0 ∷ ones_of result.1 ∷ ones_of result.2 ∷ ones_of result.3 ∷ []) }
 {
     if let Some(x) = only_member(first) {
         let below = in_three(table, holding, u32::from(x), second, third, last);
@@ -308,8 +342,10 @@ fn in_four(
 
 /// The supported values of a scope's sets.
 pub(crate) fn supported(table: &Table, holding: bool, sets: &[u64; 4]) -> [u64; 4]
-    requires sets { All (λ s. AreBelow table.now.value_count (ones_of s)) (take table.now.arity sets.now) }
-    ensures is { AreSupported (take table.now.arity (map ones_of sets.now)) (continues table.now holding 0) (take table.now.arity (map ones_of result)) }
+    requires sets { All (λ s. AreBelow table.now.value_count (ones_of s))
+        (take table.now.arity sets.now) }
+    ensures is { AreSupported (take table.now.arity (map ones_of sets.now))
+        (continues table.now holding 0) (take table.now.arity (map ones_of result)) }
     ensures size { length result ≡ 4 }
 {
     match table.arity() {
@@ -337,7 +373,8 @@ fn is_right(held: bool, holding: bool) -> bool
     if holding { held } else { !held }
 }
 
-/// A place of a scope, and where in a table that tuple stands that has value 0 there and the first value of each other variable.
+/// A place of a scope, and where in a table that tuple stands that has value 0 there and the first
+/// value of each other variable.
 #[derive(Clone, Copy)]
 pub(crate) struct Opening {
     /// The place of the scope.
@@ -346,8 +383,8 @@ pub(crate) struct Opening {
     pub(crate) first: u32,
 }
 
-/// The place of a scope's first values but for a 0 right before those that are still to come, where each of these has one value
-/// alone. The ones before have a place already.
+/// The place of a scope's first values but for a 0 right before those that are still to come, where
+/// each of these has one value alone. The ones before have a place already.
 #[inline]
 fn place_on(doms: &Domains, d: u8, scope: &[u8], from: usize, before: u32) -> Option<u32>
     requires known { All (λ v. v < length doms.now) scope.now }
@@ -358,9 +395,12 @@ fn place_on(doms: &Domains, d: u8, scope: &[u8], from: usize, before: u32) -> Op
     requires some { 1 ≤ from }
     requires from { from ≤ length scope.now }
     requires low { before < 64 ^ from }
-    requires before { before ≡ place d (take from (slice_set (firsts_on doms.now scope.now) (from - 1) 0)) }
-    ensures is { IfSome result (λ at. at ≡ place d (slice_set (firsts_on doms.now scope.now) (from - 1) 0)) }
-    ensures fixed { IfSome result (λ at. (j : ℕ) → from ≤ j → j < length scope.now → HasOne (slice_index_or doms.now (slice_index_or scope.now j 0) [])) }
+    requires before { before
+        ≡ place d (take from (slice_set (firsts_on doms.now scope.now) (from - 1) 0)) }
+    ensures is { IfSome result
+        (λ at. at ≡ place d (slice_set (firsts_on doms.now scope.now) (from - 1) 0)) }
+    ensures fixed { IfSome result (λ at. (j : ℕ) → from ≤ j → j < length scope.now →
+        HasOne (slice_index_or doms.now (slice_index_or scope.now j 0) [])) }
 {
     let mut at = before;
     for j in from..scope.len() {
@@ -383,7 +423,8 @@ pub(crate) fn opening_of(doms: &Domains, d: u8, scope: &[u8]) -> Option<Opening>
     requires small { d ≤ 64 }
     ensures low { IfSome result (λ o. o.place < length scope.now) }
     ensures fixed { IfSome result (λ o. AreFixedBut doms.now scope.now o.place) }
-    ensures first { IfSome result (λ o. o.first ≡ place d (slice_set (firsts_on doms.now scope.now) o.place 0)) }
+    ensures first { IfSome result
+        (λ o. o.first ≡ place d (slice_set (firsts_on doms.now scope.now) o.place 0)) }
 {
     let last = scope.len() - 1;
     let mut at = 0;
@@ -418,12 +459,15 @@ fn step_of(d: u8, after: usize) -> u32
     }
 }
 
-/// The values of a set at whose places a table says what is wanted. Value x has the place that stands x steps after the first one.
+/// The values of a set at whose places a table says what is wanted. Value x has the place that
+/// stands x steps after the first one.
 #[inline]
 fn in_steps(table: &Table, holding: bool, first: u32, step: u32, values: u64) -> u64
-    requires fits { (x : ℕ) → has (ones_of values) x ≡ true → first + x * step < length table.now.truth }
+    requires fits { (x : ℕ) → has (ones_of values) x ≡ true →
+        first + x * step < length table.now.truth }
     requires small { length table.now.truth ≤ 65536 }
-    ensures { (x : ℕ) → has (ones_of result) x ≡ (has (ones_of values) x && is_wanted holding (truth_at table.now (first + x * step))) }
+    ensures { (x : ℕ) → has (ones_of result) x
+        ≡ (has (ones_of values) x && is_wanted holding (truth_at table.now (first + x * step))) }
 {
     let mut found = 0;
     let mut rest = values;
@@ -447,11 +491,13 @@ pub(crate) fn going_along(
 ) -> u64
     requires arity { length scope.now ≡ table.now.arity }
     requires place { opening.place < length scope.now }
-    requires first { opening.first ≡ place table.now.value_count (slice_set (firsts_on doms.now scope.now) opening.place 0) }
+    requires first { opening.first
+        ≡ place table.now.value_count (slice_set (firsts_on doms.now scope.now) opening.place 0) }
     requires known { All (λ v. v < length doms.now) scope.now }
     requires full { list_all is_not_empty doms.now ≡ true }
     requires below { (v : ℕ) → AreBelow table.now.value_count (slice_index_or doms.now v []) }
-    ensures { AreAlong (sets_on doms.now scope.now) (continues table.now holding 0) opening.place (ones_of result) }
+    ensures { AreAlong (sets_on doms.now scope.now) (continues table.now holding 0) opening.place
+        (ones_of result) }
 {
     let d = table.value_count();
     let v = scope[opening.place];

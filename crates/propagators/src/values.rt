@@ -1,6 +1,7 @@
 //! Sets of values, each a mask of 64 bits.
 
-ghost use Rattle.std.specs.Prelude.{◌≡◌, ◌≢◌, ◌<◌, ◌≤◌, ◌==◌, ℕ, true, false, not, nat_le, nat_lt, ◌&&◌, ◌||◌, IfSome, None, length};
+ghost use Rattle.std.specs.Prelude.{◌≡◌, ◌≢◌, ◌<◌, ◌≤◌, ◌==◌, ℕ, true, false, not, nat_le, nat_lt};
+ghost use Rattle.std.specs.Prelude.{◌&&◌, ◌||◌, IfSome, None, length};
 ghost use Rattle.std.specs.List.{filter};
 ghost use Rattle.assign.specs.Sets.{numbers, has, ones_of};
 ghost use Rattle.std.specs.Int.{bit_at};
@@ -107,7 +108,8 @@ pub(crate) fn only_value(values: u64, x: u8) -> u64
 #[inline]
 pub(crate) fn with_value(values: u64, x: u8, others: u64) -> u64
     requires { x < 64 }
-    ensures { (y : ℕ) → has (ones_of result) y ≡ (has (ones_of values) y || (is_not_empty (ones_of others) && (x == y))) }
+    ensures { (y : ℕ) → has (ones_of result) y
+        ≡ (has (ones_of values) y || (is_not_empty (ones_of others) && (x == y))) }
 {
     if others == 0 {
         values
@@ -127,7 +129,8 @@ pub(crate) fn either(a: u64, b: u64) -> u64
 /// The members that pass a test, whose truth values are the bits of a row, or their contraries.
 #[inline]
 pub(crate) fn passing(values: u64, row: u64, holding: bool) -> u64
-    ensures { (y : ℕ) → has (ones_of result) y ≡ (has (ones_of values) y && is_wanted holding (bit_at row y == 1)) }
+    ensures { (y : ℕ) →
+        has (ones_of result) y ≡ (has (ones_of values) y && is_wanted holding (bit_at row y == 1)) }
 {
     if holding { values & row } else { values & !row }
 }

@@ -1,6 +1,8 @@
 //! Propagation with a plan: only the conditions of a changed variable are looked at.
 
-ghost use Rattle.std.specs.Prelude.{◌≡◌, ◌<◌, ◌≤◌, ◌+◌, ◌*◌, ◌/◌, ◌==◌, ◌⊎◌, ℕ, List, [], true, false, IfSome, IsSome, None, Some, length, take, slice_index_or, slice_set};
+ghost use Rattle.std.specs.Prelude.{◌≡◌, ◌<◌, ◌≤◌, ◌+◌, ◌*◌, ◌/◌, ◌==◌, ◌⊎◌, ℕ, List, [], true};
+ghost use Rattle.std.specs.Prelude.{false, IfSome, IsSome, None, Some, length, take};
+ghost use Rattle.std.specs.Prelude.{slice_index_or, slice_set};
 ghost use Rattle.std.specs.Int.{bit_at};
 ghost use Rattle.std.specs.List.{list_all};
 ghost use Rattle.assign.specs.Sets.{has, without, IsSet};
@@ -14,9 +16,11 @@ ghost use Rattle.propagators.specs.Briefs.{IsPairOf, arc_by, IsApart, IsApartAt}
 ghost use Rattle.rel_table.specs.Relation.{Relation, place};
 ghost use Rattle.language.specs.Pairs.{ArePairTables, IsPairTable};
 ghost use Rattle.propagators.specs.declared.plan.Plan.{Plan};
-ghost use Rattle.propagators.specs.Entailed.{AreEntailed, IsEntailed, AreFixedBut, is_noted_in, is_among_struck};
+ghost use Rattle.propagators.specs.Entailed.{AreEntailed, IsEntailed, AreFixedBut, is_noted_in};
+ghost use Rattle.propagators.specs.Entailed.{is_among_struck};
 ghost use Rattle.propagators.specs.Plans.{IsPlanOf, is_with, AreLooked, IsLooked, IsLeftOrLooked};
-ghost use Rattle.propagators.specs.Propagated.{AreSome, IsCondition, IsSettledBut, IsPropagated, RunsEmpty, IsWholePlanOf, IsVisited};
+ghost use Rattle.propagators.specs.Propagated.{AreSome, IsCondition, IsSettledBut, IsPropagated};
+ghost use Rattle.propagators.specs.Propagated.{RunsEmpty, IsWholePlanOf, IsVisited};
 
 use crate::briefs::{Brief, OnScope, Pair};
 use crate::constraints::Constraints;
@@ -30,12 +34,16 @@ use crate::waiting::Waiting;
 use assign::VarSet;
 use language::{Candidate, Language};
 
-/// Beside a variable that has one value alone the other one of a pair, and the mask of its values that go with that one.
+/// Beside a variable that has one value alone the other one of a pair, and the mask of its values
+/// that go with that one.
 #[inline]
 fn beside_value(lang: &Language, pair: Pair, v: u8, x: u8) -> Option<(u8, u64)>
     requires table { IsPairTable lang.now pair.table }
     requires small { x < 64 }
-    ensures beside { IfSome result (λ r. (f : Family) (pairs : List Relation) → ArePairTables lang.now pairs → IsOnly (slice_index_or f v []) x → x < lang.now.value_count → IsBeside lang.now.value_count (arc_by lang.now pairs pair) f r.0 (λ y. is_wanted pair.holding (bit_at r.1 y == 1))) }
+    ensures beside { IfSome result (λ r. (f : Family) (pairs : List Relation) →
+        ArePairTables lang.now pairs → IsOnly (slice_index_or f v []) x →
+        x < lang.now.value_count → IsBeside lang.now.value_count (arc_by lang.now pairs pair) f r.0
+        (λ y. is_wanted pair.holding (bit_at r.1 y == 1))) }
     ensures known { IfSome result (λ r. (r.0 ≡ pair.first) ⊎ (r.0 ≡ pair.second)) }
 {
     if pair.first == v {
@@ -47,8 +55,8 @@ fn beside_value(lang: &Language, pair: Pair, v: u8, x: u8) -> Option<(u8, u64)>
     None
 }
 
-/// The variable of a pair whose other variable has one value alone, and the mask of its values that go with that one. Where v has
-/// one, it is known already.
+/// The variable of a pair whose other variable has one value alone, and the mask of its values that
+/// go with that one. Where v has one, it is known already.
 #[inline]
 fn beside(
     lang: &Language,
@@ -63,9 +71,13 @@ fn beside(
     requires value { IfSome value (IsValueOf doms.now v) }
     requires small { (v : ℕ) → AreBelow 64 (slice_index_or doms.now v []) }
     requires full { list_all is_not_empty doms.now ≡ true }
-    ensures beside { IfSome result (λ r. (pairs : List Relation) → ArePairTables lang.now pairs → ((v : ℕ) → AreBelow lang.now.value_count (slice_index_or doms.now v [])) → IsBeside lang.now.value_count (arc_by lang.now pairs pair) doms.now r.0 (λ x. is_wanted pair.holding (bit_at r.1 x == 1))) }
+    ensures beside { IfSome result (λ r. (pairs : List Relation) → ArePairTables lang.now pairs →
+        ((v : ℕ) → AreBelow lang.now.value_count (slice_index_or doms.now v [])) →
+        IsBeside lang.now.value_count (arc_by lang.now pairs pair) doms.now r.0
+        (λ x. is_wanted pair.holding (bit_at r.1 x == 1))) }
     ensures known { IfSome result (λ r. r.0 < length doms.now) }
-    ensures two { result ≡ None → HasTwo (slice_index_or doms.now pair.first []) × HasTwo (slice_index_or doms.now pair.second []) }
+    ensures two { result ≡ None → HasTwo (slice_index_or doms.now pair.first [])
+        × HasTwo (slice_index_or doms.now pair.second []) }
 {
     if let Some(x) = value {
         if let Some(found) = beside_value(lang, pair, v, x) {
@@ -81,9 +93,10 @@ fn beside(
     None
 }
 
-/// Looks at condition i, a candidate on this scope that is to hold or not to hold, each of whose variables has one value alone but
-/// for that at a place. That one is left the values that go with the others, and is waiting if it had more; `No` where there are
-/// none. Then the condition is entailed.
+/// Looks at condition i, a candidate on this scope that is to hold or not to hold, each of whose
+/// variables has one value alone but for that at a place. That one is left the values that go with
+/// the others, and is waiting if it had more; `No` where there are none. Then the condition is
+/// entailed.
 #[inline]
 fn look_along(
     cons: &Constraints,
@@ -96,15 +109,21 @@ fn look_along(
     entailed: &mut Entailed,
     waiting: &mut Waiting,
 ) -> Alive
-    requires condition { IsCondition cons.now.lang.now cons.now.list.now cons.now.against i c holding }
+    requires condition { IsCondition cons.now.lang.now cons.now.list.now cons.now.against i c
+        holding }
     requires scope { scope.now ≡ scope_of cons.now.lang.now c }
     requires place { opening.place < length (scope_of cons.now.lang.now c) }
     requires fixed { AreFixedBut doms.old (scope_of cons.now.lang.now c) opening.place }
-    requires first { opening.first ≡ place cons.now.lang.now.value_count (slice_set (firsts_on doms.old (scope_of cons.now.lang.now c)) opening.place 0) }
+    requires first { opening.first ≡ place cons.now.lang.now.value_count
+        (slice_set (firsts_on doms.old (scope_of cons.now.lang.now c)) opening.place 0) }
     requires doms { AreSome cons.now.lang.now doms.old }
-    ensures looked { result ≡ Alive.Yes → IsLooked (arcs_of cons.now.lang.now cons.now.list.now cons.now.against) i waiting.old waiting.new doms.old doms.new }
-    ensures entailed { result ≡ Alive.Yes → (p : Plan) → AreEntailed (arcs_of cons.now.lang.now cons.now.list.now cons.now.against) p entailed.old doms.old → AreEntailed (arcs_of cons.now.lang.now cons.now.list.now cons.now.against) p entailed.new doms.new }
-    ensures dead { result ≡ Alive.No → RunsEmpty (arcs_of cons.now.lang.now cons.now.list.now cons.now.against) doms.old }
+    ensures looked { result ≡ Alive.Yes → IsLooked (arcs_of cons.now.lang.now cons.now.list.now
+        cons.now.against) i waiting.old waiting.new doms.old doms.new }
+    ensures entailed { result ≡ Alive.Yes → (p : Plan) → AreEntailed (arcs_of cons.now.lang.now
+        cons.now.list.now cons.now.against) p entailed.old doms.old → AreEntailed
+        (arcs_of cons.now.lang.now cons.now.list.now cons.now.against) p entailed.new doms.new }
+    ensures dead { result ≡ Alive.No →
+        RunsEmpty (arcs_of cons.now.lang.now cons.now.list.now cons.now.against) doms.old }
 {
     let table = cons.lang.table_on(c.scope, c.rel);
     let values = going_along(table, holding, doms, scope, opening);
@@ -119,8 +138,9 @@ fn look_along(
     Alive::Yes
 }
 
-/// Revises condition i, a candidate that is to hold or not to hold. To the variables that are waiting are added those that lost
-/// values; `No` where some variable has none left in an arc-consistent subfamily.
+/// Revises condition i, a candidate that is to hold or not to hold. To the variables that are
+/// waiting are added those that lost values; `No` where some variable has none left in an
+/// arc-consistent subfamily.
 fn look_at_several(
     cons: &Constraints,
     i: usize,
@@ -130,11 +150,16 @@ fn look_at_several(
     entailed: &mut Entailed,
     waiting: &mut Waiting,
 ) -> Alive
-    requires condition { IsCondition cons.now.lang.now cons.now.list.now cons.now.against i c holding }
+    requires condition { IsCondition cons.now.lang.now cons.now.list.now cons.now.against i c
+        holding }
     requires doms { AreSome cons.now.lang.now doms.old }
-    ensures looked { result ≡ Alive.Yes → IsLooked (arcs_of cons.now.lang.now cons.now.list.now cons.now.against) i waiting.old waiting.new doms.old doms.new }
-    ensures entailed { result ≡ Alive.Yes → (p : Plan) → AreEntailed (arcs_of cons.now.lang.now cons.now.list.now cons.now.against) p entailed.old doms.old → AreEntailed (arcs_of cons.now.lang.now cons.now.list.now cons.now.against) p entailed.new doms.new }
-    ensures dead { result ≡ Alive.No → RunsEmpty (arcs_of cons.now.lang.now cons.now.list.now cons.now.against) doms.old }
+    ensures looked { result ≡ Alive.Yes → IsLooked (arcs_of cons.now.lang.now cons.now.list.now
+        cons.now.against) i waiting.old waiting.new doms.old doms.new }
+    ensures entailed { result ≡ Alive.Yes → (p : Plan) → AreEntailed (arcs_of cons.now.lang.now
+        cons.now.list.now cons.now.against) p entailed.old doms.old → AreEntailed
+        (arcs_of cons.now.lang.now cons.now.list.now cons.now.against) p entailed.new doms.new }
+    ensures dead { result ≡ Alive.No →
+        RunsEmpty (arcs_of cons.now.lang.now cons.now.list.now cons.now.against) doms.old }
 {
     match revise(cons.lang, c, holding, doms) {
         None => Alive::No,
@@ -149,8 +174,9 @@ fn look_at_several(
     }
 }
 
-/// Revises condition i, unless one of its variables is waiting, at whose turn that is done. To the variables that are waiting are
-/// added those that lost values; `No` where some variable has none left in an arc-consistent subfamily.
+/// Revises condition i, unless one of its variables is waiting, at whose turn that is done. To the
+/// variables that are waiting are added those that lost values; `No` where some variable has none
+/// left in an arc-consistent subfamily.
 fn look_at_other(
     cons: &Constraints,
     other: &OnScope,
@@ -159,13 +185,19 @@ fn look_at_other(
     entailed: &mut Entailed,
     waiting: &mut Waiting,
 ) -> Alive
-    requires condition { IsCondition cons.now.lang.now cons.now.list.now cons.now.against i other.now.candidate other.now.holding }
+    requires condition { IsCondition cons.now.lang.now cons.now.list.now cons.now.against i
+        other.now.candidate other.now.holding }
     requires size { other.now.size ≤ 4 }
-    requires scope { take other.now.size other.now.scope ≡ scope_of cons.now.lang.now other.now.candidate }
+    requires scope { take other.now.size other.now.scope
+        ≡ scope_of cons.now.lang.now other.now.candidate }
     requires doms { AreSome cons.now.lang.now doms.old }
-    ensures looked { result ≡ Alive.Yes → IsLeftOrLooked (arcs_of cons.now.lang.now cons.now.list.now cons.now.against) i waiting.old waiting.new doms.old doms.new }
-    ensures entailed { result ≡ Alive.Yes → (p : Plan) → AreEntailed (arcs_of cons.now.lang.now cons.now.list.now cons.now.against) p entailed.old doms.old → AreEntailed (arcs_of cons.now.lang.now cons.now.list.now cons.now.against) p entailed.new doms.new }
-    ensures dead { result ≡ Alive.No → RunsEmpty (arcs_of cons.now.lang.now cons.now.list.now cons.now.against) doms.old }
+    ensures looked { result ≡ Alive.Yes → IsLeftOrLooked (arcs_of cons.now.lang.now
+        cons.now.list.now cons.now.against) i waiting.old waiting.new doms.old doms.new }
+    ensures entailed { result ≡ Alive.Yes → (p : Plan) → AreEntailed (arcs_of cons.now.lang.now
+        cons.now.list.now cons.now.against) p entailed.old doms.old → AreEntailed
+        (arcs_of cons.now.lang.now cons.now.list.now cons.now.against) p entailed.new doms.new }
+    ensures dead { result ≡ Alive.No →
+        RunsEmpty (arcs_of cons.now.lang.now cons.now.list.now cons.now.against) doms.old }
 {
     // A copy: the loops over the scope then read one place, whichever condition it is.
     let places = other.scope;
@@ -197,8 +229,8 @@ fn look_at_other(
     )
 }
 
-/// `look_at_other` for a condition on two variables, by the masks of its relation. Apart from the loop over conditions, which
-/// seldom comes here.
+/// `look_at_other` for a condition on two variables, by the masks of its relation. Apart from the
+/// loop over conditions, which seldom comes here.
 #[inline(never)]
 fn look_at_both(
     cons: &Constraints,
@@ -209,11 +241,14 @@ fn look_at_both(
 ) -> Alive
     requires lawful { IsLanguage cons.now.lang.now }
     requires constraints { AreConstraints cons.now.lang.now cons.now.list.now cons.now.against }
-    requires pair { (a : Arc) → IsPairOf cons.now.lang.now (slice_index_or (arcs_of cons.now.lang.now cons.now.list.now cons.now.against) i a) pair }
+    requires pair { (a : Arc) → IsPairOf cons.now.lang.now
+        (slice_index_or (arcs_of cons.now.lang.now cons.now.list.now cons.now.against) i a) pair }
     requires low { i < length (arcs_of cons.now.lang.now cons.now.list.now cons.now.against) }
     requires doms { AreSome cons.now.lang.now doms.old }
-    ensures looked { result ≡ Alive.Yes → IsLooked (arcs_of cons.now.lang.now cons.now.list.now cons.now.against) i waiting.old waiting.new doms.old doms.new }
-    ensures dead { result ≡ Alive.No → RunsEmpty (arcs_of cons.now.lang.now cons.now.list.now cons.now.against) doms.old }
+    ensures looked { result ≡ Alive.Yes → IsLooked (arcs_of cons.now.lang.now cons.now.list.now
+        cons.now.against) i waiting.old waiting.new doms.old doms.new }
+    ensures dead { result ≡ Alive.No →
+        RunsEmpty (arcs_of cons.now.lang.now cons.now.list.now cons.now.against) doms.old }
 {
     match revise_pair(cons.lang, pair, doms) {
         None => Alive::No,
@@ -227,8 +262,8 @@ fn look_at_both(
     }
 }
 
-/// `look_at_both`, but where one of the two variables has one value alone, a mask tells what goes with it. Then the condition is
-/// entailed.
+/// `look_at_both`, but where one of the two variables has one value alone, a mask tells what goes
+/// with it. Then the condition is entailed.
 fn look_at_pair(
     cons: &Constraints,
     plan: &Plan,
@@ -243,13 +278,19 @@ fn look_at_pair(
     requires lawful { IsLanguage cons.now.lang.now }
     requires constraints { AreConstraints cons.now.lang.now cons.now.list.now cons.now.against }
     requires value { IfSome value (IsValueOf doms.old v) }
-    requires plan { IsWholePlanOf cons.now.lang.now (arcs_of cons.now.lang.now cons.now.list.now cons.now.against) plan.now }
-    requires pair { (a : Arc) → IsPairOf cons.now.lang.now (slice_index_or (arcs_of cons.now.lang.now cons.now.list.now cons.now.against) i a) pair.now }
+    requires plan { IsWholePlanOf cons.now.lang.now
+        (arcs_of cons.now.lang.now cons.now.list.now cons.now.against) plan.now }
+    requires pair { (a : Arc) → IsPairOf cons.now.lang.now (slice_index_or
+        (arcs_of cons.now.lang.now cons.now.list.now cons.now.against) i a) pair.now }
     requires low { i < length (arcs_of cons.now.lang.now cons.now.list.now cons.now.against) }
     requires doms { AreSome cons.now.lang.now doms.old }
-    ensures looked { result ≡ Alive.Yes → IsLooked (arcs_of cons.now.lang.now cons.now.list.now cons.now.against) i waiting.old waiting.new doms.old doms.new }
-    ensures entailed { result ≡ Alive.Yes → AreEntailed (arcs_of cons.now.lang.now cons.now.list.now cons.now.against) plan.now entailed.old doms.old → AreEntailed (arcs_of cons.now.lang.now cons.now.list.now cons.now.against) plan.now entailed.new doms.new }
-    ensures dead { result ≡ Alive.No → RunsEmpty (arcs_of cons.now.lang.now cons.now.list.now cons.now.against) doms.old }
+    ensures looked { result ≡ Alive.Yes → IsLooked (arcs_of cons.now.lang.now cons.now.list.now
+        cons.now.against) i waiting.old waiting.new doms.old doms.new }
+    ensures entailed { result ≡ Alive.Yes → AreEntailed (arcs_of cons.now.lang.now cons.now.list.now
+        cons.now.against) plan.now entailed.old doms.old → AreEntailed (arcs_of cons.now.lang.now
+        cons.now.list.now cons.now.against) plan.now entailed.new doms.new }
+    ensures dead { result ≡ Alive.No →
+        RunsEmpty (arcs_of cons.now.lang.now cons.now.list.now cons.now.against) doms.old }
 {
     // More values of each are left than one of the other rejects.
     if value.is_none()
@@ -269,8 +310,8 @@ fn look_at_pair(
     if !doms.cut(u, values) {
         return Alive::Yes;
     }
-    // Its conditions stay consistent while it has more values than its limit. That is seldom another than one, for which they
-    // needn't be counted.
+    // Its conditions stay consistent while it has more values than its limit. That is seldom
+    // another than one, for which they needn't be counted.
     let limit = plan.limits[usize::from(u)];
     if limit == 1 {
         if doms.has_more(u, 1) {
@@ -283,8 +324,8 @@ fn look_at_pair(
     Alive::Yes
 }
 
-/// Looks at condition i, if there is one among so many. To the variables that are waiting are added those that lost values; `No`
-/// where some variable has none left in an arc-consistent subfamily.
+/// Looks at condition i, if there is one among so many. To the variables that are waiting are added
+/// those that lost values; `No` where some variable has none left in an arc-consistent subfamily.
 fn look_at(
     cons: &Constraints,
     plan: &Plan,
@@ -299,12 +340,17 @@ fn look_at(
     requires lawful { IsLanguage cons.now.lang.now }
     requires constraints { AreConstraints cons.now.lang.now cons.now.list.now cons.now.against }
     requires value { IfSome value (IsValueOf doms.old v) }
-    requires plan { IsWholePlanOf cons.now.lang.now (arcs_of cons.now.lang.now cons.now.list.now cons.now.against) plan.now }
+    requires plan { IsWholePlanOf cons.now.lang.now
+        (arcs_of cons.now.lang.now cons.now.list.now cons.now.against) plan.now }
     requires count { count ≡ length (arcs_of cons.now.lang.now cons.now.list.now cons.now.against) }
     requires doms { AreSome cons.now.lang.now doms.old }
-    ensures looked { result ≡ Alive.Yes → IsLeftOrLooked (arcs_of cons.now.lang.now cons.now.list.now cons.now.against) i waiting.old waiting.new doms.old doms.new }
-    ensures entailed { result ≡ Alive.Yes → AreEntailed (arcs_of cons.now.lang.now cons.now.list.now cons.now.against) plan.now entailed.old doms.old → AreEntailed (arcs_of cons.now.lang.now cons.now.list.now cons.now.against) plan.now entailed.new doms.new }
-    ensures dead { result ≡ Alive.No → RunsEmpty (arcs_of cons.now.lang.now cons.now.list.now cons.now.against) doms.old }
+    ensures looked { result ≡ Alive.Yes → IsLeftOrLooked (arcs_of cons.now.lang.now
+        cons.now.list.now cons.now.against) i waiting.old waiting.new doms.old doms.new }
+    ensures entailed { result ≡ Alive.Yes → AreEntailed (arcs_of cons.now.lang.now cons.now.list.now
+        cons.now.against) plan.now entailed.old doms.old → AreEntailed (arcs_of cons.now.lang.now
+        cons.now.list.now cons.now.against) plan.now entailed.new doms.new }
+    ensures dead { result ≡ Alive.No →
+        RunsEmpty (arcs_of cons.now.lang.now cons.now.list.now cons.now.against) doms.old }
 {
     if i >= count {
         return Alive::Yes;
@@ -324,8 +370,8 @@ fn value_of(lang: &Language, doms: &Domains, v: u8) -> Option<u8>
     if v < lang.n() { doms.only(v) } else { None }
 }
 
-/// Takes x, which is v's one value, away from u, where a condition says that these two differ. u is waiting then, unless it has
-/// more values than its limit; `No` where none is left to it.
+/// Takes x, which is v's one value, away from u, where a condition says that these two differ. u is
+/// waiting then, unless it has more values than its limit; `No` where none is left to it.
 #[inline]
 fn strike(
     cons: &Constraints,
@@ -338,13 +384,22 @@ fn strike(
 ) -> Alive
     requires lawful { IsLanguage cons.now.lang.now }
     requires constraints { AreConstraints cons.now.lang.now cons.now.list.now cons.now.against }
-    requires plan { IsWholePlanOf cons.now.lang.now (arcs_of cons.now.lang.now cons.now.list.now cons.now.against) plan.now }
+    requires plan { IsWholePlanOf cons.now.lang.now
+        (arcs_of cons.now.lang.now cons.now.list.now cons.now.against) plan.now }
     requires doms { AreSome cons.now.lang.now doms.old }
     requires value { IsValueOf doms.old v x }
     requires apart { is_with plan.now.aparts.items v u ≡ true }
-    ensures looked { result ≡ Alive.Yes → (k : ℕ) → k < length plan.now.briefs.items → k < length (arcs_of cons.now.lang.now cons.now.list.now cons.now.against) → ((b : Brief) → IsApartAt (slice_index_or plan.now.briefs.items k b) v u) → IsLooked (arcs_of cons.now.lang.now cons.now.list.now cons.now.against) k waiting.old waiting.new doms.old doms.new }
-    ensures entailed { result ≡ Alive.Yes → (k : ℕ) (a : Arc) → k < length plan.now.briefs.items → k < length (arcs_of cons.now.lang.now cons.now.list.now cons.now.against) → ((b : Brief) → IsApartAt (slice_index_or plan.now.briefs.items k b) v u) → IsEntailed (slice_index_or (arcs_of cons.now.lang.now cons.now.list.now cons.now.against) k a) doms.new }
-    ensures dead { result ≡ Alive.No → RunsEmpty (arcs_of cons.now.lang.now cons.now.list.now cons.now.against) doms.old }
+    ensures looked { result ≡ Alive.Yes → (k : ℕ) → k < length plan.now.briefs.items →
+        k < length (arcs_of cons.now.lang.now cons.now.list.now cons.now.against) →
+        ((b : Brief) → IsApartAt (slice_index_or plan.now.briefs.items k b) v u) →
+        IsLooked (arcs_of cons.now.lang.now cons.now.list.now cons.now.against) k waiting.old
+        waiting.new doms.old doms.new }
+    ensures entailed { result ≡ Alive.Yes → (k : ℕ) (a : Arc) → k < length plan.now.briefs.items →
+        k < length (arcs_of cons.now.lang.now cons.now.list.now cons.now.against) → ((b : Brief) →
+        IsApartAt (slice_index_or plan.now.briefs.items k b) v u) → IsEntailed (slice_index_or
+        (arcs_of cons.now.lang.now cons.now.list.now cons.now.against) k a) doms.new }
+    ensures dead { result ≡ Alive.No →
+        RunsEmpty (arcs_of cons.now.lang.now cons.now.list.now cons.now.against) doms.old }
 {
     let values = doms.others(u, x);
     if is_empty(values) {
@@ -377,12 +432,18 @@ fn look_at_two(
 ) -> Alive
     requires lawful { IsLanguage cons.now.lang.now }
     requires constraints { AreConstraints cons.now.lang.now cons.now.list.now cons.now.against }
-    requires plan { IsWholePlanOf cons.now.lang.now (arcs_of cons.now.lang.now cons.now.list.now cons.now.against) plan.now }
+    requires plan { IsWholePlanOf cons.now.lang.now
+        (arcs_of cons.now.lang.now cons.now.list.now cons.now.against) plan.now }
     requires doms { AreSome cons.now.lang.now doms.old }
     requires known { v < 128 }
     requires apart { is_with plan.now.aparts.items v u ≡ true }
-    ensures looked { result ≡ Alive.Yes → (k : ℕ) → k < length plan.now.briefs.items → k < length (arcs_of cons.now.lang.now cons.now.list.now cons.now.against) → ((b : Brief) → IsApartAt (slice_index_or plan.now.briefs.items k b) v u) → IsLooked (arcs_of cons.now.lang.now cons.now.list.now cons.now.against) k waiting.old waiting.new doms.old doms.new }
-    ensures dead { result ≡ Alive.No → RunsEmpty (arcs_of cons.now.lang.now cons.now.list.now cons.now.against) doms.old }
+    ensures looked { result ≡ Alive.Yes → (k : ℕ) → k < length plan.now.briefs.items →
+        k < length (arcs_of cons.now.lang.now cons.now.list.now cons.now.against) →
+        ((b : Brief) → IsApartAt (slice_index_or plan.now.briefs.items k b) v u) →
+        IsLooked (arcs_of cons.now.lang.now cons.now.list.now cons.now.against) k waiting.old
+        waiting.new doms.old doms.new }
+    ensures dead { result ≡ Alive.No →
+        RunsEmpty (arcs_of cons.now.lang.now cons.now.list.now cons.now.against) doms.old }
 {
     if let Some(x) = doms.only(v) {
         return strike(cons, plan, v, x, u, doms, waiting);
@@ -393,7 +454,8 @@ fn look_at_two(
     Alive::Yes
 }
 
-/// Takes x, which is v's one value, away from the variables that have to differ from v, but for those that are struck.
+/// Takes x, which is v's one value, away from the variables that have to differ from v, but for
+/// those that are struck.
 #[inline]
 fn strike_all(
     cons: &Constraints,
@@ -406,14 +468,23 @@ fn strike_all(
 ) -> Alive
     requires lawful { IsLanguage cons.now.lang.now }
     requires constraints { AreConstraints cons.now.lang.now cons.now.list.now cons.now.against }
-    requires plan { IsWholePlanOf cons.now.lang.now (arcs_of cons.now.lang.now cons.now.list.now cons.now.against) plan.now }
+    requires plan { IsWholePlanOf cons.now.lang.now
+        (arcs_of cons.now.lang.now cons.now.list.now cons.now.against) plan.now }
     requires doms { AreSome cons.now.lang.now doms.old }
     requires value { IsValueOf doms.old v x }
     requires known { v < 128 }
-    requires entailed { AreEntailed (arcs_of cons.now.lang.now cons.now.list.now cons.now.against) plan.now entailed.now doms.old }
-    ensures looked { result ≡ Alive.Yes → AreLooked (arcs_of cons.now.lang.now cons.now.list.now cons.now.against) plan.now v waiting.old waiting.new doms.old doms.new }
-    ensures entailed { result ≡ Alive.Yes → (k : ℕ) (a : Arc) → k < length (arcs_of cons.now.lang.now cons.now.list.now cons.now.against) → has (slice_index_or (arcs_of cons.now.lang.now cons.now.list.now cons.now.against) k a).scope v ≡ true → ((c : Brief) → IsApart (slice_index_or plan.now.briefs.items k c)) → IsEntailed (slice_index_or (arcs_of cons.now.lang.now cons.now.list.now cons.now.against) k a) doms.new }
-    ensures dead { result ≡ Alive.No → RunsEmpty (arcs_of cons.now.lang.now cons.now.list.now cons.now.against) doms.old }
+    requires entailed { AreEntailed (arcs_of cons.now.lang.now cons.now.list.now cons.now.against)
+        plan.now entailed.now doms.old }
+    ensures looked { result ≡ Alive.Yes → AreLooked (arcs_of cons.now.lang.now cons.now.list.now
+        cons.now.against) plan.now v waiting.old waiting.new doms.old doms.new }
+    ensures entailed { result ≡ Alive.Yes → (k : ℕ) (a : Arc) →
+        k < length (arcs_of cons.now.lang.now cons.now.list.now cons.now.against) →
+        has (slice_index_or (arcs_of cons.now.lang.now cons.now.list.now cons.now.against) k
+        a).scope v ≡ true → ((c : Brief) → IsApart (slice_index_or plan.now.briefs.items k c)) →
+        IsEntailed (slice_index_or (arcs_of cons.now.lang.now cons.now.list.now cons.now.against) k
+        a) doms.new }
+    ensures dead { result ≡ Alive.No →
+        RunsEmpty (arcs_of cons.now.lang.now cons.now.list.now cons.now.against) doms.old }
 {
     for h in 0..2 {
         let beside = plan.aparts[h * 128 + usize::from(v)];
@@ -443,12 +514,16 @@ fn look_at_neighbours(
 ) -> Alive
     requires lawful { IsLanguage cons.now.lang.now }
     requires constraints { AreConstraints cons.now.lang.now cons.now.list.now cons.now.against }
-    requires plan { IsWholePlanOf cons.now.lang.now (arcs_of cons.now.lang.now cons.now.list.now cons.now.against) plan.now }
+    requires plan { IsWholePlanOf cons.now.lang.now
+        (arcs_of cons.now.lang.now cons.now.list.now cons.now.against) plan.now }
     requires doms { AreSome cons.now.lang.now doms.old }
     requires known { v < 128 }
-    requires entailed { AreEntailed (arcs_of cons.now.lang.now cons.now.list.now cons.now.against) plan.now entailed.now doms.old }
-    ensures looked { result ≡ Alive.Yes → AreLooked (arcs_of cons.now.lang.now cons.now.list.now cons.now.against) plan.now v waiting.old waiting.new doms.old doms.new }
-    ensures dead { result ≡ Alive.No → RunsEmpty (arcs_of cons.now.lang.now cons.now.list.now cons.now.against) doms.old }
+    requires entailed { AreEntailed (arcs_of cons.now.lang.now cons.now.list.now cons.now.against)
+        plan.now entailed.now doms.old }
+    ensures looked { result ≡ Alive.Yes → AreLooked (arcs_of cons.now.lang.now cons.now.list.now
+        cons.now.against) plan.now v waiting.old waiting.new doms.old doms.new }
+    ensures dead { result ≡ Alive.No →
+        RunsEmpty (arcs_of cons.now.lang.now cons.now.list.now cons.now.against) doms.old }
 {
     for h in 0..2 {
         let beside = plan.aparts[h * 128 + usize::from(v)];
@@ -478,14 +553,23 @@ fn look_apart(
 ) -> Alive
     requires lawful { IsLanguage cons.now.lang.now }
     requires constraints { AreConstraints cons.now.lang.now cons.now.list.now cons.now.against }
-    requires plan { IsWholePlanOf cons.now.lang.now (arcs_of cons.now.lang.now cons.now.list.now cons.now.against) plan.now }
+    requires plan { IsWholePlanOf cons.now.lang.now
+        (arcs_of cons.now.lang.now cons.now.list.now cons.now.against) plan.now }
     requires doms { AreSome cons.now.lang.now doms.old }
     requires value { IfSome value (IsValueOf doms.old v) }
     requires known { v < 128 }
-    requires entailed { AreEntailed (arcs_of cons.now.lang.now cons.now.list.now cons.now.against) plan.now entailed.now doms.old }
-    ensures looked { result ≡ Alive.Yes → AreLooked (arcs_of cons.now.lang.now cons.now.list.now cons.now.against) plan.now v waiting.old waiting.new doms.old doms.new }
-    ensures entailed { result ≡ Alive.Yes → IfSome value (λ x. (k : ℕ) (a : Arc) → k < length (arcs_of cons.now.lang.now cons.now.list.now cons.now.against) → has (slice_index_or (arcs_of cons.now.lang.now cons.now.list.now cons.now.against) k a).scope v ≡ true → ((c : Brief) → IsApart (slice_index_or plan.now.briefs.items k c)) → IsEntailed (slice_index_or (arcs_of cons.now.lang.now cons.now.list.now cons.now.against) k a) doms.new) }
-    ensures dead { result ≡ Alive.No → RunsEmpty (arcs_of cons.now.lang.now cons.now.list.now cons.now.against) doms.old }
+    requires entailed { AreEntailed (arcs_of cons.now.lang.now cons.now.list.now cons.now.against)
+        plan.now entailed.now doms.old }
+    ensures looked { result ≡ Alive.Yes → AreLooked (arcs_of cons.now.lang.now cons.now.list.now
+        cons.now.against) plan.now v waiting.old waiting.new doms.old doms.new }
+    ensures entailed { result ≡ Alive.Yes → IfSome value (λ x. (k : ℕ) (a : Arc) →
+        k < length (arcs_of cons.now.lang.now cons.now.list.now cons.now.against) →
+        has (slice_index_or (arcs_of cons.now.lang.now cons.now.list.now cons.now.against) k
+        a).scope v ≡ true → ((c : Brief) → IsApart (slice_index_or plan.now.briefs.items k c)) →
+        IsEntailed (slice_index_or (arcs_of cons.now.lang.now cons.now.list.now cons.now.against) k
+        a) doms.new) }
+    ensures dead { result ≡ Alive.No →
+        RunsEmpty (arcs_of cons.now.lang.now cons.now.list.now cons.now.against) doms.old }
 {
     match value {
         Some(x) => strike_all(cons, plan, doms, entailed, v, x, waiting),
@@ -498,15 +582,17 @@ fn look_apart(
 fn note_struck(entailed: &mut Entailed, v: u8, value: Option<u8>)
     requires { v < 128 }
     ensures noted { (k : ℕ) → is_noted_in entailed.new k ≡ is_noted_in entailed.old k }
-    ensures struck { (u : ℕ) → is_among_struck entailed.new u ≡ true → (is_among_struck entailed.old u ≡ true) ⊎ ((u ≡ v) × IsSome value) }
+    ensures struck { (u : ℕ) → is_among_struck entailed.new u ≡ true →
+        (is_among_struck entailed.old u ≡ true) ⊎ ((u ≡ v) × IsSome value) }
 {
     if let Some(_x) = value {
         entailed.strike(v);
     }
 }
 
-/// Looks at the conditions of a changed variable, but for those that are entailed. Says which variables are waiting then; `None`
-/// where some variable has no value left in an arc-consistent subfamily.
+/// Looks at the conditions of a changed variable, but for those that are entailed. Says which
+/// variables are waiting then; `None` where some variable has no value left in an arc-consistent
+/// subfamily.
 fn visit(
     cons: &Constraints,
     plan: &Plan,
@@ -518,15 +604,21 @@ fn visit(
 ) -> Option<Waiting>
     requires lawful { IsLanguage cons.now.lang.now }
     requires constraints { AreConstraints cons.now.lang.now cons.now.list.now cons.now.against }
-    requires plan { IsWholePlanOf cons.now.lang.now (arcs_of cons.now.lang.now cons.now.list.now cons.now.against) plan.now }
-    requires doms { IsSettledBut cons.now.lang.now (arcs_of cons.now.lang.now cons.now.list.now cons.now.against) changed doms.old }
-    requires entailed { AreEntailed (arcs_of cons.now.lang.now cons.now.list.now cons.now.against) plan.now entailed.old doms.old }
+    requires plan { IsWholePlanOf cons.now.lang.now
+        (arcs_of cons.now.lang.now cons.now.list.now cons.now.against) plan.now }
+    requires doms { IsSettledBut cons.now.lang.now
+        (arcs_of cons.now.lang.now cons.now.list.now cons.now.against) changed doms.old }
+    requires entailed { AreEntailed (arcs_of cons.now.lang.now cons.now.list.now cons.now.against)
+        plan.now entailed.old doms.old }
     requires count { count ≡ length (arcs_of cons.now.lang.now cons.now.list.now cons.now.against) }
     requires known { v < 128 }
     requires there { has changed v ≡ true }
-    ensures visited { IfSome result (λ next. IsVisited (arcs_of cons.now.lang.now cons.now.list.now cons.now.against) (without changed v) next doms.old doms.new) }
-    ensures entailed { IfSome result (λ next. AreEntailed (arcs_of cons.now.lang.now cons.now.list.now cons.now.against) plan.now entailed.new doms.new) }
-    ensures dead { result ≡ None → RunsEmpty (arcs_of cons.now.lang.now cons.now.list.now cons.now.against) doms.old }
+    ensures visited { IfSome result (λ next. IsVisited (arcs_of cons.now.lang.now cons.now.list.now
+        cons.now.against) (without changed v) next doms.old doms.new) }
+    ensures entailed { IfSome result (λ next. AreEntailed (arcs_of cons.now.lang.now
+        cons.now.list.now cons.now.against) plan.now entailed.new doms.new) }
+    ensures dead { result ≡ None →
+        RunsEmpty (arcs_of cons.now.lang.now cons.now.list.now cons.now.against) doms.old }
 {
     let mut waiting = changed.without(v);
     let value = value_of(cons.lang, doms, v);
@@ -560,7 +652,8 @@ fn visit(
     Some(waiting)
 }
 
-/// Whether the first condition isn't on two variables. No clause says so: the order of visits changes no outcome.
+/// Whether the first condition isn't on two variables. No clause says so: the order of visits
+/// changes no outcome.
 #[inline]
 fn begins_long(plan: &Plan) -> bool {
     if plan.briefs.len() == 0 {
@@ -597,12 +690,18 @@ fn visit_all(
 ) -> Alive
     requires lawful { IsLanguage cons.now.lang.now }
     requires constraints { AreConstraints cons.now.lang.now cons.now.list.now cons.now.against }
-    requires plan { IsWholePlanOf cons.now.lang.now (arcs_of cons.now.lang.now cons.now.list.now cons.now.against) plan.now }
-    requires doms { IsSettledBut cons.now.lang.now (arcs_of cons.now.lang.now cons.now.list.now cons.now.against) changed doms.old }
-    requires entailed { AreEntailed (arcs_of cons.now.lang.now cons.now.list.now cons.now.against) plan.now entailed.old doms.old }
-    ensures alive { result ≡ Alive.Yes → IsPropagated cons.now.lang.now (arcs_of cons.now.lang.now cons.now.list.now cons.now.against) doms.old doms.new }
-    ensures entailed { result ≡ Alive.Yes → AreEntailed (arcs_of cons.now.lang.now cons.now.list.now cons.now.against) plan.now entailed.new doms.new }
-    ensures dead { result ≡ Alive.No → RunsEmpty (arcs_of cons.now.lang.now cons.now.list.now cons.now.against) doms.old }
+    requires plan { IsWholePlanOf cons.now.lang.now
+        (arcs_of cons.now.lang.now cons.now.list.now cons.now.against) plan.now }
+    requires doms { IsSettledBut cons.now.lang.now
+        (arcs_of cons.now.lang.now cons.now.list.now cons.now.against) changed doms.old }
+    requires entailed { AreEntailed (arcs_of cons.now.lang.now cons.now.list.now cons.now.against)
+        plan.now entailed.old doms.old }
+    ensures alive { result ≡ Alive.Yes → IsPropagated cons.now.lang.now
+        (arcs_of cons.now.lang.now cons.now.list.now cons.now.against) doms.old doms.new }
+    ensures entailed { result ≡ Alive.Yes → AreEntailed (arcs_of cons.now.lang.now cons.now.list.now
+        cons.now.against) plan.now entailed.new doms.new }
+    ensures dead { result ≡ Alive.No →
+        RunsEmpty (arcs_of cons.now.lang.now cons.now.list.now cons.now.against) doms.old }
 {
     let count = cons.count();
     let from_greatest = begins_long(plan);
@@ -616,7 +715,8 @@ fn visit_all(
     Alive::Yes
 }
 
-/// `propagate_after`, where it is known that some conditions are entailed. Those that come to be so are taken in.
+/// `propagate_after`, where it is known that some conditions are entailed. Those that come to be so
+/// are taken in.
 pub fn propagate_beside(
     cons: &Constraints,
     plan: &Plan,
@@ -626,12 +726,18 @@ pub fn propagate_beside(
 ) -> Alive
     requires lawful { IsLanguage cons.now.lang.now }
     requires constraints { AreConstraints cons.now.lang.now cons.now.list.now cons.now.against }
-    requires plan { IsPlanOf cons.now.lang.now (arcs_of cons.now.lang.now cons.now.list.now cons.now.against) plan.now }
-    requires doms { IsSettledBut cons.now.lang.now (arcs_of cons.now.lang.now cons.now.list.now cons.now.against) changed doms.old }
-    requires entailed { AreEntailed (arcs_of cons.now.lang.now cons.now.list.now cons.now.against) plan.now entailed.old doms.old }
-    ensures alive { result ≡ Alive.Yes → IsPropagated cons.now.lang.now (arcs_of cons.now.lang.now cons.now.list.now cons.now.against) doms.old doms.new }
-    ensures entailed { result ≡ Alive.Yes → AreEntailed (arcs_of cons.now.lang.now cons.now.list.now cons.now.against) plan.now entailed.new doms.new }
-    ensures dead { result ≡ Alive.No → RunsEmpty (arcs_of cons.now.lang.now cons.now.list.now cons.now.against) doms.old }
+    requires plan { IsPlanOf cons.now.lang.now
+        (arcs_of cons.now.lang.now cons.now.list.now cons.now.against) plan.now }
+    requires doms { IsSettledBut cons.now.lang.now
+        (arcs_of cons.now.lang.now cons.now.list.now cons.now.against) changed doms.old }
+    requires entailed { AreEntailed (arcs_of cons.now.lang.now cons.now.list.now cons.now.against)
+        plan.now entailed.old doms.old }
+    ensures alive { result ≡ Alive.Yes → IsPropagated cons.now.lang.now
+        (arcs_of cons.now.lang.now cons.now.list.now cons.now.against) doms.old doms.new }
+    ensures entailed { result ≡ Alive.Yes → AreEntailed (arcs_of cons.now.lang.now cons.now.list.now
+        cons.now.against) plan.now entailed.new doms.new }
+    ensures dead { result ≡ Alive.No →
+        RunsEmpty (arcs_of cons.now.lang.now cons.now.list.now cons.now.against) doms.old }
 {
     if cons.count() <= plan.briefs.len() {
         visit_all(cons, plan, doms, entailed, Waiting::of(changed))
@@ -640,8 +746,8 @@ pub fn propagate_beside(
     }
 }
 
-/// `propagate`, where no set is empty and each condition is consistent that has none of the changed variables. The plan is
-/// one of the conditions.
+/// `propagate`, where no set is empty and each condition is consistent that has none of the changed
+/// variables. The plan is one of the conditions.
 pub fn propagate_after(
     cons: &Constraints,
     plan: &Plan,
@@ -650,10 +756,14 @@ pub fn propagate_after(
 ) -> Alive
     requires lawful { IsLanguage cons.now.lang.now }
     requires constraints { AreConstraints cons.now.lang.now cons.now.list.now cons.now.against }
-    requires plan { IsPlanOf cons.now.lang.now (arcs_of cons.now.lang.now cons.now.list.now cons.now.against) plan.now }
-    requires doms { IsSettledBut cons.now.lang.now (arcs_of cons.now.lang.now cons.now.list.now cons.now.against) changed doms.old }
-    ensures alive { result ≡ Alive.Yes → IsPropagated cons.now.lang.now (arcs_of cons.now.lang.now cons.now.list.now cons.now.against) doms.old doms.new }
-    ensures dead { result ≡ Alive.No → RunsEmpty (arcs_of cons.now.lang.now cons.now.list.now cons.now.against) doms.old }
+    requires plan { IsPlanOf cons.now.lang.now
+        (arcs_of cons.now.lang.now cons.now.list.now cons.now.against) plan.now }
+    requires doms { IsSettledBut cons.now.lang.now
+        (arcs_of cons.now.lang.now cons.now.list.now cons.now.against) changed doms.old }
+    ensures alive { result ≡ Alive.Yes → IsPropagated cons.now.lang.now
+        (arcs_of cons.now.lang.now cons.now.list.now cons.now.against) doms.old doms.new }
+    ensures dead { result ≡ Alive.No →
+        RunsEmpty (arcs_of cons.now.lang.now cons.now.list.now cons.now.against) doms.old }
 {
     let mut entailed = Entailed::none();
     propagate_beside(cons, plan, doms, &mut entailed, changed)
@@ -673,14 +783,17 @@ fn with_few(set: VarSet, doms: &Domains, v: u8, most: u8) -> VarSet
     }
 }
 
-/// Those of n variables whose conditions are looked at first: each that has no more values than its limit.
+/// Those of n variables whose conditions are looked at first: each that has no more values than its
+/// limit.
 fn first_changed(cons: &Constraints, plan: &Plan, doms: &Domains, n: u8) -> VarSet
     requires lawful { IsLanguage cons.now.lang.now }
     requires constraints { AreConstraints cons.now.lang.now cons.now.list.now cons.now.against }
-    requires plan { IsPlanOf cons.now.lang.now (arcs_of cons.now.lang.now cons.now.list.now cons.now.against) plan.now }
+    requires plan { IsPlanOf cons.now.lang.now
+        (arcs_of cons.now.lang.now cons.now.list.now cons.now.against) plan.now }
     requires doms { AreSome cons.now.lang.now doms.now }
     requires variables { n ≡ variable_count cons.now.lang.now }
-    ensures { IsSettledBut cons.now.lang.now (arcs_of cons.now.lang.now cons.now.list.now cons.now.against) result doms.now }
+    ensures { IsSettledBut cons.now.lang.now
+        (arcs_of cons.now.lang.now cons.now.list.now cons.now.against) result doms.now }
 {
     if cons.count() > plan.briefs.len() {
         return VarSet::all(n);
@@ -695,10 +808,13 @@ fn first_changed(cons: &Constraints, plan: &Plan, doms: &Domains, n: u8) -> VarS
 /// `propagate` with a plan of the conditions.
 pub fn propagate_all(cons: &Constraints, plan: &Plan, doms: &mut Domains) -> Alive
     requires constraints { AreConstraints cons.now.lang.now cons.now.list.now cons.now.against }
-    requires plan { IsPlanOf cons.now.lang.now (arcs_of cons.now.lang.now cons.now.list.now cons.now.against) plan.now }
+    requires plan { IsPlanOf cons.now.lang.now
+        (arcs_of cons.now.lang.now cons.now.list.now cons.now.against) plan.now }
     requires family { IsFamilyOf cons.now.lang.now doms.old }
-    ensures alive { result ≡ Alive.Yes → IsPropagated cons.now.lang.now (arcs_of cons.now.lang.now cons.now.list.now cons.now.against) doms.old doms.new }
-    ensures dead { result ≡ Alive.No → RunsEmpty (arcs_of cons.now.lang.now cons.now.list.now cons.now.against) doms.old }
+    ensures alive { result ≡ Alive.Yes → IsPropagated cons.now.lang.now
+        (arcs_of cons.now.lang.now cons.now.list.now cons.now.against) doms.old doms.new }
+    ensures dead { result ≡ Alive.No →
+        RunsEmpty (arcs_of cons.now.lang.now cons.now.list.now cons.now.against) doms.old }
 {
     if doms.has_empty() {
         return Alive::No;

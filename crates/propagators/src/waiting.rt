@@ -8,7 +8,8 @@ use crate::values::{add_value, either, greatest_value, has_value, is_empty, leas
 use assign::VarSet;
 use std::marker::Model;
 
-/// A set of variables, each a number below 128, in two words: a test reads one of them, and the greatest member is found at once.
+/// A set of variables, each a number below 128, in two words: a test reads one of them, and the
+/// greatest member is found at once.
 #[derive(Clone, Copy)]
 pub(crate) struct Waiting {
     /// The variables below 64: bit v is 1 where v is a member.

@@ -8,7 +8,14 @@ use Rattle.query_gen.specs.Marks.{Remembered, AreMarksFor, MarksHold}
 use Rattle.query_gen.specs.declared.screen.Screen.TheInside.{Inside}
 
 abbrev pub seen : Inside → Remembered
-seen a = record { first = a.first.items; marks = a.marks.items; learned = a.learned; budget = a.budget; index = a.index; finds = a.finds }
+seen a = record {
+  first = a.first.items;
+  marks = a.marks.items;
+  learned = a.learned;
+  budget = a.budget;
+  index = a.index;
+  finds = a.finds;
+}
 
 -- a mark that doesn't say "spent" any more
 abbrev pub without_spent : Mark → Mark
@@ -20,10 +27,18 @@ without_spent Spent = Blank
 abbrev pub remembered_begun : Remembered → ℕ → ℕ → Remembered
 remembered_begun s learned budget =
     if (s.learned == learned) && (s.budget == budget) then s
-    else record { first = s.first; marks = map without_spent s.marks; learned = learned; budget = budget; index = s.index; finds = s.finds }
+    else record {
+      first = s.first;
+      marks = map without_spent s.marks;
+      learned = learned;
+      budget = budget;
+      index = s.index;
+      finds = s.finds;
+    }
 
 -- The marks are true, and those "spent" are of this network and budget.
-pub record IsBegun (l : Language) (network : List Candidate) (budget : ℕ) (s : Remembered) : Type 0 where
+pub record IsBegun (l : Language) (network : List Candidate) (budget : ℕ) (s : Remembered) :
+    Type 0 where
   pub made : AreMarksFor l s
   pub holds : MarksHold l network budget s
   pub learned : s.learned ≡ length network

@@ -15,34 +15,41 @@ use Rattle.query_gen.specs.Parts.{query_in, query_then}
 
 -- Candidates that a test picks from all of them stand in candidate order.
 abbrev pub PickedAreInOrder : Type 0
-PickedAreInOrder = (l : Language) (test : Candidate → Bool) → in_order l (filter test (candidates l)) ≡ filter test (candidates l)
+PickedAreInOrder = (l : Language) (test : Candidate → Bool) →
+    in_order l (filter test (candidates l)) ≡ filter test (candidates l)
 
 -- Where no search finds a question and none is spent, each kept candidate is implied.
 abbrev pub AllAreImplied : Type 0
 AllAreImplied =
     (l : Language) (network kept : List Candidate) (budget : ℕ) →
-    IsLanguage l → IsNetwork l kept → next_query l network kept budget ≡ AllImplied → All (IsImplied l network) kept
+    IsLanguage l → IsNetwork l kept → next_query l network kept budget ≡ AllImplied →
+    All (IsImplied l network) kept
 
 -- A question that is asked is complete, the network accepts it, and it violates a kept candidate.
 abbrev pub AskedIsLawful : Type 0
 AskedIsLawful =
     (l : Language) (network kept : List Candidate) (budget : ℕ) (e : Assignment) →
-    IsLanguage l → IsNetwork l network → IsNetwork l kept → next_query l network kept budget ≡ Ask e → Any (λ c. IsQuestionAgainst l network c e) kept
+    IsLanguage l → IsNetwork l network → IsNetwork l kept →
+    next_query l network kept budget ≡ Ask e → Any (λ c. IsQuestionAgainst l network c e) kept
 
--- Some search is spent. Each candidate on which one is has more plain prefixes than the budget, and each other is implied.
+-- Some search is spent. Each candidate on which one is has more plain prefixes than the budget, and
+-- each other is implied.
 pub record IsUndecided (l : Language) (network kept : List Candidate) (budget : ℕ) : Type 0 where
   pub some : Any (λ c. outcome_of_candidate l network c budget ≡ Spent) kept
-  pub each : All (λ c. outcome_of_candidate l network c budget ≡ Spent → budget < plain_size l network c) kept
+  pub each : All (λ c. outcome_of_candidate l network c budget ≡ Spent →
+      budget < plain_size l network c) kept
   pub rest : All (λ c. outcome_of_candidate l network c budget ≢ Spent → IsImplied l network c) kept
 
 abbrev pub UndecidedIsSpent : Type 0
 UndecidedIsSpent =
     (l : Language) (network kept : List Candidate) (budget : ℕ) →
-    IsLanguage l → IsNetwork l network → IsNetwork l kept → next_query l network kept budget ≡ Undecided → IsUndecided l network kept budget
+    IsLanguage l → IsNetwork l network → IsNetwork l kept →
+    next_query l network kept budget ≡ Undecided → IsUndecided l network kept budget
 
 -- No marks are true ones.
 abbrev pub NoMarksHold : Type 0
-NoMarksHold = (l : Language) (network : List Candidate) (budget : ℕ) (s : Remembered) → HasNoMarks s → MarksHold l network budget s
+NoMarksHold = (l : Language) (network : List Candidate) (budget : ℕ) (s : Remembered) →
+    HasNoMarks s → MarksHold l network budget s
 
 -- True marks stay true while the network grows.
 abbrev pub MarksStay : Type 0
@@ -50,11 +57,14 @@ MarksStay =
     (l : Language) (network more : List Candidate) (budget : ℕ) (s : Remembered) →
     MarksHold l network budget s → MarksHold l (network ++ more) budget s
 
--- What the candidates of two parts say is what those of the first say, and then those of the second.
+-- What the candidates of two parts say is what those of the first say, and then those of the
+-- second.
 abbrev pub PartsAreJoined : Type 0
 PartsAreJoined =
-    (l : Language) (network kept : List Candidate) (budget first middle end : ℕ) → first ≤ middle → middle ≤ end →
-    query_in l network kept budget first end ≡ query_then (query_in l network kept budget first middle) (query_in l network kept budget middle end)
+    (l : Language) (network kept : List Candidate) (budget first middle end : ℕ) → first ≤ middle →
+    middle ≤ end →
+    query_in l network kept budget first end ≡ query_then
+    (query_in l network kept budget first middle) (query_in l network kept budget middle end)
 
 -- What all candidates say is the next question.
 abbrev pub WholeIsNext : Type 0

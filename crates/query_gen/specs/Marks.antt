@@ -1,5 +1,6 @@
 -- What a screen remembers of searches.
-use Rattle.std.specs.Prelude.{ℕ, ◌≡◌, ◌≤◌, Bool, true, false, List, length, map, take, All, slice_index_or, Option, None}
+use Rattle.std.specs.Prelude.{ℕ, ◌≡◌, ◌≤◌, Bool, true, false, List, length, map, take, All}
+use Rattle.std.specs.Prelude.{slice_index_or, Option, None}
 use Rattle.std.specs.Option.{ForSome}
 use Rattle.assign.specs.Sets.{numbers}
 use Rattle.language.specs.declared.candidates.Candidate.{Candidate}
@@ -25,9 +26,11 @@ pub record Remembered : Type 0 where
   -- for each eighth of the candidates the last question that a search found there
   pub finds : List (Option Find)
 
--- the numbers of the language's candidates, a mark for each of these, and an index of such candidates
+-- the numbers of the language's candidates, a mark for each of these, and an index of such
+-- candidates
 pub record AreMarksFor (l : Language) (s : Remembered) : Type 0 where
-  pub first : s.first ≡ map (λ scope. number_of l (record { scope = scope; rel = 0 })) (numbers (length l.scopes))
+  pub first : s.first ≡ map (λ scope. number_of l (record { scope = scope; rel = 0 }))
+      (numbers (length l.scopes))
   pub marks : length s.marks ≡ length (candidates l)
   pub index : IsIndexOf l s.index
 
@@ -49,15 +52,23 @@ is_mark_spent Spent = true
 abbrev pub is_open : Language → Remembered → Candidate → Bool
 is_open l s c = is_mark_spent (mark_of l s c)
 
--- The question is what the search of its candidate found under this budget, over a network that this one begins with.
+-- The question is what the search of its candidate found under this budget, over a network that
+-- this one begins with.
 pub record IsFindOf (l : Language) (network : List Candidate) (budget : ℕ) (f : Find) : Type 0 where
   pub learned : f.learned ≤ length network
-  pub found : (c : Candidate) → IsCandidate l c → number_of l c ≡ f.number → outcome_of_candidate l (take f.learned network) c budget ≡ outcomes.Found f.question
+  pub found : (c : Candidate) → IsCandidate l c → number_of l c ≡ f.number →
+      outcome_of_candidate l (take f.learned network) c budget ≡ outcomes.Found f.question
 
--- The marks are true under this network and budget. Those of another network or budget count for nothing where they say "spent".
-pub record MarksHold (l : Language) (network : List Candidate) (budget : ℕ) (s : Remembered) : Type 0 where
-  pub implied : (c : Candidate) → IsCandidate l c → mark_of l s c ≡ Implied → outcome_of_candidate l network c budget ≡ outcomes.Absent
-  pub spent : (c : Candidate) → IsCandidate l c → mark_of l s c ≡ Spent → s.learned ≡ length network → s.budget ≡ budget → outcome_of_candidate l network c budget ≡ outcomes.Spent
+-- The marks are true under this network and budget. Those of another network or budget count for
+-- nothing where they say "spent".
+pub record MarksHold (l : Language) (network : List Candidate) (budget : ℕ) (s : Remembered) :
+    Type 0 where
+  pub implied : (c : Candidate) → IsCandidate l c → mark_of l s c ≡ Implied →
+      outcome_of_candidate l network c budget ≡ outcomes.Absent
+  pub spent : (c : Candidate) → IsCandidate l c → mark_of l s c ≡ Spent →
+      s.learned ≡ length network → s.budget ≡ budget →
+      outcome_of_candidate l network c budget ≡ outcomes.Spent
   -- no mark says so of a longer network
-  pub earlier : (c : Candidate) → IsCandidate l c → mark_of l s c ≡ Spent → s.learned ≤ length network
+  pub earlier : (c : Candidate) → IsCandidate l c → mark_of l s c ≡ Spent →
+      s.learned ≤ length network
   pub finds : All (λ f. ForSome f (IsFindOf l network budget)) s.finds

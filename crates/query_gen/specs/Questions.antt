@@ -1,5 +1,6 @@
 -- The next question of a session, from the outcomes of the kept candidates' searches.
-use Rattle.std.specs.Prelude.{ℕ, ◌==◌, Bool, true, false, ◌&&◌, List, [], ◌∷◌, map, filter, Option, Some, None}
+use Rattle.std.specs.Prelude.{ℕ, ◌==◌, Bool, true, false, ◌&&◌, List, [], ◌∷◌, map, filter, Option}
+use Rattle.std.specs.Prelude.{Some, None}
 use Rattle.std.specs.List.{list_any, filter_map}
 use Rattle.assign.specs.Assignment.{Assignment}
 use Rattle.language.specs.declared.candidates.Candidate.{Candidate}
@@ -39,4 +40,5 @@ query_of outcomes = query_from (filter_map found_in outcomes) (list_any is_spent
 
 -- the next question, where these candidates are kept
 abbrev pub next_query : Language → List Candidate → List Candidate → ℕ → Query
-next_query l network kept budget = query_of (map (λ c. outcome_of_candidate l network c budget) (in_order l kept))
+next_query l network kept budget =
+    query_of (map (λ c. outcome_of_candidate l network c budget) (in_order l kept))

@@ -1,6 +1,8 @@
 //! Laws of the next question and of marks. They are claims alone: these functions do nothing.
 
-ghost use Rattle.query_gen.specs.Laws.{PickedAreInOrder, AllAreImplied, AskedIsLawful, UndecidedIsSpent, NoMarksHold, MarksStay, PartsAreJoined, WholeIsNext};
+ghost use Rattle.query_gen.specs.Laws.{PickedAreInOrder, AllAreImplied, AskedIsLawful};
+ghost use Rattle.query_gen.specs.Laws.{UndecidedIsSpent, NoMarksHold, MarksStay, PartsAreJoined};
+ghost use Rattle.query_gen.specs.Laws.{WholeIsNext};
 
 /// Candidates that a test picks from all of them stand in candidate order.
 pub fn picked_are_in_order()
@@ -12,12 +14,14 @@ pub fn all_are_implied()
     ensures { AllAreImplied }
 {}
 
-/// A question that is asked may be put: it is complete, the network accepts it, and it violates a kept candidate.
+/// A question that is asked may be put: it is complete, the network accepts it, and it violates a
+/// kept candidate.
 pub fn asked_is_lawful()
     ensures { AskedIsLawful }
 {}
 
-/// Where nothing is decided, some search is spent, and each candidate whose search isn't is implied.
+/// Where nothing is decided, some search is spent, and each candidate whose search isn't is
+/// implied.
 pub fn undecided_is_spent()
     ensures { UndecidedIsSpent }
 {}

@@ -8,7 +8,8 @@ ghost use Rattle.propagators.specs.Indexes.{IsIndexOf};
 ghost use Rattle.fd_solver.specs.Outcomes.{outcome_of_candidate};
 ghost use Rattle.query_gen.specs.Questions.{query_of};
 ghost use Rattle.query_gen.specs.Marks.{AreMarksFor, MarksHold};
-ghost use Rattle.query_gen.specs.Parts.{byte_for, is_ask, query_then, IsScopeOf, IsSearched, IsSearchedBefore, IsSearchedTo};
+ghost use Rattle.query_gen.specs.Parts.{byte_for, is_ask, query_then, IsScopeOf, IsSearched};
+ghost use Rattle.query_gen.specs.Parts.{IsSearchedBefore, IsSearchedTo};
 
 use crate::query::Query;
 use crate::screen::{Mark, Screen};
@@ -51,7 +52,8 @@ fn outcome_of(
     search_with(work, index, &constraints, &order_of(lang, c), budget)
 }
 
-/// Searches for a kept candidate, puts what it says behind what those before it say, and returns its byte.
+/// Searches for a kept candidate, puts what it says behind what those before it say, and returns
+/// its byte.
 // Not inlined: the room of an outcome is cleared at each entry, and most candidates need no search.
 #[inline(never)]
 fn search_candidate(
@@ -69,7 +71,8 @@ fn search_candidate(
     requires budget { 1 ≤ budget }
     requires none { is_ask answer.old ≡ false }
     ensures byte { result ≡ byte_for (outcome_of_candidate lang.now net.now.list c budget) }
-    ensures answer { answer.new ≡ query_then answer.old (query_of (outcome_of_candidate lang.now net.now.list c budget ∷ [])) }
+    ensures answer { answer.new ≡ query_then answer.old
+        (query_of (outcome_of_candidate lang.now net.now.list c budget ∷ [])) }
 {
     match outcome_of(work, index, lang, net, budget, c) {
         Outcome::Found(e) => {
@@ -84,7 +87,8 @@ fn search_candidate(
     }
 }
 
-/// The same, without a search where the last find of the candidate stands: what was learned since accepts it.
+/// The same, without a search where the last find of the candidate stands: what was learned since
+/// accepts it.
 fn search_unless_found(
     work: &mut Work,
     answer: &mut Query,
@@ -102,7 +106,8 @@ fn search_unless_found(
     requires budget { 1 ≤ budget }
     requires none { is_ask answer.old ≡ false }
     ensures byte { result ≡ byte_for (outcome_of_candidate lang.now net.now.list c budget) }
-    ensures answer { answer.new ≡ query_then answer.old (query_of (outcome_of_candidate lang.now net.now.list c budget ∷ [])) }
+    ensures answer { answer.new ≡ query_then answer.old
+        (query_of (outcome_of_candidate lang.now net.now.list c budget ∷ [])) }
 {
     let _variables = lang.n();
     if let Some(find) = screen.find_of(number)
@@ -130,12 +135,15 @@ fn byte_of(
     requires marks { MarksHold lang.now net.now.list budget screen.now }
     requires candidate { IsCandidate lang.now c × (number_of lang.now c ≡ number) }
     requires network { IsNetwork lang.now net.now.list }
-    requires implied { mark ≡ Mark.Implied → outcome_of_candidate lang.now net.now.list c budget ≡ Outcome.Absent }
-    requires spent { mark ≡ Mark.Spent → outcome_of_candidate lang.now net.now.list c budget ≡ Outcome.Spent }
+    requires implied { mark ≡ Mark.Implied →
+        outcome_of_candidate lang.now net.now.list c budget ≡ Outcome.Absent }
+    requires spent { mark ≡ Mark.Spent →
+        outcome_of_candidate lang.now net.now.list c budget ≡ Outcome.Spent }
     requires budget { 1 ≤ budget }
     requires none { is_ask answer.old ≡ false }
     ensures byte { result ≡ byte_for (outcome_of_candidate lang.now net.now.list c budget) }
-    ensures answer { answer.new ≡ query_then answer.old (query_of (outcome_of_candidate lang.now net.now.list c budget ∷ [])) }
+    ensures answer { answer.new ≡ query_then answer.old
+        (query_of (outcome_of_candidate lang.now net.now.list c budget ∷ [])) }
 {
     match mark {
         Mark::Implied => IMPLIED,
@@ -170,9 +178,11 @@ fn look_at(
     requires candidate { IsCandidate lang.now c × (number_of lang.now c ≡ number) }
     requires number { first ≤ number }
     requires room { number - first < length marks.old }
-    requires before { IsSearchedTo lang.now net.now.list kept.now.members budget first number marks.old answer.old }
+    requires before { IsSearchedTo lang.now net.now.list kept.now.members budget first number
+        marks.old answer.old }
     requires none { is_ask answer.old ≡ false }
-    ensures is { IsSearchedTo lang.now net.now.list kept.now.members budget first (number + 1) marks.new answer.new }
+    ensures is { IsSearchedTo lang.now net.now.list kept.now.members budget first
+        (number + 1) marks.new answer.new }
     ensures size { length marks.new ≡ length marks.old }
 {
     if !kept.is_kept(c) {
@@ -186,7 +196,8 @@ fn look_at(
     marks[(number - first) as usize] = byte;
 }
 
-/// Looks through the kept candidates on a scope, those of the part, up to the first whose search finds a question.
+/// Looks through the kept candidates on a scope, those of the part, up to the first whose search
+/// finds a question.
 fn search_scope(
     work: &mut Work,
     marks: &mut [u8],
@@ -208,10 +219,13 @@ fn search_scope(
     requires budget { 1 ≤ budget }
     requires scope { IsScopeOf lang.now first end scope }
     requires part { (end ≤ length (candidates lang.now)) × (end - first ≤ length marks.old) }
-    requires before { IsSearchedBefore lang.now net.now.list kept.now.members budget first end scope marks.old answer.old }
+    requires before { IsSearchedBefore lang.now net.now.list kept.now.members budget first end scope
+        marks.old answer.old }
     requires none { is_ask answer.old ≡ false }
-    ensures further { is_ask answer.new ≡ false → IsSearchedBefore lang.now net.now.list kept.now.members budget first end (scope + 1) marks.new answer.new }
-    ensures found { is_ask answer.new ≡ true → IsSearched lang.now net.now.list kept.now.members budget first end marks.new answer.new }
+    ensures further { is_ask answer.new ≡ false → IsSearchedBefore lang.now net.now.list
+        kept.now.members budget first end (scope + 1) marks.new answer.new }
+    ensures found { is_ask answer.new ≡ true →
+        IsSearched lang.now net.now.list kept.now.members budget first end marks.new answer.new }
     ensures size { length marks.new ≡ length marks.old }
 {
     let _some = lang.relations_on(scope);
@@ -240,8 +254,8 @@ fn search_scope(
     }
 }
 
-/// Looks through the kept candidates with numbers from `first` to below `end`, up to the first whose search finds a question, and
-/// says what they say. A byte is set for each of them.
+/// Looks through the kept candidates with numbers from `first` to below `end`, up to the first
+/// whose search finds a question, and says what they say. A byte is set for each of them.
 pub(crate) fn search_part(
     work: &mut Work,
     marks: &mut [u8],
@@ -261,7 +275,8 @@ pub(crate) fn search_part(
     requires budget { 1 ≤ budget }
     requires part { (first ≤ end) × (end ≤ length (candidates lang.now)) }
     requires room { end - first ≤ length marks.old }
-    ensures is { IsSearched lang.now net.now.list kept.now.members budget first end marks.new result }
+    ensures is { IsSearched lang.now net.now.list kept.now.members budget first end marks.new
+        result }
     ensures size { length marks.new ≡ length marks.old }
 {
     marks.fill(0);

@@ -22,8 +22,9 @@ use std::alloc::Global;
 pub struct Place {
     /// The room of a search.
     pub work: Work,
-    /// A byte for each candidate of the part, in candidate order: 1 where the search said that nothing is left to ask, 2
-    /// where the budget was spent, 3 where it found a question, and else 0.
+    /// A byte for each candidate of the part, in candidate order: 1 where the search said that
+    /// nothing is left to ask, 2 where the budget was spent, 3 where it found a question, and
+    /// else 0.
     pub marks: Vec<u8>,
     /// What the kept candidates of the part say.
     pub answer: Query,
@@ -32,11 +33,14 @@ pub struct Place {
 }
 
 impl Place {
-    /// A place for an eighth of the language's candidates, rounded up. `Memory` where there is none.
+    /// A place for an eighth of the language's candidates, rounded up. `Memory` where there is
+    /// none.
     pub fn new(alloc: Global, lang: &Language) -> Result<Place, Memory>
-        ensures marks { IfOk result (λ p. p.marks.items ≡ replicate ((length (candidates lang.now) + 7) / 8) 0) }
+        ensures marks { IfOk result
+            (λ p. p.marks.items ≡ replicate ((length (candidates lang.now) + 7) / 8) 0) }
         ensures answer { IfOk result (λ p. p.answer ≡ Query.AllImplied) }
-        ensures unsearched { IfOk result (λ p. (first end : ℕ) → searched_end p end ≤ searched_from p first) }
+        ensures unsearched { IfOk result (λ p. (first end : ℕ) →
+            searched_end p end ≤ searched_from p first) }
     {
         let work = Work::new(alloc, lang)?;
         let size = lang.candidates().div_ceil(8) as usize;
@@ -51,13 +55,14 @@ impl Place {
         }
     }
 
-    /// Looks through the kept candidates with numbers from `first` to below `end`, up to the first whose search under the
-    /// budget finds a question.
+    /// Looks through the kept candidates with numbers from `first` to below `end`, up to the first
+    /// whose search under the budget finds a question.
     ///
-    /// The budget is how many members of its walk the search for one candidate may look at. Afterwards `answer` is what
-    /// these candidates say, and `marks` holds a byte for each of them. A candidate whose mark or find on the screen tells
-    /// the outcome isn't searched again. The cost without any search is a step for each scope of the part, for each
-    /// candidate on those that have a kept one, and the setting of a byte for each candidate of the part.
+    /// The budget is how many members of its walk the search for one candidate may look at.
+    /// Afterwards `answer` is what these candidates say, and `marks` holds a byte for each of them.
+    /// A candidate whose mark or find on the screen tells the outcome isn't searched again. The
+    /// cost without any search is a step for each scope of the part, for each candidate on those
+    /// that have a kept one, and the setting of a byte for each candidate of the part.
     pub fn search(
         &mut self,
         screen: &Screen,
@@ -77,7 +82,8 @@ impl Place {
         requires small_budget { budget ≤ 1000000000 }
         requires part { (first ≤ end) × (end ≤ length (candidates lang.now)) }
         requires room { end - first ≤ vec_len self.old.marks }
-        ensures is { IsSearched lang.now net.now.list kept.now.members budget first end self.new.marks.items self.new.answer }
+        ensures is { IsSearched lang.now net.now.list kept.now.members budget first end
+            self.new.marks.items self.new.answer }
         ensures size { vec_len self.new.marks ≡ vec_len self.old.marks }
     {
         let marks = self.marks.as_mut_slice();

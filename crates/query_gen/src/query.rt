@@ -24,7 +24,8 @@ const AT_ONCE: u32 = 1024;
 /// What comes next in a session.
 #[derive(Clone, Copy, Debug, PartialEq, Eq)]
 pub enum Query {
-    /// This complete assignment is asked about: the network accepts it, and it violates a kept candidate.
+    /// This complete assignment is asked about: the network accepts it, and it violates a kept
+    /// candidate.
     Ask(Partial),
     /// Each kept candidate is implied by the network.
     AllImplied,
@@ -44,10 +45,12 @@ impl Query {
     }
 }
 
-/// The next question: that of the first kept candidate, in candidate order, whose search under the budget finds one.
+/// The next question: that of the first kept candidate, in candidate order, whose search under the
+/// budget finds one.
 ///
-/// The budget is how many members of its walk the search for one candidate may look at. A candidate whose mark or find
-/// tells the outcome isn't searched again. The cost without any search is that of `Place::search` over all candidates.
+/// The budget is how many members of its walk the search for one candidate may look at. A candidate
+/// whose mark or find tells the outcome isn't searched again. The cost without any search is that
+/// of `Place::search` over all candidates.
 pub fn next_query(
     work: &mut Work,
     screen: &mut Screen,
@@ -67,7 +70,9 @@ pub fn next_query(
     ensures screen { AreMarksFor lang.now screen.new }
     ensures marks { MarksHold lang.now net.now.list budget screen.new }
     // exactly the kept candidates whose search was spent are open
-    ensures open { result ≡ Query.Undecided → (c : Candidate) → IsCandidate lang.now c → is_open lang.now screen.new c ≡ (is_among kept.now.members c && is_spent (outcome_of_candidate lang.now net.now.list c budget)) }
+    ensures open { result ≡ Query.Undecided → (c : Candidate) → IsCandidate lang.now c →
+        is_open lang.now screen.new c ≡ (is_among kept.now.members c && is_spent
+        (outcome_of_candidate lang.now net.now.list c budget)) }
 {
     screen.follow(lang, net);
     let all = lang.candidates();

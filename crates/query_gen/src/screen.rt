@@ -1,12 +1,15 @@
 //! What is remembered of searches.
 
-ghost use Rattle.std.specs.Prelude.{◌≡◌, ◌<◌, ◌≤◌, ◌+◌, ◌-◌, ℕ, IfOk, IfSome, List, length, map, slice_index_or, slice_range, vec_len};
+ghost use Rattle.std.specs.Prelude.{◌≡◌, ◌<◌, ◌≤◌, ◌+◌, ◌-◌, ℕ, IfOk, IfSome, List, length, map};
+ghost use Rattle.std.specs.Prelude.{slice_index_or, slice_range, vec_len};
 ghost use Rattle.assign.specs.Sets.{numbers};
 ghost use Rattle.language.specs.Language.{Language, IsCandidate, number_of};
 ghost use Rattle.language.specs.Answers.{IsNetwork};
-ghost use Rattle.query_gen.specs.Marks.{AreMarksFor, HasNoMarks, IsFindOf, MarksHold, is_mark_spent, is_open};
+ghost use Rattle.query_gen.specs.Marks.{AreMarksFor, HasNoMarks, IsFindOf, MarksHold};
+ghost use Rattle.query_gen.specs.Marks.{is_mark_spent, is_open};
 ghost use Rattle.query_gen.specs.Inside.{remembered_begun, without_spent};
-ghost use Rattle.query_gen.specs.Parts.{mark_taken, searched_from, searched_end, AreTaken, AreTrue, IsSearched, HasTaken};
+ghost use Rattle.query_gen.specs.Parts.{mark_taken, searched_from, searched_end, AreTaken, AreTrue};
+ghost use Rattle.query_gen.specs.Parts.{IsSearched, HasTaken};
 
 use crate::find::Find;
 use crate::part::{FOUND, IMPLIED, SPENT};
@@ -62,21 +65,23 @@ impl Mark {
     }
 }
 
-/// Marks of candidates and what was found of them, so that a search whose outcome is known isn't made again.
+/// Marks of candidates and what was found of them, so that a search whose outcome is known isn't
+/// made again.
 #[derive(Drop)]
 pub struct Screen {
     /// For each scope the number of its first candidate.
     first: Vec<u32>,
     /// For each candidate's number its mark.
     marks: Vec<Mark>,
-    /// How many candidates were learned when the marks "spent" were set: those of another network count for nothing.
+    /// How many candidates were learned when the marks "spent" were set: those of another network
+    /// count for nothing.
     learned: u32,
     /// The budget under which the marks "spent" were set: those of another one count for nothing.
     budget: u32,
     /// What is known before searches, of the network that was followed last.
     index: Index,
-    /// For each eighth of the candidates the last question that a search found there. The next search of its candidate finds it
-    /// again, while all that is learned since accepts it.
+    /// For each eighth of the candidates the last question that a search found there. The next
+    /// search of its candidate finds it again, while all that is learned since accepts it.
     finds: [Option<Find>; EIGHTHS],
 }
 
@@ -92,7 +97,8 @@ impl Model for Screen {
 
 /// For each scope the number of its first candidate.
 fn first_numbers(alloc: Global, lang: &Language) -> Result<Vec<u32>, AllocError>
-    ensures { IfOk result (λ v. v.items ≡ map (λ scope. number_of lang.now (record { scope = scope; rel = 0 })) (numbers (length lang.now.scopes))) }
+    ensures { IfOk result (λ v. v.items ≡ map (λ scope. number_of lang.now
+        (record { scope = scope; rel = 0 })) (numbers (length lang.now.scopes))) }
 {
     let mut first = Vec::new(alloc);
     for scope in 0..lang.scopes() as ScopeId {
@@ -122,7 +128,8 @@ fn take_bytes(marks: &mut [Mark], first: usize, bytes: &[u8], count: usize)
 }
 
 impl Screen {
-    /// No marks and no finds, a byte for each candidate, and some 36 bytes for each scope. `Memory` where there is none for them.
+    /// No marks and no finds, a byte for each candidate, and some 36 bytes for each scope. `Memory`
+    /// where there is none for them.
     pub fn new(alloc: Global, lang: &Language) -> Result<Screen, Memory>
         ensures made { IfOk result (AreMarksFor lang.now) }
         ensures unmarked { IfOk result HasNoMarks }
@@ -153,9 +160,11 @@ impl Screen {
         self.finds.fill(None);
     }
 
-    /// Whether the last search of a candidate was spent. A scope that the language lacks has no such candidate.
+    /// Whether the last search of a candidate was spent. A scope that the language lacks has no
+    /// such candidate.
     pub fn is_open(&self, c: Candidate) -> bool
-        ensures { (l : Language) → AreMarksFor l self.now → IsCandidate l c → result ≡ is_open l self.now c }
+        ensures { (l : Language) → AreMarksFor l self.now → IsCandidate l c →
+            result ≡ is_open l self.now c }
     {
         let scope = usize::from(c.scope);
         if scope >= self.first.len() {
@@ -165,12 +174,14 @@ impl Screen {
         number < self.marks.len() && self.marks[number].is_spent()
     }
 
-    /// Brings what is known before searches up to a network. Whether this was done tells nothing but how long a search takes.
+    /// Brings what is known before searches up to a network. Whether this was done tells nothing
+    /// but how long a search takes.
     pub fn follow(&mut self, lang: &Language, net: &Network)
         requires made { AreMarksFor lang.now self.old }
         requires network { IsNetwork lang.now net.now.list }
         ensures made { AreMarksFor lang.now self.new }
-        ensures holds { (network : List Candidate) (budget : ℕ) → MarksHold lang.now network budget self.old → MarksHold lang.now network budget self.new }
+        ensures holds { (network : List Candidate) (budget : ℕ) → MarksHold lang.now network budget
+            self.old → MarksHold lang.now network budget self.new }
     {
         self.index.follow(lang, net.list());
     }
@@ -193,11 +204,12 @@ impl Screen {
         }
     }
 
-    /// The mark of the candidate of this number, where a search with so many learned candidates and this budget begins:
-    /// one that says "spent" counts only under these.
+    /// The mark of the candidate of this number, where a search with so many learned candidates and
+    /// this budget begins: one that says "spent" counts only under these.
     pub(crate) fn mark_under(&self, number: u32, learned: u32, budget: u32) -> Mark
         requires { number < length self.now.marks }
-        ensures { result ≡ slice_index_or (remembered_begun self.now learned budget).marks number result }
+        ensures { result
+            ≡ slice_index_or (remembered_begun self.now learned budget).marks number result }
     {
         let mark = self.marks[number as usize];
         if self.learned == learned && self.budget == budget {
@@ -215,10 +227,12 @@ impl Screen {
         (number as usize / size).min(EIGHTHS - 1)
     }
 
-    /// The last find of the candidate of this number, where no later one in its eighth took its place.
+    /// The last find of the candidate of this number, where no later one in its eighth took its
+    /// place.
     pub(crate) fn find_of(&self, number: u32) -> Option<&Find>
         ensures number { IfSome result (λ f. f.now.number ≡ number) }
-        ensures is { (l : Language) (network : List Candidate) (budget : ℕ) → MarksHold l network budget self.now → IfSome result (λ f. IsFindOf l network budget f.now) }
+        ensures is { (l : Language) (network : List Candidate) (budget : ℕ) → MarksHold l network
+            budget self.now → IfSome result (λ f. IsFindOf l network budget f.now) }
     {
         match &self.finds[self.eighth_of(number)] {
             Some(find) if find.number == number => Some(find),
@@ -226,7 +240,8 @@ impl Screen {
         }
     }
 
-    /// Keeps the question that the search of these candidates found, if it found one, in place of the last one in its eighth.
+    /// Keeps the question that the search of these candidates found, if it found one, in place of
+    /// the last one in its eighth.
     pub(crate) fn keep_find(
         &mut self,
         bytes: &[u8],
@@ -239,7 +254,9 @@ impl Screen {
         requires part { first ≤ end }
         requires room { end - first ≤ length bytes.now }
         ensures same { self.new ≡ record self.old { finds = self.new.finds } }
-        ensures holds { (l : Language) (kept : List Candidate) (budget : ℕ) → MarksHold l net.now.list budget self.old → IsSearched l net.now.list kept budget first end bytes.now answer.now → MarksHold l net.now.list budget self.new }
+        ensures holds { (l : Language) (kept : List Candidate) (budget : ℕ) →
+            MarksHold l net.now.list budget self.old → IsSearched l net.now.list kept budget first
+            end bytes.now answer.now → MarksHold l net.now.list budget self.new }
     {
         let number = searched.greatest;
         let Query::Ask(question) = answer else {
@@ -256,33 +273,48 @@ impl Screen {
         });
     }
 
-    /// Takes over what the search of a part found, for the candidates with numbers from `first` to below `end`.
+    /// Takes over what the search of a part found, for the candidates with numbers from `first` to
+    /// below `end`.
     ///
-    /// The marks "spent" of these go, and those of the place are put in. The other candidates keep the marks that count:
-    /// marks "spent" of another network or budget go everywhere. The marks stay true where the place is as a search of
-    /// these candidates left it, under this network and budget.
+    /// The marks "spent" of these go, and those of the place are put in. The other candidates keep
+    /// the marks that count: marks "spent" of another network or budget go everywhere. The marks
+    /// stay true where the place is as a search of these candidates left it, under this network and
+    /// budget.
     pub fn take_marks(&mut self, place: &Place, first: u32, end: u32, net: &Network, budget: u32)
         requires part { (first ≤ end) × (end ≤ length self.old.marks) }
         requires room { end - first ≤ vec_len place.now.marks }
-        ensures taken { HasTaken place.now.marks.items first end (remembered_begun self.old (length net.now.list) budget) self.new }
+        ensures taken { HasTaken place.now.marks.items first end
+            (remembered_begun self.old (length net.now.list) budget) self.new }
         ensures made { (l : Language) → AreMarksFor l self.old → AreMarksFor l self.new }
-        ensures holds { (l : Language) (kept : List Candidate) → AreMarksFor l self.old → MarksHold l net.now.list budget self.old → IsSearched l net.now.list kept budget first end place.now.marks.items place.now.answer → MarksHold l net.now.list budget self.new }
+        ensures holds { (l : Language) (kept : List Candidate) → AreMarksFor l self.old →
+            MarksHold l net.now.list budget self.old → IsSearched l net.now.list kept budget first
+            end place.now.marks.items place.now.answer → MarksHold l net.now.list budget self.new }
     {
         self.take_part(&place.marks, first, end, net, budget);
     }
 
-    /// Takes over what the search of a part found, as far as it searched: for the candidates of the part from the least to the
-    /// greatest that was searched for. The question, if it found one, is kept for the next search.
+    /// Takes over what the search of a part found, as far as it searched: for the candidates of the
+    /// part from the least to the greatest that was searched for. The question, if it found one, is
+    /// kept for the next search.
     ///
-    /// That is all that it found out. What else `take_marks` does matters only where no question was found: there the candidates
-    /// that are open have to be those of the last search.
+    /// That is all that it found out. What else `take_marks` does matters only where no question
+    /// was found: there the candidates that are open have to be those of the last search.
     pub fn take_searched(&mut self, place: &Place, first: u32, end: u32, net: &Network, budget: u32)
         requires part { (first ≤ end) × (end ≤ length self.old.marks) }
         requires room { end - first ≤ vec_len place.now.marks }
-        ensures taken { searched_from place.now first < searched_end place.now end → HasTaken (slice_range place.now.marks.items (searched_from place.now first - first) (searched_end place.now end - first)) (searched_from place.now first) (searched_end place.now end) (remembered_begun self.old (length net.now.list) budget) (record self.new { finds = (remembered_begun self.old (length net.now.list) budget).finds }) }
-        ensures same { searched_end place.now end ≤ searched_from place.now first → self.new ≡ self.old }
+        ensures taken { searched_from place.now first < searched_end place.now end →
+            HasTaken (slice_range place.now.marks.items (searched_from place.now first - first)
+            (searched_end place.now end - first)) (searched_from place.now first)
+            (searched_end place.now end) (remembered_begun self.old (length net.now.list) budget)
+            (record self.new {
+              finds = (remembered_begun self.old (length net.now.list) budget).finds;
+            }) }
+        ensures same { searched_end place.now end ≤ searched_from place.now first →
+            self.new ≡ self.old }
         ensures made { (l : Language) → AreMarksFor l self.old → AreMarksFor l self.new }
-        ensures holds { (l : Language) (kept : List Candidate) → AreMarksFor l self.old → MarksHold l net.now.list budget self.old → IsSearched l net.now.list kept budget first end place.now.marks.items place.now.answer → MarksHold l net.now.list budget self.new }
+        ensures holds { (l : Language) (kept : List Candidate) → AreMarksFor l self.old →
+            MarksHold l net.now.list budget self.old → IsSearched l net.now.list kept budget first
+            end place.now.marks.items place.now.answer → MarksHold l net.now.list budget self.new }
     {
         let from = first.max(place.searched.least);
         let to = end.min(place.searched.greatest.saturating_add(1));
@@ -305,9 +337,12 @@ impl Screen {
     )
         requires part { (first ≤ end) × (end ≤ length self.old.marks) }
         requires room { end - first ≤ length bytes.now }
-        ensures taken { HasTaken bytes.now first end (remembered_begun self.old (length net.now.list) budget) self.new }
+        ensures taken { HasTaken bytes.now first end
+            (remembered_begun self.old (length net.now.list) budget) self.new }
         ensures made { (l : Language) → AreMarksFor l self.old → AreMarksFor l self.new }
-        ensures holds { (l : Language) → AreMarksFor l self.old → MarksHold l net.now.list budget self.old → AreTrue l net.now.list budget first end bytes.now → MarksHold l net.now.list budget self.new }
+        ensures holds { (l : Language) → AreMarksFor l self.old → MarksHold l net.now.list
+            budget self.old → AreTrue l net.now.list budget first end bytes.now →
+            MarksHold l net.now.list budget self.new }
     {
         self.begin(net.len(), budget);
         let count = (end - first) as usize;

@@ -1,6 +1,7 @@
 ghost use Rattle.std.specs.Prelude.{◌≡◌, min};
 
-/// The numbers of candidates from the least to the greatest. There are none where the greatest is below the least.
+/// The numbers of candidates from the least to the greatest. There are none where the greatest is
+/// below the least.
 #[derive(Clone, Copy, Debug, PartialEq, Eq)]
 pub(crate) struct Span {
     pub(crate) least: u32,

@@ -8,4 +8,5 @@ use Rattle.rel_formula.specs.declared.step.Step.{Step}
 use Rattle.rel_formula.specs.contracts.step.Step.{the_row}
 
 abbrev pub truth_code : Coded Truth
-truth_code = code_by (List Step) (coded_list the_row.coded) truth_steps formula_of formula_of-truth_steps
+truth_code =
+    code_by (List Step) (coded_list the_row.coded) truth_steps formula_of formula_of-truth_steps

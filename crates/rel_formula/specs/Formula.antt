@@ -1,13 +1,17 @@
 -- Formulas: truths and terms, and what they are worth at a tuple, over whole numbers without bound.
-use Rattle.std.specs.Prelude.{ℕ, ◌^◌, Bool, not, ◌&&◌, ◌||◌, nat_lt, if◌then◌else◌, List, [], ◌∷◌, ◌++◌, map, position, slice_index_or, Option, Some, None, ℤ, pos, negsuc, ◌+ℤ◌, ◌-ℤ◌, ◌*ℤ◌, int_lt, int_le, unsigned_abs}
+use Rattle.std.specs.Prelude.{ℕ, ◌^◌, Bool, not, ◌&&◌, ◌||◌, nat_lt, if◌then◌else◌, List, [], ◌∷◌}
+use Rattle.std.specs.Prelude.{◌++◌, map, position, slice_index_or, Option, Some, None, ℤ, pos}
+use Rattle.std.specs.Prelude.{negsuc, ◌+ℤ◌, ◌-ℤ◌, ◌*ℤ◌, int_lt, int_le, unsigned_abs}
 use Rattle.std.specs.List.{list_any}
 use Rattle.std.specs.Int.{int_min, int_max}
 use Rattle.std.specs.Ordering.{int_eq}
 use Rattle.rel_table.specs.Relation.{Relation, tuples}
 use Rattle.rel_formula.specs.declared.step.Arithmetic.{Arithmetic}
-use Rattle.rel_formula.specs.declared.step.Arithmetic.TheVariants.{Sum, Difference, Product, Least, Greatest}
+use Rattle.rel_formula.specs.declared.step.Arithmetic.TheVariants.{Sum, Difference, Product, Least}
+use Rattle.rel_formula.specs.declared.step.Arithmetic.TheVariants.{Greatest}
 use Rattle.rel_formula.specs.declared.step.Comparison.{Comparison}
-use Rattle.rel_formula.specs.declared.step.Comparison.TheVariants.{Equal, Different, Below, AtMost, Above, AtLeast}
+use Rattle.rel_formula.specs.declared.step.Comparison.TheVariants.{Equal, Different, Below, AtMost}
+use Rattle.rel_formula.specs.declared.step.Comparison.TheVariants.{Above, AtLeast}
 use Rattle.rel_formula.specs.declared.step.Connective.{Connective}
 use Rattle.rel_formula.specs.declared.step.Connective.TheVariants.{And, Or}
 
@@ -96,8 +100,10 @@ shown_tuple lo tuple = map (λ x. lo +ℤ pos x) tuple
 
 -- a formula's relation of this arity over d values from lo on: its truth at each tuple
 abbrev pub relation_from_formula : Truth → ℕ → ℤ → ℕ → Relation
-relation_from_formula formula arity lo d = map (λ tuple. is_true (shown_tuple lo tuple) formula) (tuples d arity)
+relation_from_formula formula arity lo d =
+    map (λ tuple. is_true (shown_tuple lo tuple) formula) (tuples d arity)
 
 -- the least place at whose tuple some part leaves 64 bits
 abbrev pub first_too_big : Truth → ℕ → ℤ → ℕ → Option ℕ
-first_too_big formula arity lo d = position (λ tuple. is_too_big (shown_tuple lo tuple) formula) (tuples d arity)
+first_too_big formula arity lo d =
+    position (λ tuple. is_too_big (shown_tuple lo tuple) formula) (tuples d arity)

@@ -1,9 +1,12 @@
--- The steps that evaluate a formula, operands before their operator, and the formula that steps evaluate.
+-- The steps that evaluate a formula, operands before their operator, and the formula that steps
+-- evaluate.
 use Rattle.std.specs.Prelude.{pos, List, [], ◌∷◌, ◌++◌}
-use Rattle.rel_formula.specs.Formula.{Term, whole, shown, absolute, combined, Truth, compared, joined, opposite}
+use Rattle.rel_formula.specs.Formula.{Term, whole, shown, absolute, combined, Truth, compared}
+use Rattle.rel_formula.specs.Formula.{joined, opposite}
 use Rattle.rel_formula.specs.declared.step.Comparison.TheVariants.{Equal}
 use Rattle.rel_formula.specs.declared.step.Step.{Step}
-use Rattle.rel_formula.specs.declared.step.Step.TheVariants.{Whole, Shown, Absolute, Combine, Compare, Join, Negate}
+use Rattle.rel_formula.specs.declared.step.Step.TheVariants.{Whole, Shown, Absolute, Combine}
+use Rattle.rel_formula.specs.declared.step.Step.TheVariants.{Compare, Join, Negate}
 
 abbrev pub term_steps : Term → List Step
 term_steps (whole x) = Whole x ∷ []

@@ -1,6 +1,7 @@
 // Sixteen tuples that are evaluated at once, so that a step is looked up once for all of them.
 
-ghost use Rattle.std.specs.Prelude.{◌≡◌, ◌<◌, ◌∷◌, ℕ, ℤ, Bool, List, [], Some, false, not, pos, reverse, slice_index_or, IfSome, OnSome};
+ghost use Rattle.std.specs.Prelude.{◌≡◌, ◌<◌, ◌∷◌, ℕ, ℤ, Bool, List, [], Some, false, not, pos};
+ghost use Rattle.std.specs.Prelude.{reverse, slice_index_or, IfSome, OnSome};
 ghost use Rattle.rel_formula.specs.Formula.{combine, compare, join, size, fitting};
 ghost use Rattle.rel_formula.specs.Machine.{run};
 ghost use Rattle.rel_formula.specs.declared.step.Step.{Step};
@@ -13,7 +14,8 @@ use arrayvec::ArrayVec;
 /// How many tuples are evaluated at once.
 pub const BATCH: usize = 16;
 
-/// The most numbers or truths of a tuple that wait here for their operator. A formula that needs more is evaluated tuple by tuple.
+/// The most numbers or truths of a tuple that wait here for their operator. A formula that needs
+/// more is evaluated tuple by tuple.
 const MOST_WAITING: usize = 64;
 
 /// A number for each tuple.
@@ -24,7 +26,8 @@ pub type Truths = [bool; BATCH];
 
 /// The same numbers. One by one, since only a number that is read is known to fit 64 bits.
 fn copy_each(xs: &Numbers) -> Numbers
-    ensures { (k : ℕ) → k < 16 → fitting (slice_index_or xs.now k (pos 0)) ≡ Some (slice_index_or result k (pos 0)) }
+    ensures { (k : ℕ) → k < 16 →
+        fitting (slice_index_or xs.now k (pos 0)) ≡ Some (slice_index_or result k (pos 0)) }
 {
     let mut made = [0; BATCH];
     for k in 0..BATCH {
@@ -35,7 +38,8 @@ fn copy_each(xs: &Numbers) -> Numbers
 
 /// Puts the absolute value of each number in place of it, where each fits 64 bits.
 fn size_each(xs: &mut Numbers) -> Option<()>
-    ensures { OnSome result ((k : ℕ) → k < 16 → fitting (size (slice_index_or xs.old k (pos 0))) ≡ Some (slice_index_or xs.new k (pos 0))) }
+    ensures { OnSome result ((k : ℕ) → k < 16 →
+        fitting (size (slice_index_or xs.old k (pos 0))) ≡ Some (slice_index_or xs.new k (pos 0))) }
 {
     for k in 0..BATCH {
         xs[k] = size(xs[k])?;
@@ -43,9 +47,11 @@ fn size_each(xs: &mut Numbers) -> Option<()>
     Some(())
 }
 
-/// Puts what an operator makes of two numbers in place of the first, at each tuple, where each fits 64 bits.
+/// Puts what an operator makes of two numbers in place of the first, at each tuple, where each fits
+/// 64 bits.
 fn combine_each(operator: Arithmetic, xs: &mut Numbers, ys: &Numbers) -> Option<()>
-    ensures { OnSome result ((k : ℕ) → k < 16 → fitting (combine operator (slice_index_or xs.old k (pos 0)) (slice_index_or ys.now k (pos 0))) ≡ Some (slice_index_or xs.new k (pos 0))) }
+    ensures { OnSome result ((k : ℕ) → k < 16 → fitting (combine operator (slice_index_or xs.old k
+        (pos 0)) (slice_index_or ys.now k (pos 0))) ≡ Some (slice_index_or xs.new k (pos 0))) }
 {
     for k in 0..BATCH {
         xs[k] = combine(operator, xs[k], ys[k])?;
@@ -56,7 +62,8 @@ fn combine_each(operator: Arithmetic, xs: &mut Numbers, ys: &Numbers) -> Option<
 /// Whether two numbers stand in this relation, at each tuple.
 #[inline(always)]
 fn compare_each(operator: Comparison, xs: &Numbers, ys: &Numbers) -> Truths
-    ensures { (k : ℕ) → k < 16 → slice_index_or result k false ≡ compare operator (slice_index_or xs.now k (pos 0)) (slice_index_or ys.now k (pos 0)) }
+    ensures { (k : ℕ) → k < 16 → slice_index_or result k false
+        ≡ compare operator (slice_index_or xs.now k (pos 0)) (slice_index_or ys.now k (pos 0)) }
 {
     let mut made = [false; BATCH];
     for k in 0..BATCH {
@@ -65,9 +72,11 @@ fn compare_each(operator: Comparison, xs: &Numbers, ys: &Numbers) -> Truths
     made
 }
 
-/// The same, in a loop of its own for each operator, so that the operator isn't asked for at each tuple.
+/// The same, in a loop of its own for each operator, so that the operator isn't asked for at each
+/// tuple.
 fn compare_by(operator: Comparison, xs: &Numbers, ys: &Numbers) -> Truths
-    ensures { (k : ℕ) → k < 16 → slice_index_or result k false ≡ compare operator (slice_index_or xs.now k (pos 0)) (slice_index_or ys.now k (pos 0)) }
+    ensures { (k : ℕ) → k < 16 → slice_index_or result k false
+        ≡ compare operator (slice_index_or xs.now k (pos 0)) (slice_index_or ys.now k (pos 0)) }
 {
     match operator {
         Comparison::Equal => compare_each(Comparison::Equal, xs, ys),
@@ -81,7 +90,8 @@ fn compare_by(operator: Comparison, xs: &Numbers, ys: &Numbers) -> Truths
 
 /// What an operator makes of two truths at each tuple.
 fn join_each(operator: Connective, ps: &Truths, qs: &Truths) -> Truths
-    ensures { (k : ℕ) → k < 16 → slice_index_or result k false ≡ join operator (slice_index_or ps.now k false) (slice_index_or qs.now k false) }
+    ensures { (k : ℕ) → k < 16 → slice_index_or result k false
+        ≡ join operator (slice_index_or ps.now k false) (slice_index_or qs.now k false) }
 {
     let mut made = [false; BATCH];
     for k in 0..BATCH {
@@ -92,7 +102,8 @@ fn join_each(operator: Connective, ps: &Truths, qs: &Truths) -> Truths
 
 /// The opposite of each truth.
 fn negate_each(ps: &Truths) -> Truths
-    ensures { (k : ℕ) → k < 16 → slice_index_or result k false ≡ not (slice_index_or ps.now k false) }
+    ensures { (k : ℕ) → k < 16 →
+        slice_index_or result k false ≡ not (slice_index_or ps.now k false) }
 {
     let mut made = [false; BATCH];
     for k in 0..BATCH {
@@ -122,13 +133,14 @@ fn put<T: Drop>(stack: &mut Waiting<T>, x: T) -> Option<()>
     Some(())
 }
 
-// What needs rows of its own for a step stands apart and is never inlined: `take` would clear room for the rows of each kind of
-// step before every one.
+// What needs rows of its own for a step stands apart and is never inlined: `take` would clear room
+// for the rows of each kind of step before every one.
 
 /// Puts the tuples' values at a position.
 #[inline(never)]
 fn show(numbers: &mut Waiting<Numbers>, tuples: &[Numbers], at: usize) -> Option<()>
-    ensures { OnSome result ((truths : List (List Bool)) → DoesStep (Step.Shown at) tuples.now (reverse numbers.old.items) truths (reverse numbers.new.items) truths) }
+    ensures { OnSome result ((truths : List (List Bool)) → DoesStep (Step.Shown at) tuples.now
+        (reverse numbers.old.items) truths (reverse numbers.new.items) truths) }
 {
     match tuples.get(at) {
         Some(xs) => put(numbers, copy_each(xs)),
@@ -139,7 +151,9 @@ fn show(numbers: &mut Waiting<Numbers>, tuples: &[Numbers], at: usize) -> Option
 /// Puts the absolute values of the latest row of numbers in place of it.
 #[inline(never)]
 fn size_last(numbers: &mut Waiting<Numbers>) -> Option<()>
-    ensures { OnSome result ((tuples : List (List ℤ)) (truths : List (List Bool)) → DoesStep Step.Absolute tuples (reverse numbers.old.items) truths (reverse numbers.new.items) truths) }
+    ensures { OnSome result ((tuples : List (List ℤ)) (truths : List (List Bool)) →
+        DoesStep Step.Absolute tuples (reverse numbers.old.items) truths
+        (reverse numbers.new.items) truths) }
 {
     let last = numbers.len().checked_sub(1)?;
     let rows = numbers.as_mut_slice();
@@ -149,7 +163,9 @@ fn size_last(numbers: &mut Waiting<Numbers>) -> Option<()>
 /// Puts what an operator makes of the two latest rows of numbers in place of them.
 #[inline(never)]
 fn combine_last(numbers: &mut Waiting<Numbers>, operator: Arithmetic) -> Option<()>
-    ensures { OnSome result ((tuples : List (List ℤ)) (truths : List (List Bool)) → DoesStep (Step.Combine operator) tuples (reverse numbers.old.items) truths (reverse numbers.new.items) truths) }
+    ensures { OnSome result ((tuples : List (List ℤ)) (truths : List (List Bool)) →
+        DoesStep (Step.Combine operator) tuples (reverse numbers.old.items) truths
+        (reverse numbers.new.items) truths) }
 {
     let rest = numbers.len().checked_sub(2)?;
     let (firsts, lasts) = numbers.as_mut_slice().split_at_mut(rest + 1);
@@ -165,7 +181,9 @@ fn compare_last(
     truths: &mut Waiting<Truths>,
     operator: Comparison,
 ) -> Option<()>
-    ensures { OnSome result ((tuples : List (List ℤ)) → DoesStep (Step.Compare operator) tuples (reverse numbers.old.items) (reverse truths.old.items) (reverse numbers.new.items) (reverse truths.new.items)) }
+    ensures { OnSome result ((tuples : List (List ℤ)) →
+        DoesStep (Step.Compare operator) tuples (reverse numbers.old.items)
+        (reverse truths.old.items) (reverse numbers.new.items) (reverse truths.new.items)) }
 {
     let rest = numbers.len().checked_sub(2)?;
     let rows = numbers.as_slice();
@@ -193,7 +211,8 @@ impl Batch {
 
     /// The truths that steps end with, or none where some tuple has to be evaluated by itself.
     pub fn ends_of(&mut self, steps: &[Step], tuples: &[Numbers]) -> Option<Truths>
-        ensures { IfSome result (λ ends. (k : ℕ) → k < 16 → run (numbers_at k tuples.now) steps.now [] [] ≡ Some (Some (slice_index_or ends k false))) }
+        ensures { IfSome result (λ ends. (k : ℕ) → k < 16 → run (numbers_at k tuples.now) steps.now
+            [] [] ≡ Some (Some (slice_index_or ends k false))) }
     {
         self.numbers.clear();
         self.truths.clear();
@@ -205,7 +224,9 @@ impl Batch {
 
     /// Does one step at each tuple, or answers none where some tuple has to be evaluated by itself.
     fn take(&mut self, step: Step, tuples: &[Numbers]) -> Option<()>
-        ensures { OnSome result (DoesStep step tuples.now (reverse self.old.numbers.items) (reverse self.old.truths.items) (reverse self.new.numbers.items) (reverse self.new.truths.items)) }
+        ensures { OnSome result (DoesStep step tuples.now (reverse self.old.numbers.items)
+            (reverse self.old.truths.items) (reverse self.new.numbers.items)
+            (reverse self.new.truths.items)) }
     {
         match step {
             Step::Whole(x) => put(&mut self.numbers, [x; BATCH]),

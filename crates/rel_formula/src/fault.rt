@@ -1,7 +1,8 @@
 use std::alloc::{AllocError, AllocFailed};
 use thiserror::Error;
 
-/// Why a JSON value is no formula. Nodes are numbered from 0 in the order of the text, an array before its operands.
+/// Why a JSON value is no formula. Nodes are numbered from 0 in the order of the text, an array
+/// before its operands.
 #[derive(Clone, Copy, Debug, PartialEq, Eq, Error)]
 pub enum FormulaFault {
     /// The node of this number isn't what is wanted there.

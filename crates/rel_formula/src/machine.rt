@@ -1,5 +1,7 @@
 // The stacks on which a formula is evaluated.
-ghost use Rattle.std.specs.Prelude.{◌≡◌, ◌+◌, ◌<◌, ◌≤◌, ◌∷◌, [], List, Some, None, pos, if◌then◌else◌, length, reverse, slice_index_or, is_some, IsSome, IfSome};
+ghost use Rattle.std.specs.Prelude.{◌≡◌, ◌+◌, ◌<◌, ◌≤◌, ◌∷◌, [], List, Some, None, pos};
+ghost use Rattle.std.specs.Prelude.{if◌then◌else◌, length, reverse, slice_index_or, is_some};
+ghost use Rattle.std.specs.Prelude.{IsSome, IfSome};
 ghost use Rattle.arrayvec.specs.ArrayVec.{array_vec_len};
 ghost use Rattle.rel_formula.specs.Formula.{combine, compare, join, size, fits, fitting};
 ghost use Rattle.rel_formula.specs.Machine.{run, numbers_taken, truths_taken};
@@ -87,7 +89,10 @@ impl Stacks {
         requires truths { truths_taken step ≤ array_vec_len self.old.truths }
         requires room { array_vec_len self.old.numbers < 400 }
         requires truth_room { array_vec_len self.old.truths < 400 }
-        ensures runs { (rest : List Step) → run tuple.now (step ∷ rest) (reverse self.old.numbers.items) (reverse self.old.truths.items) ≡ (if result then run tuple.now rest (reverse self.new.numbers.items) (reverse self.new.truths.items) else Some None) }
+        ensures runs { (rest : List Step) →
+            run tuple.now (step ∷ rest) (reverse self.old.numbers.items)
+            (reverse self.old.truths.items) ≡ (if result then run tuple.now rest
+            (reverse self.new.numbers.items) (reverse self.new.truths.items) else Some None) }
         ensures numbers { array_vec_len self.new.numbers ≤ array_vec_len self.old.numbers + 1 }
         ensures truths { array_vec_len self.new.truths ≤ array_vec_len self.old.truths + 1 }
     {

@@ -1,7 +1,10 @@
 // The names of positions and operators in a JSON value.
 ghost use Rattle.std.specs.Prelude.{◌≡◌, ◌≤◌, length, pos};
 ghost use Rattle.serde_json.specs.View.{view, items_view};
-ghost use Rattle.rel_formula.specs.Names.{positions, position_of, named, term_operators, truth_operators, operator_of, operator_in, term_takes, truth_takes, as_term_operator, as_truth_operator, term_operator_in, truth_operator_in};
+ghost use Rattle.rel_formula.specs.Names.{positions, position_of, named, term_operators};
+ghost use Rattle.rel_formula.specs.Names.{truth_operators, operator_of, operator_in, term_takes};
+ghost use Rattle.rel_formula.specs.Names.{truth_takes, as_term_operator, as_truth_operator};
+ghost use Rattle.rel_formula.specs.Names.{term_operator_in, truth_operator_in};
 
 use crate::fault::FormulaFault;
 use crate::step::{Arithmetic, Comparison, Connective, Operator, TermOperator, TruthOperator};

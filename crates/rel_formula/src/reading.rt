@@ -1,5 +1,6 @@
 // Reading a JSON value into steps, node after node.
-ghost use Rattle.std.specs.Prelude.{◌≡◌, ◌≢◌, ◌+◌, ◌*◌, ◌<◌, ◌≤◌, ◌++◌, ◌∷◌, [], List, Some, None, Err, length, IfOk, IfErr, OnOk, OnErr};
+ghost use Rattle.std.specs.Prelude.{◌≡◌, ◌≢◌, ◌+◌, ◌*◌, ◌<◌, ◌≤◌, ◌++◌, ◌∷◌, [], List, Some, None};
+ghost use Rattle.std.specs.Prelude.{Err, length, IfOk, IfErr, OnOk, OnErr};
 ghost use Rattle.rel_formula.specs.Reading.{limit_refusal};
 
 use crate::fault::FormulaFault;

@@ -48,7 +48,8 @@ pub enum Operator {
     Truth(TruthOperator),
 }
 
-/// One step of a formula's evaluation. It puts a number or a truth on its stack, in place of those that it takes.
+/// One step of a formula's evaluation. It puts a number or a truth on its stack, in place of those
+/// that it takes.
 #[derive(Clone, Copy, Debug, PartialEq, Eq)]
 pub enum Step {
     /// Puts this number.

@@ -1,5 +1,7 @@
 // A formula's table.
-ghost use Rattle.std.specs.Prelude.{◌≡◌, ◌≢◌, ◌+◌, ◌-◌, ◌*◌, ◌^◌, ◌<◌, ◌≤◌, ◌≤ℤ◌, ◌+ℤ◌, ℕ, Some, None, pos, negsuc, take, slice_index_or, slice_set, IfOk, IfErr, OnOk};
+ghost use Rattle.std.specs.Prelude.{◌≡◌, ◌≢◌, ◌+◌, ◌-◌, ◌*◌, ◌^◌, ◌<◌, ◌≤◌, ◌≤ℤ◌, ◌+ℤ◌, ℕ, Some};
+ghost use Rattle.std.specs.Prelude.{None, pos, negsuc, take, slice_index_or, slice_set, IfOk};
+ghost use Rattle.std.specs.Prelude.{IfErr, OnOk};
 ghost use Rattle.rel_formula.specs.Batch.{numbers_at};
 ghost use Rattle.std.specs.Option.{option_map};
 ghost use Rattle.rel_table.specs.Relation.{tuple_at};
@@ -46,7 +48,8 @@ fn shown_at(arity: u8, lo: i64, d: u8, place: u32) -> [i64; 4]
     shown
 }
 
-/// Adds the formula's truths in the rest of one row, tuple by tuple: at the places whose tuples begin with the tuple of this number, and end with a value from `first` on.
+/// Adds the formula's truths in the rest of one row, tuple by tuple: at the places whose tuples
+/// begin with the tuple of this number, and end with a value from `first` on.
 fn add_rest(
     f: &Formula,
     arity: u8,
@@ -66,7 +69,8 @@ fn add_rest(
     requires high { lo ≤ℤ pos 1000000 }
     requires so_far { AreTruthsTo f.now arity lo d (row * d + first) truths.old.items }
     ensures so_far { OnOk result (AreTruthsTo f.now arity lo d (row * d + d) truths.new.items) }
-    ensures refused { IfErr result (λ e. e ≢ TableOfFault.Memory → option_map TableOfFault.TooBig (first_too_big f.now arity lo d) ≡ Some e) }
+    ensures refused { IfErr result (λ e. e ≢ TableOfFault.Memory →
+        option_map TableOfFault.TooBig (first_too_big f.now arity lo d) ≡ Some e) }
 {
     let last = usize::from(arity - 1);
     let mut shown = shown_at(arity - 1, lo, d, row);
@@ -101,12 +105,14 @@ fn counted(lo: i64, first: u8) -> Numbers
     values
 }
 
-/// The tuples that have these values, but at the position `last` the shown values from `first` on: a row of numbers for each position.
+/// The tuples that have these values, but at the position `last` the shown values from `first` on:
+/// a row of numbers for each position.
 fn batch_from(shown: &[i64; 4], last: usize, lo: i64, first: u8) -> [Numbers; 4]
     requires within { last < 4 }
     requires low { negsuc 999999 ≤ℤ lo }
     requires high { lo ≤ℤ pos 1000000 }
-    ensures { (k : ℕ) → k < 16 → numbers_at k result ≡ slice_set shown.now last (lo +ℤ pos (first + k)) }
+    ensures { (k : ℕ) → k < 16 →
+        numbers_at k result ≡ slice_set shown.now last (lo +ℤ pos (first + k)) }
 {
     let mut tuples = [
         repeated(shown[0]),
@@ -118,7 +124,8 @@ fn batch_from(shown: &[i64; 4], last: usize, lo: i64, first: u8) -> [Numbers; 4]
     tuples
 }
 
-/// Adds the formula's truths in one row: at the places whose tuples begin with the tuple of this number, and differ in their last value alone.
+/// Adds the formula's truths in one row: at the places whose tuples begin with the tuple of this
+/// number, and differ in their last value alone.
 fn add_row(
     f: &Formula,
     arity: u8,
@@ -137,7 +144,8 @@ fn add_row(
     requires high { lo ≤ℤ pos 1000000 }
     requires so_far { AreTruthsTo f.now arity lo d (row * d) truths.old.items }
     ensures so_far { OnOk result (AreTruthsTo f.now arity lo d (row * d + d) truths.new.items) }
-    ensures refused { IfErr result (λ e. e ≢ TableOfFault.Memory → option_map TableOfFault.TooBig (first_too_big f.now arity lo d) ≡ Some e) }
+    ensures refused { IfErr result (λ e. e ≢ TableOfFault.Memory →
+        option_map TableOfFault.TooBig (first_too_big f.now arity lo d) ≡ Some e) }
 {
     let last = usize::from(arity - 1);
     let shown = shown_at(arity - 1, lo, d, row);
@@ -172,7 +180,8 @@ fn truths_of(
     requires high { lo ≤ℤ pos 1000000 }
     ensures truth { IfOk result (λ v. v.items ≡ relation_from_formula f.now arity lo d) }
     ensures fits { OnOk result (first_too_big f.now arity lo d ≡ None) }
-    ensures refused { IfErr result (λ e. e ≢ TableOfFault.Memory → option_map TableOfFault.TooBig (first_too_big f.now arity lo d) ≡ Some e) }
+    ensures refused { IfErr result (λ e. e ≢ TableOfFault.Memory →
+        option_map TableOfFault.TooBig (first_too_big f.now arity lo d) ≡ Some e) }
 {
     let rows = tuple_count(arity - 1, d);
     let mut truths = Vec::with_capacity(alloc, rows as usize * usize::from(d))?;
@@ -184,9 +193,11 @@ fn truths_of(
     Ok(truths)
 }
 
-/// The table of a formula over d values, the least of which is shown as `lo`: its truth at each tuple.
+/// The table of a formula over d values, the least of which is shown as `lo`: its truth at each
+/// tuple.
 ///
-/// Every part of the formula is evaluated at every tuple. A position that tuples of this arity lack is worth 0.
+/// Every part of the formula is evaluated at every tuple. A position that tuples of this arity lack
+/// is worth 0.
 pub fn table_of(
     alloc: Global,
     f: &Formula,
@@ -201,9 +212,14 @@ pub fn table_of(
     requires fits { d ^ arity ≤ 65536 }
     requires low { negsuc 999999 ≤ℤ lo }
     requires high { lo ≤ℤ pos 1000000 }
-    ensures table { IfOk result (λ t. t ≡ record { arity = arity; value_count = d; truth = relation_from_formula f.now arity lo d }) }
+    ensures table { IfOk result (λ t. t ≡ record {
+      arity = arity;
+      value_count = d;
+      truth = relation_from_formula f.now arity lo d;
+    }) }
     ensures fits { OnOk result (first_too_big f.now arity lo d ≡ None) }
-    ensures refused { IfErr result (λ e. e ≢ TableOfFault.Memory → option_map TableOfFault.TooBig (first_too_big f.now arity lo d) ≡ Some e) }
+    ensures refused { IfErr result (λ e. e ≢ TableOfFault.Memory →
+        option_map TableOfFault.TooBig (first_too_big f.now arity lo d) ≡ Some e) }
 {
     let truths = truths_of(alloc, f, arity, lo, d as u8)?;
     match Table::from_truth(alloc, arity, d as u8, &truths) {

@@ -3,7 +3,8 @@ ghost use Rattle.std.specs.Prelude.{◌≡◌, ◌≢◌, ◌+◌, ◌-◌, ◌<
 ghost use Rattle.serde_json.specs.View.{view, items_view};
 ghost use Rattle.rel_formula.specs.Adding.{ReadsSteps};
 ghost use Rattle.rel_formula.specs.Answers.{then_on};
-ghost use Rattle.rel_formula.specs.Reading.{read_term, read_term_call, read_terms, applied, text_term};
+ghost use Rattle.rel_formula.specs.Reading.{read_term, read_term_call, read_terms, applied};
+ghost use Rattle.rel_formula.specs.Reading.{text_term};
 ghost use Rattle.rel_formula.specs.Steps.{term_steps};
 
 use crate::fault::FormulaFault;
@@ -17,7 +18,8 @@ impl Reading {
     fn position(&mut self, arity: u8, text: &str, node: u32) -> Result<(), FormulaFault>
         requires begun { self.old.next ≡ node + 1 }
         requires few { node < 200 }
-        ensures { ReadsSteps term_steps (text_term arity node text.now) node self.old self.new result }
+        ensures { ReadsSteps term_steps
+            (text_term arity node text.now) node self.old self.new result }
     {
         let at = position_of(arity, text).ok_or(FormulaFault::BadPosition(node))?;
         self.put(Step::Shown(at))
@@ -27,7 +29,8 @@ impl Reading {
     #[cycle(terms)]
     pub fn term(&mut self, arity: u8, value: &Value, depth: u32) -> Result<(), FormulaFault>
         requires { depth ≤ 33 }
-        ensures { ReadsSteps term_steps (read_term arity depth self.old.next (view value.now)) self.old.next self.old self.new result }
+        ensures { ReadsSteps term_steps (read_term arity depth self.old.next (view value.now))
+            self.old.next self.old self.new result }
     {
         let node = self.enter(depth)?;
         if let Some(x) = value.as_i64() {
@@ -54,7 +57,8 @@ impl Reading {
         requires depth { depth ≤ 32 }
         requires begun { self.old.next ≡ node + 1 }
         requires few { node < 200 }
-        ensures { ReadsSteps term_steps (read_term_call arity depth node (items_view items.now)) node self.old self.new result }
+        ensures { ReadsSteps term_steps
+            (read_term_call arity depth node (items_view items.now)) node self.old self.new result }
     {
         let operator = term_operator_in(items, node)?;
         let operands = &items[1..];
@@ -75,7 +79,9 @@ impl Reading {
         requires depth { depth ≤ 33 }
         requires one { length operands.now ≡ 1 }
         requires begun { 1 ≤ self.old.next }
-        ensures { ReadsSteps term_steps (then_on (read_terms arity depth self.old.next (items_view operands.now)) (λ read. Ok (applied TermOperator.Absolute read.0, read.1))) (self.old.next - 1) self.old self.new result }
+        ensures { ReadsSteps term_steps (then_on (read_terms arity depth self.old.next
+            (items_view operands.now)) (λ read. Ok (applied TermOperator.Absolute read.0, read.1)))
+            (self.old.next - 1) self.old self.new result }
     {
         self.term(arity, &operands[0], depth)?;
         self.put(Step::Absolute)
@@ -92,7 +98,9 @@ impl Reading {
     ) -> Result<(), FormulaFault>
         requires depth { depth ≤ 33 }
         requires some { 1 ≤ length operands.now }
-        ensures { ReadsSteps term_steps (then_on (read_terms arity depth self.old.next (items_view operands.now)) (λ read. Ok (applied (TermOperator.Arithmetic operator) read.0, read.1))) self.old.next self.old self.new result }
+        ensures { ReadsSteps term_steps (then_on (read_terms arity depth self.old.next (items_view
+            operands.now)) (λ read. Ok (applied (TermOperator.Arithmetic operator) read.0, read.1)))
+            self.old.next self.old self.new result }
     {
         self.term(arity, &operands[0], depth)?;
         for operand in &operands[1..] {

@@ -3,7 +3,8 @@ ghost use Rattle.std.specs.Prelude.{◌≡◌, ◌≢◌, ◌+◌, ◌-◌, ◌<
 ghost use Rattle.serde_json.specs.View.{view, items_view};
 ghost use Rattle.rel_formula.specs.Adding.{ReadsSteps};
 ghost use Rattle.rel_formula.specs.Answers.{then_on};
-ghost use Rattle.rel_formula.specs.Reading.{read_terms, comparison_of, text_truth, read_truth, read_truth_call, read_truths, connected, negated};
+ghost use Rattle.rel_formula.specs.Reading.{read_terms, comparison_of, text_truth, read_truth};
+ghost use Rattle.rel_formula.specs.Reading.{read_truth_call, read_truths, connected, negated};
 ghost use Rattle.rel_formula.specs.Steps.{truth_steps};
 
 use crate::fault::FormulaFault;
@@ -27,7 +28,8 @@ impl Reading {
     #[cycle(truths)]
     pub fn truth(&mut self, arity: u8, value: &Value, depth: u32) -> Result<(), FormulaFault>
         requires { depth ≤ 33 }
-        ensures { ReadsSteps truth_steps (read_truth arity depth self.old.next (view value.now)) self.old.next self.old self.new result }
+        ensures { ReadsSteps truth_steps (read_truth arity depth self.old.next (view value.now))
+            self.old.next self.old self.new result }
     {
         let node = self.enter(depth)?;
         if let Some(text) = value.as_str() {
@@ -51,7 +53,8 @@ impl Reading {
         requires depth { depth ≤ 32 }
         requires begun { self.old.next ≡ node + 1 }
         requires few { node < 200 }
-        ensures { ReadsSteps truth_steps (read_truth_call arity depth node (items_view items.now)) node self.old self.new result }
+        ensures { ReadsSteps truth_steps (read_truth_call arity depth node (items_view items.now))
+            node self.old self.new result }
     {
         let operator = truth_operator_in(items, node)?;
         let operands = &items[1..];
@@ -82,7 +85,9 @@ impl Reading {
     ) -> Result<(), FormulaFault>
         requires depth { depth ≤ 33 }
         requires two { length operands.now ≡ 2 }
-        ensures { ReadsSteps truth_steps (then_on (read_terms arity depth self.old.next (items_view operands.now)) (λ read. Ok (comparison_of operator read.0, read.1))) self.old.next self.old self.new result }
+        ensures { ReadsSteps truth_steps
+            (then_on (read_terms arity depth self.old.next (items_view operands.now)) (λ read.
+            Ok (comparison_of operator read.0, read.1))) self.old.next self.old self.new result }
     {
         self.term(arity, &operands[0], depth)?;
         self.term(arity, &operands[1], depth)?;
@@ -100,7 +105,9 @@ impl Reading {
         requires depth { depth ≤ 33 }
         requires one { length operands.now ≡ 1 }
         requires begun { 1 ≤ self.old.next }
-        ensures { ReadsSteps truth_steps (then_on (read_truths arity depth self.old.next (items_view operands.now)) (λ read. Ok (negated read.0, read.1))) (self.old.next - 1) self.old self.new result }
+        ensures { ReadsSteps truth_steps
+            (then_on (read_truths arity depth self.old.next (items_view operands.now))
+            (λ read. Ok (negated read.0, read.1))) (self.old.next - 1) self.old self.new result }
     {
         self.truth(arity, &operands[0], depth)?;
         self.put(Step::Negate)
@@ -117,7 +124,9 @@ impl Reading {
     ) -> Result<(), FormulaFault>
         requires depth { depth ≤ 33 }
         requires some { 1 ≤ length operands.now }
-        ensures { ReadsSteps truth_steps (then_on (read_truths arity depth self.old.next (items_view operands.now)) (λ read. Ok (connected operator read.0, read.1))) self.old.next self.old self.new result }
+        ensures { ReadsSteps truth_steps
+            (then_on (read_truths arity depth self.old.next (items_view operands.now)) (λ read.
+            Ok (connected operator read.0, read.1))) self.old.next self.old self.new result }
     {
         self.truth(arity, &operands[0], depth)?;
         for operand in &operands[1..] {

@@ -1,9 +1,11 @@
 -- What words stand for: a list of truth values, 64 to a word.
-use Rattle.std.specs.Prelude.{◌≡◌, ◌≢◌, ℕ, ◌/◌, ◌%◌, ◌^◌, ◌<◌, ◌≤◌, List, length, map, slice_index_or, Bool, false, nat_eq, ◌⊎◌}
+use Rattle.std.specs.Prelude.{◌≡◌, ◌≢◌, ℕ, ◌/◌, ◌%◌, ◌^◌, ◌<◌, ◌≤◌, List, length, map}
+use Rattle.std.specs.Prelude.{slice_index_or, Bool, false, nat_eq, ◌⊎◌}
 use Rattle.std.specs.List.{range_with_len}
 use Rattle.std.specs.Int.{bit_at, div_ceil}
 
--- whether truth value number `at` is true: it is bit at % 64 of word at / 64, and false past the last word
+-- whether truth value number `at` is true: it is bit at % 64 of word at / 64, and false past the
+-- last word
 unfoldable pub is_marked : List ℕ → ℕ → Bool
 is_marked words at = nat_eq (bit_at (slice_index_or words (at / 64) 0) (at % 64)) 1
 

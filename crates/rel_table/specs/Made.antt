@@ -1,12 +1,16 @@
 -- Which tables can be made of tuples, and what they accept.
-use Rattle.std.specs.Prelude.{◌≡◌, ℕ, ◌+◌, ◌^◌, ◌<◌, List, [], ◌∷◌, length, map, slice_index_or, Bool, false, ◌&&◌, nat_eq, nat_le, if◌then◌else◌, ℤ, pos, negsuc, ◌-ℤ◌, ◌+ℤ◌, int_lt, int_le, unsigned_abs, Option, Some, None, Result, Ok, Err, Vec}
+use Rattle.std.specs.Prelude.{◌≡◌, ℕ, ◌+◌, ◌^◌, ◌<◌, List, [], ◌∷◌, length, map, slice_index_or}
+use Rattle.std.specs.Prelude.{Bool, false, ◌&&◌, nat_eq, nat_le, if◌then◌else◌, ℤ, pos, negsuc}
+use Rattle.std.specs.Prelude.{◌-ℤ◌, ◌+ℤ◌, int_lt, int_le, unsigned_abs, Option, Some, None, Result}
+use Rattle.std.specs.Prelude.{Ok, Err, Vec}
 use Rattle.std.specs.List.{list_all, list_any}
 use Rattle.std.specs.Option.{option_or}
 use Rattle.std.specs.declared.alloc.Global.{Global}
 use Rattle.rel_table.specs.Relation.{place}
 use Rattle.rel_table.specs.Table.{TruthTable}
 use Rattle.rel_table.specs.declared.table.TableFault.{TableFault}
-use Rattle.rel_table.specs.declared.table.TableFault.TheVariants.{BadArity, TupleLength, ValueOut, TooLarge}
+use Rattle.rel_table.specs.declared.table.TableFault.TheVariants.{BadArity, TupleLength, ValueOut}
+use Rattle.rel_table.specs.declared.table.TableFault.TheVariants.{TooLarge}
 
 -- an arity of 1 to 4
 abbrev pub arity_of : ℤ → Option ℕ
@@ -42,7 +46,8 @@ tuple_fault a lo d i tuple =
 -- the first tuple that is wrong, where the first is number i
 abbrev pub first_fault : ℕ → ℤ → ℕ → ℕ → List (List ℤ) → Option TableFault
 first_fault a lo d i [] = None
-first_fault a lo d i (tuple ∷ tuples) = option_or (tuple_fault a lo d i tuple) (first_fault a lo d (i + 1) tuples)
+first_fault a lo d i (tuple ∷ tuples) =
+    option_or (tuple_fault a lo d i tuple) (first_fault a lo d (i + 1) tuples)
 
 -- why no table is made of these tuples
 abbrev pub refusal_from : Result ℕ TableFault → Option TableFault → Option TableFault
@@ -58,10 +63,12 @@ refusal_of arity lo d tuples = refusal_for (arity_of arity) lo d tuples
 
 -- the places of the tuples are true, and no others
 abbrev pub Marks : ℤ → ℕ → List (List ℤ) → List Bool → Type 0
-Marks lo d tuples truth = (at : ℕ) → at < length truth → slice_index_or truth at false ≡ list_any (λ tuple. nat_eq (place_of_shown lo d tuple) at) tuples
+Marks lo d tuples truth = (at : ℕ) → at < length truth →
+    slice_index_or truth at false ≡ list_any (λ tuple. nat_eq (place_of_shown lo d tuple) at) tuples
 
 -- the relation accepts exactly the tuples
-pub record IsMade (arity lo : ℤ) (d : ℕ) (tuples : List (List ℤ)) (table : TruthTable) : Type 0 where
+pub record IsMade (arity lo : ℤ) (d : ℕ) (tuples : List (List ℤ)) (table : TruthTable) :
+    Type 0 where
   pub long : arity_of arity ≡ Some table.arity
   pub values : table.value_count ≡ d
   pub right : refusal_of arity lo d tuples ≡ None

@@ -1,5 +1,8 @@
--- Relations: a relation of arity a over d values is the list of its d^a truth values, one for each tuple.
-use Rattle.std.specs.Prelude.{ℕ, ◌+◌, ◌*◌, ◌/◌, ◌%◌, ◌^◌, zero, suc, Bool, true, false, ◌&&◌, IsTrue, ◌≡◌, List, [], ◌∷◌, map, slice_index_or, All, Contains, AllPairs}
+-- Relations: a relation of arity a over d values is the list of its d^a truth values, one for each
+-- tuple.
+use Rattle.std.specs.Prelude.{ℕ, ◌+◌, ◌*◌, ◌/◌, ◌%◌, ◌^◌, zero, suc, Bool, true, false, ◌&&◌}
+use Rattle.std.specs.Prelude.{IsTrue, ◌≡◌, List, [], ◌∷◌, map, slice_index_or, All, Contains}
+use Rattle.std.specs.Prelude.{AllPairs}
 use Rattle.std.specs.List.{fold, flat_map, range_with_len, zip}
 
 abbrev pub Relation : Type 0
@@ -48,7 +51,8 @@ pub record IsIntersection (file : List Relation) (r : Relation) : Type 0 where
   pub more_given : All (Contains file) more
   pub is : r ≡ meet_all first more
 
--- all intersections of relations of the file, no two the same, in falling order of their truth values
+-- all intersections of relations of the file, no two the same, in falling order of their truth
+-- values
 pub record IsClosing (file closed : List Relation) : Type 0 where
   pub each : All (IsIntersection file) closed
   pub every : (r : Relation) → IsIntersection file r → Contains closed r

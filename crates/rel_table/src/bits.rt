@@ -1,6 +1,8 @@
 //! Lists of truth values as bits, 64 to a machine word.
 
-ghost use Rattle.std.specs.Prelude.{◌≡◌, ◌≢◌, ◌+◌, ◌<◌, ◌≤◌, ◌↔◌, ℕ, length, map, replicate, set, slice_index_or, IsTrue, IfOk, Bool, false, true, if◌then◌else◌, nat_eq, bit_and};
+ghost use Rattle.std.specs.Prelude.{◌≡◌, ◌≢◌, ◌+◌, ◌<◌, ◌≤◌, ◌↔◌, ℕ, length, map, replicate, set};
+ghost use Rattle.std.specs.Prelude.{slice_index_or, IsTrue, IfOk, Bool, false, true, if◌then◌else◌};
+ghost use Rattle.std.specs.Prelude.{nat_eq, bit_and};
 ghost use Rattle.std.specs.List.{list_all, zip};
 ghost use Rattle.std.specs.Int.{bit_at, bit_not, w64};
 ghost use Rattle.rel_table.specs.Relation.{meet, is_above};
@@ -14,7 +16,8 @@ use std::marker::Model;
 pub struct Bits {
     /// How many truth values there are.
     count: usize,
-    /// Truth value i is bit i % 64 of word i / 64. The bits beyond the last one are zero, so that equal lists have equal words.
+    /// Truth value i is bit i % 64 of word i / 64. The bits beyond the last one are zero, so that
+    /// equal lists have equal words.
     words: Vec<u64>,
 }
 
@@ -67,13 +70,15 @@ impl Bits {
         (self.words[at / 64] >> (at % 64)) & 1 == 1
     }
 
-    /// The truth values from a place on, so many, as the lowest bits of a word. Its other bits mean nothing.
+    /// The truth values from a place on, so many, as the lowest bits of a word. Its other bits mean
+    /// nothing.
     #[inline]
     pub fn row(&self, at: usize, count: usize) -> u64
         requires some { 1 ≤ count }
         requires few { count ≤ 64 }
         requires within { at + count ≤ length self.now }
-        ensures { (k : ℕ) → k < count → nat_eq (bit_at result k) 1 ≡ slice_index_or self.now (at + k) false }
+        ensures { (k : ℕ) → k < count →
+            nat_eq (bit_at result k) 1 ≡ slice_index_or self.now (at + k) false }
     {
         let shift = at % 64;
         let low = self.words[at / 64] >> shift;
@@ -129,7 +134,8 @@ impl Bits {
 
     /// Whether the other list is true where this one is, as far as both go.
     pub(crate) fn within(&self, other: &Bits) -> bool
-        ensures { result ≡ list_all (λ (p : Bool × Bool). if p.0 then p.1 else true) (zip self.now other.now) }
+        ensures { result
+            ≡ list_all (λ (p : Bool × Bool). if p.0 then p.1 else true) (zip self.now other.now) }
     {
         if self.count == other.count {
             lacks_none(&self.words, &other.words)
@@ -138,9 +144,11 @@ impl Bits {
         }
     }
 
-    /// `within` one truth value after another, for lists of two lengths: what the longer one has beyond the shorter one doesn't count.
+    /// `within` one truth value after another, for lists of two lengths: what the longer one has
+    /// beyond the shorter one doesn't count.
     fn values_within(&self, other: &Bits) -> bool
-        ensures { result ≡ list_all (λ (p : Bool × Bool). if p.0 then p.1 else true) (zip self.now other.now) }
+        ensures { result
+            ≡ list_all (λ (p : Bool × Bool). if p.0 then p.1 else true) (zip self.now other.now) }
     {
         for at in 0..self.len().min(other.len()) {
             if self.get(at) && !other.get(at) {
@@ -202,7 +210,8 @@ fn both(alloc: Global, a: &[u64], b: &[u64]) -> Result<Vec<u64>, AllocError>
 
 /// Whether no word has a one that the other list's word lacks.
 fn lacks_none(a: &[u64], b: &[u64]) -> bool
-    ensures { result ≡ list_all (λ (p : ℕ × ℕ). nat_eq (bit_and p.0 (bit_not w64 p.1)) 0) (zip a.now b.now) }
+    ensures { result ≡ list_all (λ (p : ℕ × ℕ). nat_eq (bit_and p.0 (bit_not w64 p.1)) 0)
+        (zip a.now b.now) }
 {
     a.iter().zip(b.iter()).all(|(x, y)| x & !y == 0)
 }

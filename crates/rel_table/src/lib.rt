@@ -1,5 +1,6 @@
-//! Relations as tables. A relation is seen as the list of its truth values, one for each tuple in the order of the places; a tuple's place is
-//! its number in base d. The crates above rely on this alone, and never on the bits in which a table keeps it.
+//! Relations as tables. A relation is seen as the list of its truth values, one for each tuple in
+//! the order of the places; a tuple's place is its number in base d. The crates above rely on this
+//! alone, and never on the bits in which a table keeps it.
 //!
 //! | to | call |
 //! |---|---|

@@ -3,8 +3,8 @@
 ghost use Rattle.std.specs.Prelude.{◌≡◌, ◌-◌, ◌^◌, ◌<◌, ◌≤◌, take, drop, replicate, All};
 ghost use Rattle.rel_table.specs.Relation.{tuple_at};
 
-/// The number of places that tuples of this arity over d values have, which is d to the power of the arity. Most are pairs, which are
-/// spared the general way.
+/// The number of places that tuples of this arity over d values have, which is d to the power of
+/// the arity. Most are pairs, which are spared the general way.
 pub fn place_count(d: u8, arity: u8) -> u32
     requires { arity ≤ 4 }
     ensures { result ≡ d ^ arity }
@@ -16,7 +16,8 @@ pub fn place_count(d: u8, arity: u8) -> u32
     d.pow(u32::from(arity))
 }
 
-/// The tuple of this arity over d values that stands at a place: its first `arity` entries, and then zeros.
+/// The tuple of this arity over d values that stands at a place: its first `arity` entries, and
+/// then zeros.
 pub fn tuple_of(d: u8, arity: u8, place: u32) -> [u8; 4]
     requires short { arity ≤ 4 }
     requires within { place < d ^ arity }

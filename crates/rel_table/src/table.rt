@@ -1,9 +1,14 @@
-ghost use Rattle.std.specs.Prelude.{◌≡◌, ◌+◌, ◌-◌, ◌*◌, ◌^◌, ◌<◌, ◌≤◌, ◌≢◌, ◌↔◌, ℕ, ℤ, pos, negsuc, ◌≤ℤ◌, length, replicate, IsTrue, IfOk, IfErr, OnOk, Option, Some, None, Ok, Err, Bool, false, true, if◌then◌else◌, All, nat_eq};
+ghost use Rattle.std.specs.Prelude.{◌≡◌, ◌+◌, ◌-◌, ◌*◌, ◌^◌, ◌<◌, ◌≤◌, ◌≢◌, ◌↔◌, ℕ, ℤ, pos, negsuc};
+ghost use Rattle.std.specs.Prelude.{◌≤ℤ◌, length, replicate, IsTrue, IfOk, IfErr, OnOk, Option};
+ghost use Rattle.std.specs.Prelude.{Some, None, Ok, Err, Bool, false, true, if◌then◌else◌, All};
+ghost use Rattle.std.specs.Prelude.{nat_eq};
 ghost use Rattle.std.specs.List.{list_all, zip};
 ghost use Rattle.std.specs.Int.{bit_at};
 ghost use Rattle.rel_table.specs.Relation.{place, holds, meet, is_above};
 ghost use Rattle.rel_table.specs.Table.{truth_at, IsTable};
-ghost use Rattle.rel_table.specs.Made.{arity_of, size_for, size_of, is_shown, index_of, place_of_shown, tuple_fault, first_fault, refusal_of, IsMade, Marks, lists};
+ghost use Rattle.rel_table.specs.Made.{arity_of, size_for, size_of, is_shown, index_of};
+ghost use Rattle.rel_table.specs.Made.{place_of_shown, tuple_fault, first_fault, refusal_of};
+ghost use Rattle.rel_table.specs.Made.{IsMade, Marks, lists};
 
 use crate::bits::Bits;
 use std::alloc::{AllocError, AllocFailed, Global};
@@ -125,7 +130,8 @@ fn power(d: u32, a: u8) -> Result<u32, TableFault>
 
 /// The number of tuples of this arity over d values, which is d to the power of the arity.
 ///
-/// `BadArity` where the arity isn't 1 to 4, whatever d is; else `TooLarge` where there are more than 65,536 tuples. Takes no memory.
+/// `BadArity` where the arity isn't 1 to 4, whatever d is; else `TooLarge` where there are more
+/// than 65,536 tuples. Takes no memory.
 pub fn table_size(arity: i64, d: u32) -> Result<u32, TableFault>
     ensures { result ≡ size_of arity d }
 {
@@ -135,9 +141,11 @@ pub fn table_size(arity: i64, d: u32) -> Result<u32, TableFault>
     }
 }
 
-/// The place of a tuple, where its values are below d: its values are the digits of the place in base d, the first one counting most.
+/// The place of a tuple, where its values are below d: its values are the digits of the place in
+/// base d, the first one counting most.
 ///
-/// So the tuples stand in the order of their first values, then of their second ones, and so on. Takes no memory.
+/// So the tuples stand in the order of their first values, then of their second ones, and so on.
+/// Takes no memory.
 pub fn place_of(d: u8, tuple: &[u8]) -> usize
     requires values { All (λ x. x < d) tuple.now }
     requires fits { d ^ length tuple.now ≤ 65536 }
@@ -178,10 +186,12 @@ impl Model for Table {
 }
 
 impl Table {
-    /// The relation that accepts exactly these tuples of shown values, which are lo to lo + d - 1. A tuple that is given twice counts once.
+    /// The relation that accepts exactly these tuples of shown values, which are lo to lo + d - 1.
+    /// A tuple that is given twice counts once.
     ///
-    /// Refused in this order: what `table_size` refuses; the first tuple with a fault, by `TupleLength` where its length isn't the arity,
-    /// else by `ValueOut`; `Memory`. Memory may be missed before the tuples are looked at.
+    /// Refused in this order: what `table_size` refuses; the first tuple with a fault, by
+    /// `TupleLength` where its length isn't the arity, else by `ValueOut`; `Memory`. Memory may be
+    /// missed before the tuples are looked at.
     pub fn from_tuples(
         alloc: Global,
         arity: i64,
@@ -195,7 +205,8 @@ impl Table {
         requires high { lo ≤ℤ pos 1000000 }
         requires few { length tuples.now < 2 ^ 32 }
         ensures made { IfOk result (λ t. IsMade arity lo d (lists tuples.now) t) }
-        ensures refused { IfErr result (λ e. e ≢ TableFault.Memory → refusal_of arity lo d (lists tuples.now) ≡ Some e) }
+        ensures refused { IfErr result (λ e. e ≢ TableFault.Memory →
+            refusal_of arity lo d (lists tuples.now) ≡ Some e) }
     {
         let Some(a) = small_arity(arity) else {
             return Err(TableFault::BadArity);
@@ -225,7 +236,8 @@ impl Table {
         requires small { value_count ≤ 64 }
         requires each { length truth.now ≡ value_count ^ arity }
         requires fits { length truth.now ≤ 65536 }
-        ensures { IfOk result (λ t. t ≡ record { arity = arity; value_count = value_count; truth = truth.now }) }
+        ensures { IfOk result
+            (λ t. t ≡ record { arity = arity; value_count = value_count; truth = truth.now }) }
     {
         let truth = Bits::of(alloc, truth)?;
         Ok(Table {
@@ -267,12 +279,14 @@ impl Table {
         self.truth.get(place as usize)
     }
 
-    /// The truth values from a place on, one for each value, as the lowest bits of a word: bit y is 1 where the tuple y
-    /// places further is in the relation. The bits past the values mean nothing. Reads one word or two.
+    /// The truth values from a place on, one for each value, as the lowest bits of a word: bit y is
+    /// 1 where the tuple y places further is in the relation. The bits past the values mean
+    /// nothing. Reads one word or two.
     #[inline]
     pub fn row(&self, place: u32) -> u64
         requires { place + self.now.value_count ≤ length self.now.truth }
-        ensures { (y : ℕ) → y < self.now.value_count → nat_eq (bit_at result y) 1 ≡ truth_at self.now (place + y) }
+        ensures { (y : ℕ) → y < self.now.value_count →
+            nat_eq (bit_at result y) 1 ≡ truth_at self.now (place + y) }
     {
         self.truth.row(place as usize, self.value_count as usize)
     }
@@ -286,7 +300,8 @@ impl Table {
         self.truth.get(place_of(self.value_count, tuple))
     }
 
-    /// Whether these are the same relation: one arity, as many values and the same tuples. Compares 64 tuples at a time, and takes no memory.
+    /// Whether these are the same relation: one arity, as many values and the same tuples. Compares
+    /// 64 tuples at a time, and takes no memory.
     pub fn equals(&self, o: &Table) -> bool
         ensures { IsTrue result ↔ (self.now ≡ o.now) }
     {
@@ -296,7 +311,8 @@ impl Table {
         self.truth.equals(&o.truth)
     }
 
-    /// Whether this relation comes before the other in falling order: it has the first tuple that is in one of them alone.
+    /// Whether this relation comes before the other in falling order: it has the first tuple that
+    /// is in one of them alone.
     pub(crate) fn is_above(&self, o: &Table) -> bool
         requires arity { self.now.arity ≡ o.now.arity }
         requires values { self.now.value_count ≡ o.now.value_count }
@@ -321,11 +337,13 @@ impl Table {
         })
     }
 
-    /// Whether each tuple that this relation accepts is accepted by the other, 64 tuples at a time. Takes no memory.
+    /// Whether each tuple that this relation accepts is accepted by the other, 64 tuples at a time.
+    /// Takes no memory.
     ///
     /// Of relations of two sizes only the places that both have count.
     pub fn within(&self, o: &Table) -> bool
-        ensures { result ≡ list_all (λ (p : Bool × Bool). if p.0 then p.1 else true) (zip self.now.truth o.now.truth) }
+        ensures { result ≡ list_all (λ (p : Bool × Bool). if p.0 then p.1
+            else true) (zip self.now.truth o.now.truth) }
     {
         self.truth.within(&o.truth)
     }

@@ -7,7 +7,8 @@ fn push_escaped(bytes: &mut Vec<u8>, part: &str) -> Option<()> {
     bytes.extend_from_slice(rest.as_bytes()).ok()
 }
 
-/// The bytes of a text, in which `\HH` is the byte of two hexadecimal digits. Blanks part the bytes and are none.
+/// The bytes of a text, in which `\HH` is the byte of two hexadecimal digits. Blanks part the bytes
+/// and are none.
 pub fn bytes_in(alloc: Global, text: &str) -> Option<Vec<u8>> {
     let mut bytes = Vec::new(alloc);
     for word in text.split_whitespace() {

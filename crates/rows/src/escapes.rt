@@ -1,6 +1,7 @@
 use std::alloc::Global;
 
-/// Adds what stands behind a backslash: the character that its first letter stands for, and the rest.
+/// Adds what stands behind a backslash: the character that its first letter stands for, and the
+/// rest.
 fn push_escaped(text: &mut String, part: &str) -> Option<()> {
     let (letter, rest) = part.split_at_checked(1)?;
     let character = match letter {
@@ -14,7 +15,8 @@ fn push_escaped(text: &mut String, part: &str) -> Option<()> {
     text.push_str(rest).ok()
 }
 
-/// A text in which `\n`, `\r`, `\t` and `\s` stand for a newline, a carriage return, a tab and a blank.
+/// A text in which `\n`, `\r`, `\t` and `\s` stand for a newline, a carriage return, a tab and a
+/// blank.
 pub fn text_in(alloc: Global, written: &str) -> Option<String> {
     let mut text = String::new(alloc);
     for (at, part) in written.split('\\').enumerate() {

@@ -4,8 +4,8 @@ use std::io;
 
 /// The calls that a table is about.
 pub trait Calls {
-    /// What a call comes to with these arguments. None where there is no such call, where these aren't its arguments, or where
-    /// there is no memory for it.
+    /// What a call comes to with these arguments. None where there is no such call, where these
+    /// aren't its arguments, or where there is no memory for it.
     fn answer(&self, alloc: Global, over: &str, call: &str, arguments: &str) -> Option<String>;
 }
 
@@ -46,7 +46,8 @@ fn said<C: Calls>(
     }
 }
 
-/// Tries each row of a table, and prints a line for it, and then how many rows there were and how many were refused.
+/// Tries each row of a table, and prints a line for it, and then how many rows there were and how
+/// many were refused.
 fn run_table<R: AllocGlobal + Print, C: Calls>(rt: &R, calls: &C, table: &str) -> io::Result<()> {
     let alloc = rt.alloc();
     let mut over = String::new(alloc);

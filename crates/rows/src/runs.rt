@@ -16,7 +16,8 @@ impl Runs {
         }
     }
 
-    /// Adds what the next one comes to: a line `AT SAID`, where the one before came to something else.
+    /// Adds what the next one comes to: a line `AT SAID`, where the one before came to something
+    /// else.
     pub fn add(&mut self, at: &str, said: String) -> Option<()> {
         if self.last.as_str() != said.as_str() {
             writeln!(self.text, "{at} {said}").ok()?;

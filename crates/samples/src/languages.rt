@@ -3,8 +3,8 @@ use language::Language;
 use std::alloc::{AllocError, Global};
 use voc_read::{VocFault, read_vocabulary};
 
-/// A relation of so many places: the tuple at a place is in it where the bit of this number in `accepted` is one. The last
-/// variable is the first to change.
+/// A relation of so many places: the tuple at a place is in it where the bit of this number in
+/// `accepted` is one. The last variable is the first to change.
 #[derive(Clone, Copy)]
 pub struct Relation<'a> {
     pub name: &'a str,
@@ -114,8 +114,8 @@ fn vocabulary(
     )
 }
 
-/// The language of n variables, v0 and so on, with the values 1 to d, these relations, and these scopes, each a set with a
-/// bit for each variable, or all.
+/// The language of n variables, v0 and so on, with the values 1 to d, these relations, and these
+/// scopes, each a set with a bit for each variable, or all.
 pub fn language(
     alloc: Global,
     n: u8,
@@ -126,7 +126,8 @@ pub fn language(
     language_within(alloc, n, d, &[], relations, scopes)
 }
 
-/// The same where the first variables have these ranges, each from a first to a last of the values 1 to d.
+/// The same where the first variables have these ranges, each from a first to a last of the values
+/// 1 to d.
 pub fn language_within(
     alloc: Global,
     n: u8,

@@ -1,8 +1,8 @@
 //! Small languages, questions and numbers that trials share.
 //!
-//! A language is read from the text of a vocabulary that is written here, so nothing has to be shown of its parts. A caller
-//! may rely on this: a question is one of the language, what `is_candidate` takes is a candidate of it, and a number lies
-//! below its limit.
+//! A language is read from the text of a vocabulary that is written here, so nothing has to be
+//! shown of its parts. A caller may rely on this: a question is one of the language, what
+//! `is_candidate` takes is a candidate of it, and a number lies below its limit.
 #![tactic(auto)]
 
 mod languages;

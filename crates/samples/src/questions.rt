@@ -35,7 +35,8 @@ pub fn assigned(lang: &Language, order: &[u8], values: &[u8]) -> Partial
     e
 }
 
-/// The question about the variables whose bit in `asked` is one, each with the value that its bit in `values` gives.
+/// The question about the variables whose bit in `asked` is one, each with the value that its bit
+/// in `values` gives.
 pub fn question(lang: &Language, asked: u128, values: u128) -> Partial
     ensures { IsQuestion lang.now result }
 {

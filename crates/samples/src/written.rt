@@ -5,7 +5,8 @@ use crate::questions::is_within;
 use assign::Partial;
 use language::Language;
 
-/// The question that gives the first variables these values, from 1, in their order; `_` gives none.
+/// The question that gives the first variables these values, from 1, in their order; `_` gives
+/// none.
 pub fn question_in(lang: &Language, text: &str) -> Option<Partial>
     ensures { IfSome result (IsQuestion lang.now) }
 {

@@ -22,12 +22,15 @@ StandsWhere k state session = (t : List Answer) → IsLed k t (state t) → Stan
 
 -- where nothing is open after the answers, however a walk ended, the session stands after them
 abbrev pub StandsWhereIdle : Knowledge → Session → Type 0
-StandsWhereIdle k session = (end : Option WalkEnd) → StandsWhere k (λ t. Idle k.network.list end) session
+StandsWhereIdle k session = (end : Option WalkEnd) →
+    StandsWhere k (λ t. Idle k.network.list end) session
 
 -- what the answer about an example on a set makes of a walk, or of none
-abbrev pub part_replied : Language → List Answer → Assignment → List ℕ → Bool → List Candidate → Stage → State
+abbrev pub part_replied : Language → List Answer → Assignment → List ℕ → Bool → List Candidate →
+    Stage → State
 part_replied l t e set true network stage = go_on l t network (walk_in stage)
-part_replied l t e set false network stage = settle_halving l t e set [] network (walk_in (put_again stage))
+part_replied l t e set false network stage =
+    settle_halving l t e set [] network (walk_in (put_again stage))
 
 -- the set that a walk has asked about is put again, and the rest stays
 pub record HasPutAgain (before after : Knowledge) : Type 0 where

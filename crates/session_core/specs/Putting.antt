@@ -11,14 +11,16 @@ use Rattle.session_laws.specs.Session.{is_lawful}
 use Rattle.multi_tree.specs.Stage.{asked_in, first_asked}
 use Rattle.session_core.specs.declared.knowledge.Knowledge.{Knowledge}
 use Rattle.session_core.specs.declared.put.Put.{Put}
-use Rattle.session_core.specs.declared.put.Put.TheVariants.{Example, OnWalk, Part, FirstTuple, Tuple}
+use Rattle.session_core.specs.declared.put.Put.TheVariants.{Example, OnWalk, Part, FirstTuple}
+use Rattle.session_core.specs.declared.put.Put.TheVariants.{Tuple}
 use Rattle.session_core.specs.Sound.{BeginsOnFirst}
 
 -- the question of a run on a scope
 abbrev pub run_question : Language → TellingRun → Assignment
 run_question l run = on_scope l run.scope run.tuple
 
--- the question that is put: an example, the part of it that a walk has come to or a halving wants, or a tuple on a scope
+-- the question that is put: an example, the part of it that a walk has come to or a halving wants,
+-- or a tuple on a scope
 abbrev pub question_put : Language → Put → Assignment
 question_put l (Example e) = e
 question_put l (OnWalk e set) = restrict e set

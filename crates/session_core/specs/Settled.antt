@@ -14,7 +14,8 @@ use Rattle.session_core.specs.declared.session.Session.TheVariants as sessions
 
 -- where the answers lead to where nothing is open, no question is put
 abbrev pub IsSettled : Language → Plan → List Answer → Option Assignment → Type 0
-IsSettled l plan t put = (network : List Candidate) (end : Option WalkEnd) → state_after l plan t ≡ At (Idle network end) → put ≡ None
+IsSettled l plan t put = (network : List Candidate) (end : Option WalkEnd) →
+    state_after l plan t ≡ At (Idle network end) → put ≡ None
 
 -- the question goes on with what an answer began
 abbrev pub IsNoneNew : Put → Type 0

@@ -33,7 +33,8 @@ IsWalkOn-prop l (Done end) = Prim.hlevel props
 -- ---- telling apart
 
 -- a run that begins on this scope
-pub record IsNew (l : Language) (live network : List Candidate) (s : ℕ) (run : TellingRun) : Type 0 where
+pub record IsNew (l : Language) (live network : List Candidate) (s : ℕ) (run : TellingRun) :
+    Type 0 where
   pub sound : IsRun l run
   pub scope : run.scope ≡ s
   pub choices : run.choices ≡ free_choices live s
@@ -42,10 +43,12 @@ pub record IsNew (l : Language) (live network : List Candidate) (s : ℕ) (run :
 -- the scope is decided, or a run begins on it
 abbrev pub RunsOn : Language → List Candidate → List Candidate → ℕ → Option TellingRun → Type 0
 RunsOn l live network s None = is_undecided l live network s ≡ false
-RunsOn l live network s (Some run) = IsNew l live network s run × (is_undecided l live network s ≡ true)
+RunsOn l live network s (Some run) = IsNew l live network s run
+    × (is_undecided l live network s ≡ true)
 
 -- a run that begins on the first undecided scope
-pub record BeginsOnFirst (l : Language) (live network : List Candidate) (run : TellingRun) : Type 0 where
+pub record BeginsOnFirst (l : Language) (live network : List Candidate) (run : TellingRun) :
+    Type 0 where
   pub new : IsNew l live network run.scope run
   pub before : NoneBefore l live network run.scope
   pub next : next_scope l live network ≡ Some run.scope

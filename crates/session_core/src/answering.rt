@@ -23,12 +23,14 @@ fn one_more(lang: &Language, answers: u32) -> u32
     answers.saturating_add(1)
 }
 
-/// Takes out the candidates that a question violates. Where it is about a tuple, no other scope is looked at.
+/// Takes out the candidates that a question violates. Where it is about a tuple, no other scope is
+/// looked at.
 fn strike(lang: &Language, kept: &mut Kept, q: &Partial, scope: Option<ScopeId>)
     requires made { IsMadeFor lang.now kept.old }
     requires question { IsQuestion lang.now q.now }
     requires about { IfSome scope (IsAbout lang.now q.now) }
-    ensures kept { kept.new.members ≡ filter (λ c. not (violates lang.now c q.now)) kept.old.members }
+    ensures kept { kept.new.members
+        ≡ filter (λ c. not (violates lang.now c q.now)) kept.old.members }
     ensures made { IsMadeFor lang.now kept.new }
 {
     match scope {
@@ -40,8 +42,8 @@ fn strike(lang: &Language, kept: &mut Kept, q: &Partial, scope: Option<ScopeId>)
 }
 
 impl Knowledge {
-    /// Takes in a yes to a question, which may be about a tuple on a scope: it strikes the candidates that the question
-    /// violates.
+    /// Takes in a yes to a question, which may be about a tuple on a scope: it strikes the
+    /// candidates that the question violates.
     fn hear_yes(&mut self, q: &Partial, scope: Option<ScopeId>)
         requires question { IsQuestion self.old.lang q.now }
         requires about { IfSome scope (IsAbout self.old.lang q.now) }
@@ -66,7 +68,8 @@ impl Asking {
     pub(crate) fn known_after(self, question: &Partial, yes: bool) -> (Box<Knowledge>, Box<Put>)
         requires asked { question_put self.knowledge.value.lang self.put.value ≡ question.now }
         requires fits { IsQuestion self.knowledge.value.lang question.now }
-        ensures answered { let k = self.knowledge.value in IsAnswered k (question_put k.lang self.put.value) «yes» result.0.value }
+        ensures answered { let k = self.knowledge.value in
+            IsAnswered k (question_put k.lang self.put.value) «yes» result.0.value }
         ensures lawful { IsLanguage result.0.value.lang }
         ensures put { result.1.value ≡ self.put.value }
     {

@@ -28,7 +28,8 @@ fn is_value_ranged(lang: &Language, q: &Partial, v: u8) -> bool
 
 /// Whether each variable of q has no value or one of its range.
 fn are_values_ranged(lang: &Language, q: &Partial) -> bool
-    ensures { result ≡ list_all (λ v. is_ranged lang.now v (value_of q.now v)) (numbers (variable_count lang.now)) }
+    ensures { result ≡ list_all (λ v. is_ranged lang.now v (value_of q.now v))
+        (numbers (variable_count lang.now)) }
 {
     (0..lang.n()).all(|v| is_value_ranged(lang, q, v))
 }
@@ -41,9 +42,11 @@ fn is_question(lang: &Language, q: &Partial) -> bool
     q.len() == lang.n() && are_values_ranged(lang, q)
 }
 
-/// Whether an example may be put: it is complete, the network accepts it, and it violates a kept candidate.
+/// Whether an example may be put: it is complete, the network accepts it, and it violates a kept
+/// candidate.
 pub(crate) fn is_example(knowledge: &Knowledge, q: &Partial) -> bool
-    ensures { let k = knowledge.now in result ≡ is_lawful k.lang Quacq k.kept.members k.network.list q.now }
+    ensures { let k = knowledge.now in
+        result ≡ is_lawful k.lang Quacq k.kept.members k.network.list q.now }
 {
     let lang = &knowledge.lang;
     if !is_question(lang, q) {

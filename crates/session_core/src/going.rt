@@ -1,9 +1,10 @@
 //! Where a session goes once an answer is heard.
 //!
-//! Each function is given what is known after the answer. Its clause is about every list of answers that leads to the
-//! state which it settles.
+//! Each function is given what is known after the answer. Its clause is about every list of answers
+//! that leads to the state which it settles.
 
-ghost use Rattle.std.specs.Prelude.{◌≡◌, ◌≢◌, ◌<◌, ◌++◌, ◌∷◌, [], length, List, Bool, ℕ, None, false};
+ghost use Rattle.std.specs.Prelude.{◌≡◌, ◌≢◌, ◌<◌, ◌++◌, ◌∷◌, [], length, List, Bool, ℕ, None};
+ghost use Rattle.std.specs.Prelude.{false};
 ghost use Rattle.assign.specs.declared.events.Plan.TheVariants.{Multi};
 ghost use Rattle.language.specs.Language.{scope_number, IsCandidate, IsQuestion};
 ghost use Rattle.language.specs.Answers.{has_scope};
@@ -34,7 +35,8 @@ fn walk_on(mut knowledge: Box<Knowledge>, mut room: Box<Put>) -> Session
     ensures lang { (knowledge_of result).lang ≡ knowledge.value.lang }
     ensures plan { (knowledge_of result).plan ≡ knowledge.value.plan }
     ensures none_new { HasNoNew result }
-    ensures stands { let k = knowledge.value in StandsWhere k (λ t. go_on k.lang t k.network.list (walk_in k.tree)) result }
+    ensures stands { let k = knowledge.value in
+        StandsWhere k (λ t. go_on k.lang t k.network.list (walk_in k.tree)) result }
 {
     let known = knowledge.as_mut();
     match known.tree.next_beside(&known.lang, &known.network, &known.kept, &mut known.listing) {
@@ -58,7 +60,8 @@ pub(crate) fn learn(mut knowledge: Box<Knowledge>, room: Box<Put>, c: Candidate)
     ensures lang { (knowledge_of result).lang ≡ knowledge.value.lang }
     ensures plan { (knowledge_of result).plan ≡ knowledge.value.plan }
     ensures none_new { HasNoNew result }
-    ensures stands { let k = knowledge.value in StandsWhere k (λ t. go_on k.lang t (k.network.list ++ c ∷ []) (walk_in k.tree)) result }
+    ensures stands { let k = knowledge.value in
+        StandsWhere k (λ t. go_on k.lang t (k.network.list ++ c ∷ []) (walk_in k.tree)) result }
 {
     let known = knowledge.as_mut();
     known.kept.drop_scope(c.scope);
@@ -79,8 +82,10 @@ pub(crate) fn tell_apart(
     ensures lang { (knowledge_of result).lang ≡ knowledge.value.lang }
     ensures plan { (knowledge_of result).plan ≡ knowledge.value.plan }
     ensures none_new { HasNoNew result }
-    ensures stands { (s : ℕ) (choices : List Choice) → let k = knowledge.value in LeavesChoices k.lang s choices next →
-        StandsWhere k (λ t. settle_choices k.lang t s choices k.network.list (walk_in k.tree)) result }
+    ensures stands { (s : ℕ) (choices : List Choice) → let k = knowledge.value in
+        LeavesChoices k.lang s choices next →
+        StandsWhere k
+        (λ t. settle_choices k.lang t s choices k.network.list (walk_in k.tree)) result }
 {
     match next {
         RelNext::Wants(run) => {
@@ -98,13 +103,15 @@ pub(crate) fn tell_apart(
     }
 }
 
-/// The set that a halving found: a scope with kept candidates that the example violates, or nothing can be learned.
+/// The set that a halving found: a scope with kept candidates that the example violates, or nothing
+/// can be learned.
 fn take_found(knowledge: Box<Knowledge>, room: Box<Put>, example: Partial, set: VarSet) -> Session
     requires question { IsQuestion knowledge.value.lang example }
     ensures lang { (knowledge_of result).lang ≡ knowledge.value.lang }
     ensures plan { (knowledge_of result).plan ≡ knowledge.value.plan }
     ensures none_new { HasNoNew result }
-    ensures stands { let k = knowledge.value in StandsWhere k (λ t. found k.lang t example k.network.list (walk_in k.tree) (scope_number k.lang set)) result }
+    ensures stands { let k = knowledge.value in StandsWhere k (λ t.
+        found k.lang t example k.network.list (walk_in k.tree) (scope_number k.lang set)) result }
 {
     let known = knowledge.as_ref();
     let Some(s) = known.lang.scope_of(set) else {
@@ -116,7 +123,8 @@ fn take_found(knowledge: Box<Knowledge>, room: Box<Put>, example: Partial, set: 
     }
 }
 
-/// The halving of a set of an example's variables goes on by itself, and then asks or has found a set.
+/// The halving of a set of an example's variables goes on by itself, and then asks or has found a
+/// set.
 pub(crate) fn halve_on(
     mut knowledge: Box<Knowledge>,
     mut room: Box<Put>,
@@ -129,7 +137,8 @@ pub(crate) fn halve_on(
     ensures plan { (knowledge_of result).plan ≡ knowledge.value.plan }
     ensures none_new { HasNoNew result }
     ensures stands { (replies : List Bool) → let k = knowledge.value in StandsFor next set replies →
-        StandsWhere k (λ t. settle_halving k.lang t example set replies k.network.list (walk_in k.tree)) result }
+        StandsWhere k
+        (λ t. settle_halving k.lang t example set replies k.network.list (walk_in k.tree)) result }
 {
     let size = set.len();
     let known = knowledge.as_ref();
@@ -172,7 +181,8 @@ pub(crate) fn part_answered(
     ensures lang { (knowledge_of result).lang ≡ knowledge.value.lang }
     ensures plan { (knowledge_of result).plan ≡ knowledge.value.plan }
     ensures none_new { HasNoNew result }
-    ensures stands { let k = knowledge.value in StandsWhere k (λ t. part_replied k.lang t example set «yes» k.network.list k.tree) result }
+    ensures stands { let k = knowledge.value in
+        StandsWhere k (λ t. part_replied k.lang t example set «yes» k.network.list k.tree) result }
 {
     if yes {
         return walk_on(knowledge, room);
@@ -194,7 +204,8 @@ pub(crate) fn tuple_answered(
     ensures plan { (knowledge_of result).plan ≡ knowledge.value.plan }
     ensures none_new { HasNoNew result }
     ensures stands { let k = knowledge.value in
-        StandsWhere k (λ t. settle_choices k.lang t run.scope (after_reply (scene_of k.lang run.scope) run.tuple «yes» run.choices) k.network.list (walk_in k.tree)) result }
+        StandsWhere k (λ t. settle_choices k.lang t run.scope (after_reply (scene_of k.lang
+        run.scope) run.tuple «yes» run.choices) k.network.list (walk_in k.tree)) result }
 {
     let next = run.reply_beside(&knowledge.lang, &knowledge.kept, yes);
     tell_apart(knowledge, room, next)

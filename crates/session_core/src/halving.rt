@@ -12,7 +12,8 @@ use bias_store::Kept;
 use find_scope::{ScopeNext, ScopeRun};
 use language::Language;
 
-/// A halving that wants a reply about a part that violates no kept candidate. `Err` is any other one.
+/// A halving that wants a reply about a part that violates no kept candidate. `Err` is any other
+/// one.
 fn quiet_run(
     lang: &Language,
     kept: &Kept,
@@ -22,9 +23,11 @@ fn quiet_run(
     requires made { IsMadeFor lang.now kept.now }
     requires question { IsQuestion lang.now e.now }
     ensures quiet { IfOk result (λ run. next ≡ ScopeNext.Wants run) }
-    ensures is_quiet { IfOk result (λ run. is_quiet_at lang.now kept.now.members e.now next ≡ true) }
+    ensures is_quiet { IfOk result
+        (λ run. is_quiet_at lang.now kept.now.members e.now next ≡ true) }
     ensures other { IfErr result (λ same. next ≡ same) }
-    ensures is_other { IfErr result (λ same. is_quiet_at lang.now kept.now.members e.now next ≡ false) }
+    ensures is_other { IfErr result
+        (λ same. is_quiet_at lang.now kept.now.members e.now next ≡ false) }
 {
     match next {
         ScopeNext::Wants(run) => {
@@ -38,8 +41,8 @@ fn quiet_run(
     }
 }
 
-/// Replies yes for the user as long as the wanted part violates no kept candidate. `size` is how many variables are
-/// halved: there are fewer than twice as many replies.
+/// Replies yes for the user as long as the wanted part violates no kept candidate. `size` is how
+/// many variables are halved: there are fewer than twice as many replies.
 pub(crate) fn settle(
     lang: &Language,
     kept: &Kept,
@@ -49,8 +52,10 @@ pub(crate) fn settle(
 ) -> ScopeNext
     requires made { IsMadeFor lang.now kept.now }
     requires question { IsQuestion lang.now e.now }
-    ensures { (set : List ℕ) (replies : List Bool) → length set ≡ size → StandsFor next set replies →
-        StandsFor result set (with_quiet_replies lang.now kept.now.members e.now set (2 * length set) replies) }
+    ensures { (set : List ℕ) (replies : List Bool) → length set ≡ size →
+        StandsFor next set replies →
+        StandsFor result set
+        (with_quiet_replies lang.now kept.now.members e.now set (2 * length set) replies) }
 {
     for turn in 0..2 * u16::from(size) {
         match quiet_run(lang, kept, e, next) {

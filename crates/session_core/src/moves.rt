@@ -1,6 +1,7 @@
 //! How a session moves: a question is put, an answer is given.
 
-ghost use Rattle.std.specs.Prelude.{◌≡◌, ◌≢◌, ◌++◌, ◌∷◌, [], List, IfOk, IfSome, IsTrue, Some, None, length, true, false};
+ghost use Rattle.std.specs.Prelude.{◌≡◌, ◌≢◌, ◌++◌, ◌∷◌, [], List, IfOk, IfSome, IsTrue, Some};
+ghost use Rattle.std.specs.Prelude.{None, length, true, false};
 ghost use Rattle.assign.specs.Events.{Answer};
 ghost use Rattle.assign.specs.declared.events.Plan.{Plan};
 ghost use Rattle.language.specs.Language.{candidates, IsLanguage, IsQuestion};
@@ -39,7 +40,8 @@ fn empty_parts(alloc: Global, lang: &Language) -> Result<(Kept, Network, Tree, L
     ensures empty { IfOk result (λ parts. parts.1.list ≡ []) }
     ensures scopes { IfOk result (λ parts. parts.1.scopes ≡ length lang.now.scopes) }
     ensures resting { IfOk result (λ parts. walk_in parts.2 ≡ None) }
-    ensures listed { IfOk result (λ parts. (l : _) (network : List Candidate) (e : _) → IsListing l network e parts.3) }
+    ensures listed { IfOk result (λ parts. (l : _) (network : List Candidate) (e : _) →
+        IsListing l network e parts.3) }
 {
     let kept = Kept::of(alloc, lang)?;
     let network = Network::new(alloc, lang)?;
@@ -120,7 +122,8 @@ impl Knowledge {
 
     /// The same, given its question: that isn't looked for again.
     fn run_asking(&self, q: &Partial) -> Option<RelRun>
-        requires { let k = self.now in IsTrue (is_lawful k.lang Plan.Scopes k.kept.members k.network.list q.now) }
+        requires { let k = self.now in
+            IsTrue (is_lawful k.lang Plan.Scopes k.kept.members k.network.list q.now) }
         ensures { let k = self.now in FirstRun k.lang k.kept.members k.network.list result }
     {
         for s in self.next..self.lang.scopes() {
@@ -134,7 +137,8 @@ impl Knowledge {
 
     /// The first question of the first scope whose choices differ. None where there is none.
     fn first_question(&self) -> Option<Partial>
-        ensures is { let k = self.now in result ≡ scope_question k.lang k.kept.members k.network.list }
+        ensures is { let k = self.now in
+            result ≡ scope_question k.lang k.kept.members k.network.list }
         ensures fits { IfSome result (IsQuestion self.now.lang) }
     {
         match self.first_run() {
@@ -145,7 +149,8 @@ impl Knowledge {
 
     /// Whether a question is the first of the first scope whose choices differ.
     fn is_first_question(&self, q: &Partial) -> bool
-        ensures { let k = self.now in result ≡ is_lawful k.lang Plan.Scopes k.kept.members k.network.list q.now }
+        ensures { let k = self.now in
+            result ≡ is_lawful k.lang Plan.Scopes k.kept.members k.network.list q.now }
     {
         match self.first_question() {
             Some(question) => question.equals(q),
@@ -157,7 +162,8 @@ impl Knowledge {
 /// Puts the first question of the first scope whose choices differ.
 fn ask_first(mut knowledge: Box<Knowledge>, mut room: Box<Put>, q: Partial) -> Asking
     requires plan { knowledge.value.plan ≡ Plan.Scopes }
-    requires lawful { let k = knowledge.value in IsTrue (is_lawful k.lang k.plan k.kept.members k.network.list q) }
+    requires lawful { let k = knowledge.value in
+        IsTrue (is_lawful k.lang k.plan k.kept.members k.network.list q) }
     ensures question { open_in (Session.Asking result) ≡ Some q }
     ensures lang { (knowledge_of (Session.Asking result)).lang ≡ knowledge.value.lang }
     ensures plan { (knowledge_of (Session.Asking result)).plan ≡ knowledge.value.plan }
@@ -181,7 +187,8 @@ fn ask_first(mut knowledge: Box<Knowledge>, mut room: Box<Put>, q: Partial) -> A
 /// Puts an example.
 fn ask_whole(mut knowledge: Box<Knowledge>, mut room: Box<Put>, q: Partial) -> Asking
     requires plan { knowledge.value.plan ≡ Plan.Quacq }
-    requires lawful { let k = knowledge.value in IsTrue (is_lawful k.lang k.plan k.kept.members k.network.list q) }
+    requires lawful { let k = knowledge.value in
+        IsTrue (is_lawful k.lang k.plan k.kept.members k.network.list q) }
     ensures question { open_in (Session.Asking result) ≡ Some q }
     ensures lang { (knowledge_of (Session.Asking result)).lang ≡ knowledge.value.lang }
     ensures plan { (knowledge_of (Session.Asking result)).plan ≡ knowledge.value.plan }
@@ -198,7 +205,8 @@ fn ask_whole(mut knowledge: Box<Knowledge>, mut room: Box<Put>, q: Partial) -> A
 /// Puts an example, and begins its walk.
 fn ask_walked(mut knowledge: Box<Knowledge>, mut room: Box<Put>, q: Partial) -> Asking
     requires plan { knowledge.value.plan ≡ Plan.Multi }
-    requires lawful { let k = knowledge.value in IsTrue (is_lawful k.lang k.plan k.kept.members k.network.list q) }
+    requires lawful { let k = knowledge.value in
+        IsTrue (is_lawful k.lang k.plan k.kept.members k.network.list q) }
     ensures question { open_in (Session.Asking result) ≡ Some q }
     ensures lang { (knowledge_of (Session.Asking result)).lang ≡ knowledge.value.lang }
     ensures plan { (knowledge_of (Session.Asking result)).plan ≡ knowledge.value.plan }
@@ -219,10 +227,11 @@ fn ask_walked(mut knowledge: Box<Knowledge>, mut room: Box<Put>, q: Partial) -> 
 }
 
 impl Idle {
-    /// In plan Scopes the first question of the first scope whose choices differ. None where there is none, and in the
-    /// other plans.
+    /// In plan Scopes the first question of the first scope whose choices differ. None where there
+    /// is none, and in the other plans.
     pub fn scope_question(&self) -> Option<Partial>
-        ensures is { let k = knowledge_of (Session.Idle self.now) in k.plan ≡ Plan.Scopes → result ≡ scope_question k.lang k.kept.members k.network.list }
+        ensures is { let k = knowledge_of (Session.Idle self.now) in k.plan ≡ Plan.Scopes →
+            result ≡ scope_question k.lang k.kept.members k.network.list }
         ensures others { (knowledge_of (Session.Idle self.now)).plan ≢ Plan.Scopes → result ≡ None }
         ensures fits { IfSome result (IsQuestion (knowledge_of (Session.Idle self.now)).lang) }
     {
@@ -232,10 +241,11 @@ impl Idle {
         }
     }
 
-    /// Whether a question may be put. In plan Scopes `scope_question` alone may. In the others a whole example may that
-    /// the network accepts and that violates a kept candidate.
+    /// Whether a question may be put. In plan Scopes `scope_question` alone may. In the others a
+    /// whole example may that the network accepts and that violates a kept candidate.
     pub fn is_lawful(&self, q: &Partial) -> bool
-        ensures { let k = knowledge_of (Session.Idle self.now) in result ≡ is_lawful k.lang k.plan k.kept.members k.network.list q.now }
+        ensures { let k = knowledge_of (Session.Idle self.now) in
+            result ≡ is_lawful k.lang k.plan k.kept.members k.network.list q.now }
     {
         match self.knowledge.plan {
             Plan::Scopes => self.knowledge.is_first_question(q),
@@ -245,11 +255,15 @@ impl Idle {
 
     /// Puts a question.
     pub fn ask(self, q: Partial) -> Asking
-        requires { let k = knowledge_of (Session.Idle self) in IsTrue (is_lawful k.lang k.plan k.kept.members k.network.list q) }
+        requires { let k = knowledge_of (Session.Idle self) in
+            IsTrue (is_lawful k.lang k.plan k.kept.members k.network.list q) }
         ensures question { open_in (Session.Asking result) ≡ Some q }
-        ensures lang { (knowledge_of (Session.Asking result)).lang ≡ (knowledge_of (Session.Idle self)).lang }
-        ensures plan { (knowledge_of (Session.Asking result)).plan ≡ (knowledge_of (Session.Idle self)).plan }
-        ensures stands { (t : List Answer) → Stands (Session.Idle self) t → Stands (Session.Asking result) t }
+        ensures lang { (knowledge_of (Session.Asking result)).lang
+            ≡ (knowledge_of (Session.Idle self)).lang }
+        ensures plan { (knowledge_of (Session.Asking result)).plan
+            ≡ (knowledge_of (Session.Idle self)).plan }
+        ensures stands { (t : List Answer) → Stands (Session.Idle self) t →
+            Stands (Session.Asking result) t }
     {
         let Idle { knowledge, room } = self;
         match knowledge.plan {
@@ -263,7 +277,8 @@ impl Idle {
 impl Asking {
     /// The scope of the tuple that is asked about, where it is one.
     pub(crate) fn scope(&self) -> Option<ScopeId>
-        ensures { let k = knowledge_of (Session.Asking self.now) in IfSome result (IsAbout k.lang (question_put k.lang self.now.put.value)) }
+        ensures { let k = knowledge_of (Session.Asking self.now) in
+            IfSome result (IsAbout k.lang (question_put k.lang self.now.put.value)) }
     {
         let _variables = self.knowledge.lang.n();
         match &*self.put {
@@ -273,11 +288,13 @@ impl Asking {
         }
     }
 
-    /// The question that is open. After each list of answers that leads here, it is the one that is asked.
+    /// The question that is open. After each list of answers that leads here, it is the one that is
+    /// asked.
     pub fn question(&self) -> Partial
         ensures is { open_in (Session.Asking self.now) ≡ Some result }
         ensures fits { IsQuestion (knowledge_of (Session.Asking self.now)).lang result }
-        ensures asked { (t : List Answer) → let k = knowledge_of (Session.Asking self.now) in Stands (Session.Asking self.now) t → IsAskedAfter k.lang k.plan t result }
+        ensures asked { (t : List Answer) → let k = knowledge_of (Session.Asking self.now) in
+            Stands (Session.Asking self.now) t → IsAskedAfter k.lang k.plan t result }
     {
         *self.asked()
     }
@@ -286,7 +303,8 @@ impl Asking {
     pub fn asked(&self) -> &Partial
         ensures is { open_in (Session.Asking self.now) ≡ Some result.now }
         ensures fits { IsQuestion (knowledge_of (Session.Asking self.now)).lang result.now }
-        ensures asked { (t : List Answer) → let k = knowledge_of (Session.Asking self.now) in Stands (Session.Asking self.now) t → IsAskedAfter k.lang k.plan t result.now }
+        ensures asked { (t : List Answer) → let k = knowledge_of (Session.Asking self.now) in
+            Stands (Session.Asking self.now) t → IsAskedAfter k.lang k.plan t result.now }
     {
         let _variables = self.knowledge.lang.n();
         &self.knowledge.question
@@ -296,12 +314,15 @@ impl Asking {
     pub fn answer(self, yes: bool) -> Session
         ensures lang { (knowledge_of result).lang ≡ (knowledge_of (Session.Asking self)).lang }
         ensures plan { (knowledge_of result).plan ≡ (knowledge_of (Session.Asking self)).plan }
-        ensures stands { (t : List Answer) (q : _) → open_in (Session.Asking self) ≡ Some q → Stands (Session.Asking self) t
+        ensures stands { (t : List Answer) (q : _) → open_in (Session.Asking self) ≡ Some q →
+            Stands (Session.Asking self) t
             → Stands result (t ++ record { question = q; yes = «yes» } ∷ []) }
         // where the answers lead to where nothing is open, no question is put
-        ensures settled { (t : List Answer) → Stands result t → IsSettled (knowledge_of result).lang (knowledge_of result).plan t (open_in result) }
+        ensures settled { (t : List Answer) → Stands result t →
+            IsSettled (knowledge_of result).lang (knowledge_of result).plan t (open_in result) }
         // where the last answer has ended the walk of an example, nothing is left to learn from it
-        ensures walked { (t : List Answer) (e : _) → let k = knowledge_of result in Stands result t → k.plan ≡ Plan.Multi
+        ensures walked { (t : List Answer) (e : _) → let k = knowledge_of result in
+            Stands result t → k.plan ≡ Plan.Multi
             → walk_end k.lang t ≡ Some (Ended e) → IsWalked k.lang t k.network.list e }
     {
         let question = self.question();
@@ -314,12 +335,15 @@ impl Asking {
         requires fits { IsQuestion (knowledge_of (Session.Asking self)).lang question.now }
         ensures lang { (knowledge_of result).lang ≡ (knowledge_of (Session.Asking self)).lang }
         ensures plan { (knowledge_of result).plan ≡ (knowledge_of (Session.Asking self)).plan }
-        ensures stands { (t : List Answer) (q : _) → open_in (Session.Asking self) ≡ Some q → Stands (Session.Asking self) t
+        ensures stands { (t : List Answer) (q : _) → open_in (Session.Asking self) ≡ Some q →
+            Stands (Session.Asking self) t
             → Stands result (t ++ record { question = q; yes = «yes» } ∷ []) }
         // where the answers lead to where nothing is open, no question is put
-        ensures settled { (t : List Answer) → Stands result t → IsSettled (knowledge_of result).lang (knowledge_of result).plan t (open_in result) }
+        ensures settled { (t : List Answer) → Stands result t →
+            IsSettled (knowledge_of result).lang (knowledge_of result).plan t (open_in result) }
         // where the last answer has ended the walk of an example, nothing is left to learn from it
-        ensures walked { (t : List Answer) (e : _) → let k = knowledge_of result in Stands result t → k.plan ≡ Plan.Multi
+        ensures walked { (t : List Answer) (e : _) → let k = knowledge_of result in
+            Stands result t → k.plan ≡ Plan.Multi
             → walk_end k.lang t ≡ Some (Ended e) → IsWalked k.lang t k.network.list e }
     {
         self.heard(question, yes)
@@ -333,7 +357,8 @@ impl Asking {
         ensures plan { (knowledge_of result).plan ≡ (knowledge_of (Session.Asking self)).plan }
         ensures lawful { IsLanguage (knowledge_of result).lang }
         ensures none_new { HasNoNew result }
-        ensures stands { (t : List Answer) (q : _) → open_in (Session.Asking self) ≡ Some q → Stands (Session.Asking self) t
+        ensures stands { (t : List Answer) (q : _) → open_in (Session.Asking self) ≡ Some q →
+            Stands (Session.Asking self) t
             → Stands result (t ++ record { question = q; yes = «yes» } ∷ []) }
     {
         match &*self.put {
@@ -353,7 +378,8 @@ impl Asking {
         ensures plan { (knowledge_of result).plan ≡ (knowledge_of (Session.Asking self)).plan }
         ensures lawful { IsLanguage (knowledge_of result).lang }
         ensures none_new { HasNoNew result }
-        ensures stands { (t : List Answer) (q : _) → open_in (Session.Asking self) ≡ Some q → Stands (Session.Asking self) t
+        ensures stands { (t : List Answer) (q : _) → open_in (Session.Asking self) ≡ Some q →
+            Stands (Session.Asking self) t
             → Stands result (t ++ record { question = q; yes = «yes» } ∷ []) }
     {
         let (knowledge, mut room) = self.known_after(question, yes);
@@ -370,7 +396,8 @@ impl Asking {
         ensures plan { (knowledge_of result).plan ≡ (knowledge_of (Session.Asking self)).plan }
         ensures lawful { IsLanguage (knowledge_of result).lang }
         ensures none_new { HasNoNew result }
-        ensures stands { (t : List Answer) (q : _) → open_in (Session.Asking self) ≡ Some q → Stands (Session.Asking self) t
+        ensures stands { (t : List Answer) (q : _) → open_in (Session.Asking self) ≡ Some q →
+            Stands (Session.Asking self) t
             → Stands result (t ++ record { question = q; yes = «yes» } ∷ []) }
     {
         let (knowledge, mut room) = self.known_after(question, yes);

@@ -47,7 +47,8 @@ impl Put {
         }
     }
 
-    /// Puts a further tuple. Behind another it is written in its place: anew, all of a put would be written.
+    /// Puts a further tuple. Behind another it is written in its place: anew, all of a put would be
+    /// written.
     pub(crate) fn put_tuple(&mut self, run: RelRun)
         ensures { self.new ≡ Put.Tuple run }
     {

@@ -13,7 +13,8 @@ use language::{Language, ScopeId};
 fn run_on(lang: &Language, kept: &Kept, s: ScopeId) -> Option<RelRun>
     requires scope { s < length lang.now.scopes }
     requires made { IsMadeFor lang.now kept.now }
-    ensures { (network : List Candidate) → AreUnlearned kept.now.members network → RunsOn lang.now kept.now.members network s result }
+    ensures { (network : List Candidate) → AreUnlearned kept.now.members network →
+        RunsOn lang.now kept.now.members network s result }
 {
     // So it is where something is learned.
     if kept.on_scope(s) == 0 {
@@ -28,7 +29,8 @@ fn run_on(lang: &Language, kept: &Kept, s: ScopeId) -> Option<RelRun>
 /// The run on the first undecided scope, where those before `from` are decided.
 pub(crate) fn first_run(lang: &Language, kept: &Kept, from: u32) -> Option<RelRun>
     requires made { IsMadeFor lang.now kept.now }
-    ensures { (network : List Candidate) → AreUnlearned kept.now.members network → NoneBefore lang.now kept.now.members network from
+    ensures { (network : List Candidate) → AreUnlearned kept.now.members network →
+        NoneBefore lang.now kept.now.members network from
         → FirstRun lang.now kept.now.members network result }
 {
     for s in from..lang.scopes() {

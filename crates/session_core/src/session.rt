@@ -30,7 +30,8 @@ pub struct Collapsed {
     pub(crate) room: Box<Put>,
 }
 
-/// A session, in one of its three kinds. What it knows and what it asks stay where they are as it moves on: both are large.
+/// A session, in one of its three kinds. What it knows and what it asks stay where they are as it
+/// moves on: both are large.
 #[derive(Drop)]
 pub enum Session {
     Idle(Idle),

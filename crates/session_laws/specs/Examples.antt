@@ -1,5 +1,6 @@
 -- The languages and the answers of the worked sessions.
-use Rattle.std.specs.Prelude.{ℕ, pos, Bool, true, false, List, [], ◌∷◌, ◌++◌, map, replicate, not, ◌==◌, codes, Some, None}
+use Rattle.std.specs.Prelude.{ℕ, pos, Bool, true, false, List, [], ◌∷◌, ◌++◌, map, replicate, not}
+use Rattle.std.specs.Prelude.{◌==◌, codes, Some, None}
 use Rattle.assign.specs.Sets.{numbers}
 use Rattle.assign.specs.Assignment.{Assignment, restrict}
 use Rattle.assign.specs.Events.{Answer}
@@ -61,18 +62,23 @@ three given closed = record {
 }
 
 abbrev pub equal_or_not : Language
-equal_or_not = two (binary (codes "eq") eq ∷ binary (codes "ne") ne ∷ binary (codes "none") none ∷ []) (eq ∷ ne ∷ none ∷ [])
+equal_or_not = two (binary (codes "eq") eq
+    ∷ binary (codes "ne") ne ∷ binary (codes "none") none ∷ []) (eq ∷ ne ∷ none ∷ [])
 
 abbrev pub orders : Language
-orders = two (binary (codes "le") le ∷ binary (codes "ge") ge ∷ binary (codes "ne") ne ∷ []) (le ∷ ge ∷ eq ∷ ne ∷ less ∷ more ∷ none ∷ [])
+orders = two (binary (codes "le") le ∷ binary (codes "ge") ge
+    ∷ binary (codes "ne") ne ∷ []) (le ∷ ge ∷ eq ∷ ne ∷ less ∷ more ∷ none ∷ [])
 
--- the first variable is always 1, so these relations say something of the second alone: whether it may be 1, and whether 2
+-- the first variable is always 1, so these relations say something of the second alone: whether it
+-- may be 1, and whether 2
 abbrev pub beside_one : Bool → Bool → Relation
 beside_one one two = one ∷ two ∷ true ∷ true ∷ []
 
 abbrev pub first_is_one : Language
-first_is_one = record (two (binary (codes "le") le ∷ binary (codes "ge") ge ∷ binary (codes "ne") ne ∷ [])
-    (beside_one true true ∷ beside_one true false ∷ beside_one false true ∷ beside_one false false ∷ [])) {
+first_is_one =
+    record (two (binary (codes "le") le ∷ binary (codes "ge") ge ∷ binary (codes "ne") ne ∷ [])
+    (beside_one true true ∷ beside_one true false ∷ beside_one false true ∷ beside_one false false
+    ∷ [])) {
       ranges = record { first = 0; last = 0 } ∷ whole_range 2 ∷ [];
     }
 
@@ -96,7 +102,8 @@ says q reply = record { question = q; yes = reply }
 
 -- no to all three variables, and then untrue answers that no network gives
 abbrev pub untrue : List Answer
-untrue = says (triple 0 1 0) false ∷ says (Some 0 ∷ Some 1 ∷ None ∷ []) true ∷ says (None ∷ Some 1 ∷ Some 0 ∷ []) true ∷ []
+untrue = says (triple 0 1 0) false ∷ says (Some 0 ∷ Some 1 ∷ None ∷ []) true
+    ∷ says (None ∷ Some 1 ∷ Some 0 ∷ []) true ∷ []
 
 -- ---- 128 variables of two values, and one scope of the first and the last, which are to differ
 
@@ -122,4 +129,5 @@ all_zero = replicate 128 (Some 0)
 -- no to all, and then to the last variable with the first k, for falling k
 abbrev pub thirteen_noes : List Answer
 thirteen_noes = says all_zero false
-    ∷ map (λ k. says (restrict all_zero (numbers k ++ 127 ∷ [])) false) (126 ∷ 124 ∷ 120 ∷ 112 ∷ 96 ∷ 64 ∷ 32 ∷ 16 ∷ 8 ∷ 4 ∷ 2 ∷ 1 ∷ [])
+    ∷ map (λ k. says (restrict all_zero (numbers k ++ 127 ∷ [])) false)
+    (126 ∷ 124 ∷ 120 ∷ 112 ∷ 96 ∷ 64 ∷ 32 ∷ 16 ∷ 8 ∷ 4 ∷ 2 ∷ 1 ∷ [])

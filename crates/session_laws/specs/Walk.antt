@@ -1,5 +1,6 @@
 -- Learning several candidates from one example: which part of it is asked about next.
-use Rattle.std.specs.Prelude.{ℕ, zero, suc, Bool, true, false, ◌&&◌, List, [], ◌∷◌, ◌++◌, map, find, Option, Some, None}
+use Rattle.std.specs.Prelude.{ℕ, zero, suc, Bool, true, false, ◌&&◌, List, [], ◌∷◌, ◌++◌, map, find}
+use Rattle.std.specs.Prelude.{Option, Some, None}
 use Rattle.std.specs.List.{list_any}
 use Rattle.language.specs.declared.candidates.Candidate.{Candidate}
 use Rattle.assign.specs.Sets.{is_within, without}
@@ -35,12 +36,16 @@ abbrev pub parts_without : List ℕ → List ℕ → List (List ℕ)
 parts_without set scope = map (λ v. without set v) scope
 
 -- what to put for a set that is taken: a learned candidate within it splits it
-abbrev pub take_set : Language → List Candidate → List Candidate → Assignment → List ℕ → Option Candidate → (List (List ℕ) → Turn) → Turn → Turn
+abbrev pub take_set : Language → List Candidate → List Candidate → Assignment → List ℕ →
+    Option Candidate → (List (List ℕ) → Turn) → Turn → Turn
 take_set l network kept e set (Some c) next asked = next (parts_without set (scope_of l c))
-take_set l network kept e set None next asked = elim (violates_some l kept (restrict e set)) [ true ↦ asked | false ↦ next [] ]
+take_set l network kept e set None next asked =
+    elim (violates_some l kept (restrict e set)) [ true ↦ asked | false ↦ next [] ]
 
--- Sets are taken from the top, until one is asked about or an end comes. kept are the kept candidates.
-unfoldable pub next_turn : Language → List Candidate → List Candidate → Assignment → ℕ → List (List ℕ) → Turn
+-- Sets are taken from the top, until one is asked about or an end comes. kept are the kept
+-- candidates.
+unfoldable pub next_turn : Language → List Candidate → List Candidate → Assignment → ℕ →
+    List (List ℕ) → Turn
 next_turn l network kept e left [] = Ends (Ended e)
 next_turn l network kept e zero (set ∷ waiting) = Ends (Capped e)
 next_turn l network kept e (suc left) (set ∷ waiting) =

@@ -1,6 +1,11 @@
 //! Laws of the sessions, as contracts of functions that do nothing.
 
-ghost use Rattle.session_laws.specs.Laws.{AnswersAreAtMost, AnswersAreFew, AnswersFit, EndedIsWalked, FuelIsEnough, HalvingAsks, IdleIsInStep, ImpliedIsCovered, KeptSteps, LearnedAreFew, NetworkGrows, NetworkHalves, NeverStuck, OneAnswerMore, OverMeansNone, QuestionsHavePlaces, QuestionsHaveValues, ScopesAreCovered, ScopesNeverOver, SettleSteps};
+ghost use Rattle.session_laws.specs.Laws.{AnswersAreAtMost, AnswersAreFew, AnswersFit};
+ghost use Rattle.session_laws.specs.Laws.{EndedIsWalked, FuelIsEnough, HalvingAsks, IdleIsInStep};
+ghost use Rattle.session_laws.specs.Laws.{ImpliedIsCovered, KeptSteps, LearnedAreFew, NetworkGrows};
+ghost use Rattle.session_laws.specs.Laws.{NetworkHalves, NeverStuck, OneAnswerMore, OverMeansNone};
+ghost use Rattle.session_laws.specs.Laws.{QuestionsHavePlaces, QuestionsHaveValues};
+ghost use Rattle.session_laws.specs.Laws.{ScopesAreCovered, ScopesNeverOver, SettleSteps};
 
 // ---- One answer, and its place
 
@@ -84,7 +89,8 @@ pub fn network_grows()
 
 // ---- What a walk of an example leaves
 
-/// Where a walk of an example has ended and wasn't cut off, nothing is left to learn from the example.
+/// Where a walk of an example has ended and wasn't cut off, nothing is left to learn from the
+/// example.
 pub fn ended_is_walked()
     ensures { EndedIsWalked }
 {}
@@ -113,8 +119,8 @@ pub fn learned_are_few()
 
 // ---- A halving that one network answers
 
-/// Where each reply is a network's and it rejects the whole, it rejects the found set and accepts it without any one
-/// variable, and the found set is the scope of one of its candidates.
+/// Where each reply is a network's and it rejects the whole, it rejects the found set and accepts
+/// it without any one variable, and the found set is the scope of one of its candidates.
 pub fn network_halves()
     ensures { NetworkHalves }
 {}

@@ -4,7 +4,8 @@ use Rattle.voc_read.specs.declared.fault.VocFault.{VocFault}
 use Rattle.voc_read.specs.declared.fault.VocFault.TheVariants.{Memory}
 
 -- goes on with the value, where there is one
-abbrev pub then_on : {A B : Type 0} → Result A VocFault → (A → Result B VocFault) → Result B VocFault
+abbrev pub then_on : {A B : Type 0} → Result A VocFault → (A → Result B VocFault) →
+    Result B VocFault
 then_on (Ok x) next = next x
 then_on (Err fault) next = Err fault
 

@@ -12,9 +12,15 @@ use Rattle.rel_formula.specs.declared.fault.TableOfFault.TheVariants as evaluati
 use Rattle.language.specs.declared.parts.LangFault.{LangFault}
 use Rattle.language.specs.declared.parts.LangFault.TheVariants as lang
 use Rattle.voc_read.specs.declared.fault.Spot.{Spot}
-use Rattle.voc_read.specs.declared.fault.Spot.TheVariants.{Whole, Variables, Domain, Relations, Relation, Scopes, Scope, Ranges, Range}
+use Rattle.voc_read.specs.declared.fault.Spot.TheVariants.{Whole, Variables, Domain, Relations}
+use Rattle.voc_read.specs.declared.fault.Spot.TheVariants.{Relation, Scopes, Scope, Ranges, Range}
 use Rattle.voc_read.specs.declared.fault.VocFault.{VocFault}
-use Rattle.voc_read.specs.declared.fault.VocFault.TheVariants.{TooLong, NotJson, Missing, WrongKind, UnknownKey, BadName, NameRepeated, BadRelName, RelRepeated, UnknownVariable, RangeName, BadRange, RangeRepeated, Formula, Table, TableOf, Lang, Memory}
+use Rattle.voc_read.specs.declared.fault.VocFault.TheVariants.{TooLong, NotJson, Missing, WrongKind}
+use Rattle.voc_read.specs.declared.fault.VocFault.TheVariants.{UnknownKey, BadName, NameRepeated}
+use Rattle.voc_read.specs.declared.fault.VocFault.TheVariants.{BadRelName, RelRepeated}
+use Rattle.voc_read.specs.declared.fault.VocFault.TheVariants.{UnknownVariable, RangeName, BadRange}
+use Rattle.voc_read.specs.declared.fault.VocFault.TheVariants.{RangeRepeated, Formula, Table}
+use Rattle.voc_read.specs.declared.fault.VocFault.TheVariants.{TableOf, Lang, Memory}
 
 -- where a fault is
 abbrev pub spot_text : Spot → List ℕ
@@ -88,8 +94,11 @@ fault_text (RangeRepeated i j) = codes "range repeated " ++ pair_text i j
 fault_text (BadRelName i) = codes "bad relation name " ++ decimal i
 fault_text (RelRepeated i j) = codes "relation repeated " ++ pair_text i j
 fault_text (UnknownVariable i) = codes "unknown variable " ++ decimal i
-fault_text (Formula i fault) = codes "relation " ++ (decimal i ++ (codes " formula " ++ formula_text fault))
-fault_text (Table i fault) = codes "relation " ++ (decimal i ++ (codes " table " ++ table_text fault))
-fault_text (TableOf i fault) = codes "relation " ++ (decimal i ++ (codes " " ++ evaluation_text fault))
+fault_text (Formula i fault) =
+    codes "relation " ++ (decimal i ++ (codes " formula " ++ formula_text fault))
+fault_text (Table i fault) =
+    codes "relation " ++ (decimal i ++ (codes " table " ++ table_text fault))
+fault_text (TableOf i fault) =
+    codes "relation " ++ (decimal i ++ (codes " " ++ evaluation_text fault))
 fault_text (Lang fault) = lang_text fault
 fault_text Memory = codes "memory"

@@ -1,5 +1,6 @@
 -- What a vocabulary holds, before its relations and scopes are read.
-use Rattle.std.specs.Prelude.{ℕ, ℤ, ◌≤◌, Bool, false, List, [], ◌∷◌, length, codes, Option, Some, None, Result, Ok, IfSome, if◌then◌else◌}
+use Rattle.std.specs.Prelude.{ℕ, ℤ, ◌≤◌, Bool, false, List, [], ◌∷◌, length, codes, Option, Some}
+use Rattle.std.specs.Prelude.{None, Result, Ok, IfSome, if◌then◌else◌}
 use Rattle.std.specs.Option.{ok_or, option_map, option_map_or}
 use Rattle.std.specs.Borrow.{Bor}
 use Rattle.serde_json.specs.declared.value.Value.{Value}
@@ -9,7 +10,8 @@ use Rattle.serde_json.specs.Find.{as_array, as_str, get}
 use Rattle.serde_json.specs.View.{view, items_view}
 use Rattle.voc_read.specs.declared.fault.VocFault.{VocFault}
 use Rattle.voc_read.specs.declared.fault.VocFault.TheVariants.{WrongKind}
-use Rattle.voc_read.specs.declared.fault.Spot.TheVariants.{Whole, Variables, Domain, Relations, Scopes, Ranges}
+use Rattle.voc_read.specs.declared.fault.Spot.TheVariants.{Whole, Variables, Domain, Relations}
+use Rattle.voc_read.specs.declared.fault.Spot.TheVariants.{Scopes, Ranges}
 use Rattle.voc_read.specs.declared.outline.Held.{Held}
 use Rattle.voc_read.specs.declared.outline.Outline.{Outline}
 use Rattle.voc_read.specs.Answers.{then_on, unless}
@@ -28,7 +30,8 @@ pub record HeldData : Type 0 where
   pub ranges : Option Data
 
 abbrev pub vocabulary_keys : List (List ℕ)
-vocabulary_keys = codes "variables" ∷ codes "domain" ∷ codes "relations" ∷ codes "scopes" ∷ codes "ranges" ∷ []
+vocabulary_keys =
+    codes "variables" ∷ codes "domain" ∷ codes "relations" ∷ codes "scopes" ∷ codes "ranges" ∷ []
 
 -- the values that an object holds under exactly these keys, of which `ranges` alone may be absent
 abbrev pub held_by : Data → Result HeldData VocFault
@@ -38,7 +41,14 @@ held_by whole =
     then_on (under (codes "domain") Domain whole) (λ domain.
     then_on (under (codes "relations") Relations whole) (λ relations.
     then_on (under (codes "scopes") Scopes whole) (λ scopes.
-    Ok (record { variables = variables; domain = domain; relations = relations; scopes = scopes; ranges = get (codes "ranges") whole }))))))
+    Ok (record {
+      variables = variables;
+      domain = domain;
+      relations = relations;
+      scopes = scopes;
+      ranges = get (codes "ranges") whole;
+    }
+    ))))))
 
 -- a value that may be absent
 abbrev pub found_data : Option (Bor Value) → Option Data
@@ -76,7 +86,8 @@ is_all scopes = option_map_or (λ text. bytes_eq text (codes "all")) (as_str sco
 
 -- the scopes that are listed, or none for the string `all`
 abbrev pub listed_under : Data → Result (Option Items) VocFault
-listed_under scopes = if is_all scopes then Ok None else then_on (ok_or (as_array scopes) (WrongKind Scopes)) (λ items. Ok (Some items))
+listed_under scopes = if is_all scopes then Ok None
+    else then_on (ok_or (as_array scopes) (WrongKind Scopes)) (λ items. Ok (Some items))
 
 -- the ranges that are stated, none where the key is absent
 abbrev pub ranges_under : Option Data → Result Items VocFault
@@ -91,7 +102,14 @@ outline_of held =
     then_on (ok_or (as_array held.relations) (WrongKind Relations)) (λ relations.
     then_on (listed_under held.scopes) (λ listed.
     then_on (ranges_under held.ranges) (λ ranges.
-    Ok (record { names = names; least_value = bounds.0; greatest_value = bounds.1; relations = relations; listed = listed; ranges = ranges }))))))
+    Ok (record {
+      names = names;
+      least_value = bounds.0;
+      greatest_value = bounds.1;
+      relations = relations;
+      listed = listed;
+      ranges = ranges;
+    }))))))
 
 -- values that are listed, where some are
 abbrev pub listed_items : Option (Bor (List Value)) → Option Items

@@ -1,5 +1,6 @@
 -- The relations of a vocabulary.
-use Rattle.std.specs.Prelude.{◌≡◌, ℕ, ◌+◌, ℤ, unsigned_abs, List, [], ◌∷◌, map, codes, Option, Some, None, Result, Ok, Err, if◌then◌else◌, true, string_bytes}
+use Rattle.std.specs.Prelude.{◌≡◌, ℕ, ◌+◌, ℤ, unsigned_abs, List, [], ◌∷◌, map, codes, Option, Some}
+use Rattle.std.specs.Prelude.{None, Result, Ok, Err, if◌then◌else◌, true, string_bytes}
 use Rattle.std.specs.Option.{ok_or, option_map}
 use Rattle.serde_json.specs.Data.{Data, Items, no_items, item}
 use Rattle.serde_json.specs.Find.{as_str}
@@ -9,7 +10,8 @@ use Rattle.language.specs.Language.{Given, is_name}
 use Rattle.language.specs.declared.parts.RelPart.{RelPart}
 use Rattle.voc_read.specs.declared.fault.Spot.{Spot}
 use Rattle.voc_read.specs.declared.fault.VocFault.{VocFault}
-use Rattle.voc_read.specs.declared.fault.VocFault.TheVariants.{WrongKind, BadRelName, RelRepeated, Table}
+use Rattle.voc_read.specs.declared.fault.VocFault.TheVariants.{WrongKind, BadRelName, RelRepeated}
+use Rattle.voc_read.specs.declared.fault.VocFault.TheVariants.{Table}
 use Rattle.voc_read.specs.declared.fault.Spot.TheVariants as spot
 use Rattle.voc_read.specs.declared.relations.StatedRelation.{StatedRelation}
 use Rattle.voc_read.specs.Answers.{then_on, unless}
@@ -27,7 +29,8 @@ pub record RelationData : Type 0 where
 abbrev pub relation_keys : List (List ℕ)
 relation_keys = codes "name" ∷ codes "arity" ∷ codes "tuples" ∷ codes "formula" ∷ []
 
--- what an object states under these keys, each value of its kind; `tuples` and `formula` exclude each other
+-- what an object states under these keys, each value of its kind; `tuples` and `formula` exclude
+-- each other
 abbrev pub relation_data : Spot → Data → Result RelationData VocFault
 relation_data here value =
     unless (keys_refusal relation_keys here value) (
@@ -40,7 +43,8 @@ relation_data here value =
     Ok (record { name = name; arity = arity; rule = rule }))))))))
 
 abbrev pub stated_relation : StatedRelation → RelationData
-stated_relation stated = record { name = stated.name.now; arity = stated.arity; rule = rule_data stated.rule }
+stated_relation stated =
+    record { name = stated.name.now; arity = stated.arity; rule = rule_data stated.rule }
 
 -- why relation i is refused by its name
 abbrev pub name_refusal : ℕ → List ℕ → Option VocFault
@@ -65,7 +69,8 @@ made_of i least_value value_count stated =
 
 -- what relation i is
 abbrev pub relation_stated : ℕ → ℤ → ℕ → Data → Result Given VocFault
-relation_stated i least_value value_count value = then_on (relation_data (spot.Relation i) value) (made_of i least_value value_count)
+relation_stated i least_value value_count value =
+    then_on (relation_data (spot.Relation i) value) (made_of i least_value value_count)
 
 -- what the relations from i on are
 abbrev pub relations_from : ℕ → ℤ → ℕ → Items → Result (List Given) VocFault
@@ -85,9 +90,11 @@ given_names given = map (λ (g : Given). g.name) given
 
 -- why the relations are refused by their names together
 abbrev pub relation_names_refusal : List Given → Option VocFault
-relation_names_refusal given = option_map (λ pair. RelRepeated pair.0 pair.1) (first_repeat (given_names given))
+relation_names_refusal given =
+    option_map (λ pair. RelRepeated pair.0 pair.1) (first_repeat (given_names given))
 
 -- relations over so many values from the least one on, no two of one name
 abbrev pub listed_relations : ℤ → ℕ → Items → Result (List Given) VocFault
 listed_relations least_value value_count relations =
-    then_on (relations_from 0 least_value value_count relations) (λ given. unless (relation_names_refusal given) (Ok given))
+    then_on (relations_from 0 least_value value_count relations)
+    (λ given. unless (relation_names_refusal given) (Ok given))

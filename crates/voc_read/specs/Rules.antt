@@ -1,5 +1,6 @@
 -- What tells which tuples a relation accepts: a list of them, or a formula.
-use Rattle.std.specs.Prelude.{ℕ, ◌^◌, nat_eq, ℤ, List, map, length, codes, Option, Some, None, Result, Ok, Err}
+use Rattle.std.specs.Prelude.{ℕ, ◌^◌, nat_eq, ℤ, List, map, length, codes, Option, Some, None}
+use Rattle.std.specs.Prelude.{Result, Ok, Err}
 use Rattle.std.specs.List.{list_any, range_with_len}
 use Rattle.std.specs.Option.{ok_or, option_map}
 use Rattle.serde_json.specs.Data.{Data}
@@ -48,7 +49,8 @@ stated_widest (formula value) = widest value
 
 -- the tuples are an array of arrays of whole numbers
 abbrev pub rule_in : Spot → RuleData Data → Result (RuleData (List (List ℤ))) VocFault
-rule_in here (tuples value) = then_on (ok_or (tuple_list value) (WrongKind here)) (λ list. Ok (tuples list))
+rule_in here (tuples value) =
+    then_on (ok_or (tuple_list value) (WrongKind here)) (λ list. Ok (tuples list))
 rule_in here (formula value) = Ok (formula value)
 
 abbrev pub rule_data : Rule → RuleData (List (List ℤ))
@@ -63,12 +65,14 @@ tuple_count (rule.Formula value) = 0
 -- the relation that accepts exactly the tuples: for each place, whether one of them stands there
 abbrev pub accepting : ℤ → ℕ → ℕ → List (List ℤ) → Relation
 accepting least_value value_count arity given =
-    map (λ at. list_any (λ tuple. nat_eq (place_of_shown least_value value_count tuple) at) given) (range_with_len 0 (value_count ^ arity))
+    map (λ at. list_any (λ tuple. nat_eq (place_of_shown least_value value_count tuple) at) given)
+    (range_with_len 0 (value_count ^ arity))
 
 -- the relation of tuples, for relation i
 abbrev pub relation_of_tuples : ℕ → ℤ → ℕ → ℕ → List (List ℤ) → Result Relation VocFault
 relation_of_tuples i least_value value_count arity given =
-    unless (option_map (Table i) (first_fault arity least_value value_count 0 given)) (Ok (accepting least_value value_count arity given))
+    unless (option_map (Table i) (first_fault arity least_value value_count 0 given))
+    (Ok (accepting least_value value_count arity given))
 
 -- the formula of relation i
 abbrev pub rule_formula : ℕ → Result Truth FormulaFault → Result Truth VocFault
@@ -79,10 +83,13 @@ rule_formula i (Err fault) = Err (Formula i fault)
 abbrev pub relation_of_formula : ℕ → ℤ → ℕ → ℕ → Data → Result Relation VocFault
 relation_of_formula i least_value value_count arity value =
     then_on (rule_formula i (formula_in arity value)) (λ truth.
-    unless (option_map (λ place. TableOf i (TooBig place)) (first_too_big truth arity least_value value_count)) (
+    unless (option_map (λ place. TableOf i (TooBig place))
+    (first_too_big truth arity least_value value_count)) (
     Ok (relation_from_formula truth arity least_value value_count)))
 
 -- the relation of a rule, for relation i
 abbrev pub relation_of_rule : ℕ → ℤ → ℕ → ℕ → RuleData (List (List ℤ)) → Result Relation VocFault
-relation_of_rule i least_value value_count arity (tuples given) = relation_of_tuples i least_value value_count arity given
-relation_of_rule i least_value value_count arity (formula value) = relation_of_formula i least_value value_count arity value
+relation_of_rule i least_value value_count arity (tuples given) =
+    relation_of_tuples i least_value value_count arity given
+relation_of_rule i least_value value_count arity (formula value) =
+    relation_of_formula i least_value value_count arity value

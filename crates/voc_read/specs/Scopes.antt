@@ -12,12 +12,14 @@ use Rattle.voc_read.specs.Values.{text_list}
 -- the numbers of the variables of these names, where each is the name of one
 abbrev pub numbers_of : List (List ℕ) → List (List ℕ) → Option (List ℕ)
 numbers_of names [] = Some []
-numbers_of names (name ∷ more) = option_and_then (λ v. option_map (λ vs. v ∷ vs) (numbers_of names more)) (variable_number names name)
+numbers_of names (name ∷ more) = option_and_then (λ v.
+    option_map (λ vs. v ∷ vs) (numbers_of names more)) (variable_number names name)
 
 -- the variables of scope i, in the order in which they are listed
 abbrev pub scope_stated : ℕ → List (List ℕ) → Data → Result (List ℕ) VocFault
 scope_stated i names value =
-    then_on (ok_or (text_list value) (WrongKind (spot.Scope i))) (λ listed. ok_or (numbers_of names listed) (UnknownVariable i))
+    then_on (ok_or (text_list value) (WrongKind (spot.Scope i)))
+    (λ listed. ok_or (numbers_of names listed) (UnknownVariable i))
 
 -- the scopes from i on
 abbrev pub scopes_from : ℕ → List (List ℕ) → Items → Result (List (List ℕ)) VocFault

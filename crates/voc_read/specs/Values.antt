@@ -11,7 +11,8 @@ whole_number value = option_and_then as_i64 (as_number value)
 -- what each value of a list is read as, where each is read
 abbrev pub each_of : {A : Type 0} → (Data → Option A) → Items → Option (List A)
 each_of read no_items = Some []
-each_of read (item value values) = option_and_then (λ x. option_map (λ xs. x ∷ xs) (each_of read values)) (read value)
+each_of read (item value values) =
+    option_and_then (λ x. option_map (λ xs. x ∷ xs) (each_of read values)) (read value)
 
 -- an array of such values
 abbrev pub list_of : {A : Type 0} → (Data → Option A) → Data → Option (List A)

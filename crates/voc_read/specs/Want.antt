@@ -11,7 +11,8 @@ use Rattle.rel_formula.specs.declared.fault.TableOfFault.TheVariants as evaluati
 use Rattle.language.specs.declared.parts.LangFault.{LangFault}
 use Rattle.language.specs.declared.parts.LangFault.TheVariants as lang
 use Rattle.voc_read.specs.declared.fault.VocFault.{VocFault}
-use Rattle.voc_read.specs.declared.fault.VocFault.TheVariants.{Formula, Table, TableOf, Lang, Memory}
+use Rattle.voc_read.specs.declared.fault.VocFault.TheVariants.{Formula, Table, TableOf, Lang}
+use Rattle.voc_read.specs.declared.fault.VocFault.TheVariants.{Memory}
 
 abbrev pub table_wants : TableFault → Bool
 table_wants table.Memory = true

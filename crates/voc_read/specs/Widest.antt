@@ -1,6 +1,7 @@
 -- How large the arrays of a JSON value are.
 use Rattle.std.specs.Prelude.{ℕ, max, Option, Some, None}
-use Rattle.serde_json.specs.Data.{Data, null, boolean, number, string, array, object, Items, no_items, item, Members, no_members, member}
+use Rattle.serde_json.specs.Data.{Data, null, boolean, number, string, array, object, Items}
+use Rattle.serde_json.specs.Data.{no_items, item, Members, no_members, member}
 use Rattle.serde_json.specs.Events.{items_len}
 
 -- how many values the largest array has, the value itself or within it

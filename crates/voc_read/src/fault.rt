@@ -39,7 +39,8 @@ pub enum VocFault {
     /// The variable's name doesn't have the form of a name.
     #[error("variable {0} has a bad name")]
     BadName(u32),
-    /// Two variables have one name: the second is the first that repeats one, the first is the one that it repeats.
+    /// Two variables have one name: the second is the first that repeats one, the first is the one
+    /// that it repeats.
     #[error("variables {0} and {1} have one name")]
     NameRepeated(u32, u32),
     /// The range names something that is no variable.

@@ -20,7 +20,8 @@ fn is_known(known: &[&str], key: &str) -> bool
 
 /// Whether some key is none of the known ones.
 fn some_unknown(members: &Map<String, Value>, known: &[&str]) -> bool
-    ensures { result ≡ list_any (λ key. not (list_any (λ name. bytes_eq name.now (string_bytes key)) known.now)) (map (λ entry. entry.0) members.now.entries) }
+    ensures { result ≡ list_any (λ key. not (list_any (λ name. bytes_eq name.now (string_bytes key))
+        known.now)) (map (λ entry. entry.0) members.now.entries) }
 {
     members.keys().any(|key| !is_known(known, key.as_str()))
 }
@@ -46,7 +47,8 @@ pub fn check_keys(value: &Value, known: &[&str], spot: Spot) -> Result<(), VocFa
 /// The value under a key.
 pub fn under<'a>(value: &'a Value, key: &str, spot: Spot) -> Result<&'a Value, VocFault>
     ensures part { IfOk result (λ found. widest (view found.now) ≤ widest (view value.entry.now)) }
-    ensures is { Reads (λ found. view found.now) (under key.entry.now spot (view value.entry.now)) result }
+    ensures is { Reads (λ found. view found.now)
+        (under key.entry.now spot (view value.entry.now)) result }
 {
     value.get(key).ok_or(VocFault::Missing(spot))
 }

@@ -1,6 +1,7 @@
 //! Laws of the definitions, as contracts of functions that do nothing.
 
-ghost use Rattle.voc_read.specs.Laws.{EachVocabularyIsReadOrRefused, NoTwoLanguages, ReadVocabularyIsNotRefused};
+ghost use Rattle.voc_read.specs.Laws.{EachVocabularyIsReadOrRefused, NoTwoLanguages};
+ghost use Rattle.voc_read.specs.Laws.{ReadVocabularyIsNotRefused};
 
 /// What describes a language isn't refused.
 pub fn read_is_not_refused()

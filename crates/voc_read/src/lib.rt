@@ -1,9 +1,11 @@
-//! Reading a vocabulary: from the bytes of a JSON text to the language that they describe, or to the first fault.
+//! Reading a vocabulary: from the bytes of a JSON text to the language that they describe, or to
+//! the first fault.
 //!
-//! Bytes are a vocabulary of at most one language (`IsVocabulary`, law `no_two_languages`), and a refused text is one of none
-//! (law `read_is_not_refused`). The floor above may rely on `IsLanguage` of what was read. A fault says what is wrong and
-//! where: in which relation, scope or range, and at which place in it (`VocFault`). Where a text has several faults, the one
-//! is given that comes first by the order in which `read_vocabulary` looks.
+//! Bytes are a vocabulary of at most one language (`IsVocabulary`, law `no_two_languages`), and a
+//! refused text is one of none (law `read_is_not_refused`). The floor above may rely on
+//! `IsLanguage` of what was read. A fault says what is wrong and where: in which relation, scope or
+//! range, and at which place in it (`VocFault`). Where a text has several faults, the one is given
+//! that comes first by the order in which `read_vocabulary` looks.
 //!
 //! | to | call |
 //! |---|---|

@@ -1,13 +1,16 @@
 // The language of what a vocabulary holds.
-ghost use Rattle.std.specs.Prelude.{◌≡◌, ◌≢◌, ◌<◌, ◌^◌, length, map, All, Some, IfOk, IfErr, IfSome, OnOk};
+ghost use Rattle.std.specs.Prelude.{◌≡◌, ◌≢◌, ◌<◌, ◌^◌, length, map, All, Some, IfOk, IfErr};
+ghost use Rattle.std.specs.Prelude.{IfSome, OnOk};
 ghost use Rattle.std.specs.Option.{option_map};
 ghost use Rattle.serde_json.specs.View.{view, items_view};
 ghost use Rattle.language.specs.Language.{AreNames};
 ghost use Rattle.language.specs.Building.{frame_refusal, values_between};
 ghost use Rattle.voc_read.specs.Answers.{Reads, Refuses};
 ghost use Rattle.voc_read.specs.Outline.{outline_data};
-ghost use Rattle.voc_read.specs.Vocabulary.{outline_refusal, parts_from, refusal_after, IsFrameOf, IsLanguageOf};
-ghost use Rattle.voc_read.specs.Ranges.{named_range, with_ranges, HaveDistinctVariables, HasWholeRanges, IsKnown};
+ghost use Rattle.voc_read.specs.Vocabulary.{outline_refusal, parts_from, refusal_after, IsFrameOf};
+ghost use Rattle.voc_read.specs.Vocabulary.{IsLanguageOf};
+ghost use Rattle.voc_read.specs.Ranges.{named_range, with_ranges, HaveDistinctVariables};
+ghost use Rattle.voc_read.specs.Ranges.{HasWholeRanges, IsKnown};
 ghost use Rattle.voc_read.specs.Texts.{texts_of};
 ghost use Rattle.voc_read.specs.Widest.{items_widest};
 
@@ -59,7 +62,8 @@ fn domain_of(frame: &Frame) -> Domain
 /// Gives each variable that has a range its values.
 fn set_ranges(frame: &mut Frame, ranges: &[NamedRange<'_>])
     requires whole { HasWholeRanges frame.old }
-    requires known { All (IsKnown frame.old.names frame.old.least_value frame.old.value_count) (map named_range ranges.now) }
+    requires known { All (IsKnown frame.old.names frame.old.least_value frame.old.value_count)
+        (map named_range ranges.now) }
     requires apart { HaveDistinctVariables (map named_range ranges.now) }
     ensures { frame.new ≡ with_ranges frame.old (map named_range ranges.now) }
 {
@@ -68,8 +72,8 @@ fn set_ranges(frame: &mut Frame, ranges: &[NamedRange<'_>])
     }
 }
 
-/// The language of the outline, or the first fault in its names, its domain, its ranges, its relations, its scopes or
-/// what they make together.
+/// The language of the outline, or the first fault in its names, its domain, its ranges, its
+/// relations, its scopes or what they make together.
 pub fn language_of(alloc: Global, outline: &Outline<'_>) -> Result<Language, VocFault>
     requires names { length outline.now.names.items < 2 ^ 32 }
     requires ranges { length outline.now.ranges.now < 2 ^ 32 }
@@ -77,7 +81,8 @@ pub fn language_of(alloc: Global, outline: &Outline<'_>) -> Result<Language, Voc
     requires scopes { IfSome outline.now.listed (λ list. length list.now < 2 ^ 32) }
     requires parts { items_widest (items_view outline.now.relations.now) < 2 ^ 32 }
     ensures ok { IfOk result (λ l. IsLanguageOf (parts_from (outline_data outline.now)) l) }
-    ensures refused { IfErr result (λ e. e ≢ VocFault.Memory → refusal_after (parts_from (outline_data outline.now)) ≡ Some e) }
+    ensures refused { IfErr result (λ e. e ≢ VocFault.Memory →
+        refusal_after (parts_from (outline_data outline.now)) ≡ Some e) }
 {
     check_names(alloc, &outline.names)?;
     let mut frame = frame_of(alloc, outline)?;

@@ -1,5 +1,6 @@
 // The names of variables and of relations.
-ghost use Rattle.std.specs.Prelude.{◌≡◌, ◌<◌, ◌≤◌, ◌^◌, not, length, map, string_bytes, position, None, IfOk, OnOk};
+ghost use Rattle.std.specs.Prelude.{◌≡◌, ◌<◌, ◌≤◌, ◌^◌, not, length, map, string_bytes, position};
+ghost use Rattle.std.specs.Prelude.{None, IfOk, OnOk};
 ghost use Rattle.language.specs.Language.{is_name, AreNames};
 ghost use Rattle.voc_read.specs.Names.{first_repeat, variable_number, names_refusal};
 ghost use Rattle.voc_read.specs.Answers.{Refuses};

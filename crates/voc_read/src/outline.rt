@@ -2,7 +2,9 @@
 ghost use Rattle.std.specs.Prelude.{◌≡◌, ◌≤◌, length, IfOk, IfSome};
 ghost use Rattle.serde_json.specs.View.{view, items_view};
 ghost use Rattle.voc_read.specs.Answers.{Reads};
-ghost use Rattle.voc_read.specs.Outline.{held_by, held_data, found_data, is_all, listed_under, listed_items, ranges_under, outline_of, outline_data, IsHeldWithin, IsOutlineWithin};
+ghost use Rattle.voc_read.specs.Outline.{held_by, held_data, found_data, is_all, listed_under};
+ghost use Rattle.voc_read.specs.Outline.{listed_items, ranges_under, outline_of, outline_data};
+ghost use Rattle.voc_read.specs.Outline.{IsHeldWithin, IsOutlineWithin};
 ghost use Rattle.voc_read.specs.Widest.{widest, widest_in};
 
 use crate::fault::{Spot, VocFault};
@@ -26,7 +28,8 @@ pub struct Held<'a> {
 
 /// The values that an object holds under exactly these keys, of which `ranges` alone may be absent.
 pub fn held_by<'a>(whole: &'a Value) -> Result<Held<'a>, VocFault>
-    ensures within { IfOk result (λ held. IsHeldWithin (widest (view whole.entry.now)) (held_data held)) }
+    ensures within { IfOk result
+        (λ held. IsHeldWithin (widest (view whole.entry.now)) (held_data held)) }
     ensures is { Reads held_data (held_by (view whole.entry.now)) result }
 {
     check_keys(whole, &KEYS, Spot::Whole)?;
@@ -43,7 +46,8 @@ pub fn held_by<'a>(whole: &'a Value) -> Result<Held<'a>, VocFault>
     })
 }
 
-/// The names and the domain, with the relations, the scopes and the ranges that are still to be read.
+/// The names and the domain, with the relations, the scopes and the ranges that are still to be
+/// read.
 #[derive(Drop)]
 pub struct Outline<'a> {
     pub names: Vec<&'a str>,
@@ -67,7 +71,8 @@ fn is_all(scopes: &Value) -> bool
 
 /// The scopes that are listed, or none for the string `all`.
 fn listed_under<'a>(scopes: &'a Value) -> Result<Option<&'a [Value]>, VocFault>
-    ensures few { IfOk result (λ listed. IfSome listed (λ list. length list.now ≤ widest (view scopes.entry.now))) }
+    ensures few { IfOk result
+        (λ listed. IfSome listed (λ list. length list.now ≤ widest (view scopes.entry.now))) }
     ensures is { Reads listed_items (listed_under (view scopes.entry.now)) result }
 {
     if is_all(scopes) {
@@ -80,7 +85,8 @@ fn listed_under<'a>(scopes: &'a Value) -> Result<Option<&'a [Value]>, VocFault>
 /// The ranges that are stated, none where the key is absent.
 fn ranges_under<'a>(ranges: Option<&'a Value>) -> Result<&'a [Value], VocFault>
     ensures few { IfOk result (λ list. length list.now ≤ widest_in (found_data ranges.entry)) }
-    ensures is { Reads (λ list. items_view list.now) (ranges_under (found_data ranges.entry)) result }
+    ensures is { Reads (λ list. items_view list.now)
+        (ranges_under (found_data ranges.entry)) result }
 {
     match ranges {
         Some(value) => items_of(value, Spot::Ranges),

@@ -1,10 +1,13 @@
 // The ranges of values that a vocabulary states.
-ghost use Rattle.std.specs.Prelude.{◌≡◌, ◌≢◌, ◌<◌, ◌≤◌, ◌^◌, length, map, None, All, AllPairs, IfOk, OnOk};
+ghost use Rattle.std.specs.Prelude.{◌≡◌, ◌≢◌, ◌<◌, ◌≤◌, ◌^◌, length, map, None, All, AllPairs};
+ghost use Rattle.std.specs.Prelude.{IfOk, OnOk};
 ghost use Rattle.std.specs.Option.{ok_or};
 ghost use Rattle.serde_json.specs.View.{view, items_view};
 ghost use Rattle.voc_read.specs.Answers.{Reads, Refuses};
 ghost use Rattle.voc_read.specs.Names.{first_repeat};
-ghost use Rattle.voc_read.specs.Ranges.{stated_of, range_stated_by, range_data, stated_range, bounds_refusal, named_range, range_for, range_stated, ranges_from, ranged_names, ranges_refusal, ranges_of};
+ghost use Rattle.voc_read.specs.Ranges.{stated_of, range_stated_by, range_data, stated_range};
+ghost use Rattle.voc_read.specs.Ranges.{bounds_refusal, named_range, range_for, range_stated};
+ghost use Rattle.voc_read.specs.Ranges.{ranges_from, ranged_names, ranges_refusal, ranges_of};
 ghost use Rattle.voc_read.specs.Texts.{texts_of};
 
 use crate::domain::Domain;
@@ -30,7 +33,8 @@ fn stated_of<'a>(
     highest: &Value,
     here: Spot,
 ) -> Result<StatedRange<'a>, VocFault>
-    ensures { Reads stated_range (ok_or (stated_of (view name.entry.now) (view lowest.now) (view highest.now)) (VocFault.WrongKind here)) result }
+    ensures { Reads stated_range (ok_or (stated_of (view name.entry.now) (view lowest.now)
+        (view highest.now)) (VocFault.WrongKind here)) result }
 {
     let name = name.as_str().ok_or(VocFault::WrongKind(here))?;
     let lowest = whole_number(lowest, here)?;
@@ -44,7 +48,8 @@ fn stated_of<'a>(
 
 /// What a list of one string and two whole numbers states.
 fn stated_by<'a>(list: &'a [Value], here: Spot) -> Result<StatedRange<'a>, VocFault>
-    ensures { Reads stated_range (ok_or (range_stated_by (items_view list.entry.now)) (VocFault.WrongKind here)) result }
+    ensures { Reads stated_range
+        (ok_or (range_stated_by (items_view list.entry.now)) (VocFault.WrongKind here)) result }
 {
     match list {
         [name, lowest, highest] => stated_of(name, lowest, highest, here),
@@ -54,15 +59,18 @@ fn stated_by<'a>(list: &'a [Value], here: Spot) -> Result<StatedRange<'a>, VocFa
 
 /// What an array of one string and two whole numbers states.
 fn stated_in<'a>(value: &'a Value, here: Spot) -> Result<StatedRange<'a>, VocFault>
-    ensures { Reads stated_range (ok_or (range_data (view value.entry.now)) (VocFault.WrongKind here)) result }
+    ensures { Reads stated_range
+        (ok_or (range_data (view value.entry.now)) (VocFault.WrongKind here)) result }
 {
     let list = items_of(value, here)?;
     stated_by(list, here)
 }
 
-/// Refuses range i where its highest value is below the lowest, or one of them is outside the domain.
+/// Refuses range i where its highest value is below the lowest, or one of them is outside the
+/// domain.
 fn check_bounds(i: u32, domain: Domain, stated: StatedRange<'_>) -> Result<(), VocFault>
-    ensures { Refuses (bounds_refusal i domain.least_value domain.value_count (stated_range stated.entry)) result }
+    ensures { Refuses (bounds_refusal i domain.least_value domain.value_count
+        (stated_range stated.entry)) result }
 {
     if stated.lowest <= stated.highest && domain.has(stated.lowest) && domain.has(stated.highest) {
         Ok(())
@@ -88,7 +96,8 @@ fn range_for<'a>(
     stated: StatedRange<'a>,
 ) -> Result<NamedRange<'a>, VocFault>
     requires { length names.now.keys ≤ 128 }
-    ensures { Reads named_range (range_for i domain.least_value domain.value_count (texts_of names.now.keys) (stated_range stated.entry)) result }
+    ensures { Reads named_range (range_for i domain.least_value domain.value_count
+        (texts_of names.now.keys) (stated_range stated.entry)) result }
 {
     let variable = number_of(names, stated.name).ok_or(VocFault::RangeName(i))?;
     check_bounds(i, domain, stated)?;
@@ -108,7 +117,8 @@ fn range_of<'a>(
     value: &'a Value,
 ) -> Result<NamedRange<'a>, VocFault>
     requires { length names.now.keys ≤ 128 }
-    ensures { Reads named_range (range_stated i domain.least_value domain.value_count (texts_of names.now.keys) (view value.entry.now)) result }
+    ensures { Reads named_range (range_stated i domain.least_value domain.value_count
+        (texts_of names.now.keys) (view value.entry.now)) result }
 {
     let stated = stated_in(value, Spot::Range(i))?;
     range_for(i, domain, names, stated)
@@ -123,7 +133,8 @@ fn ranges_in<'a>(
 ) -> Result<Vec<NamedRange<'a>>, VocFault>
     requires variables { length names.now.keys ≤ 128 }
     requires few { length list.now < 2 ^ 32 }
-    ensures is { Reads (λ v. map named_range v.items) (ranges_from 0 domain.least_value domain.value_count (texts_of names.now.keys) (items_view list.entry.now)) result }
+    ensures is { Reads (λ v. map named_range v.items) (ranges_from 0 domain.least_value
+        domain.value_count (texts_of names.now.keys) (items_view list.entry.now)) result }
     ensures each { IfOk result (λ v. length v.items ≡ length list.entry.now) }
 {
     let mut ranges = Vec::new(alloc);
@@ -167,7 +178,8 @@ pub fn ranges_of<'a>(
     requires variables { length names.now ≤ 128 }
     requires apart { first_repeat (texts_of names.now) ≡ None }
     requires few { length list.now < 2 ^ 32 }
-    ensures { Reads (λ v. map named_range v.items) (ranges_of domain.least_value domain.value_count (texts_of names.now) (items_view list.entry.now)) result }
+    ensures { Reads (λ v. map named_range v.items) (ranges_of domain.least_value domain.value_count
+        (texts_of names.now) (items_view list.entry.now)) result }
 {
     let numbers = index_names(alloc, names)?;
     let ranges = ranges_in(alloc, domain, &numbers, list)?;

@@ -5,7 +5,10 @@ ghost use Rattle.language.specs.Inside.{given_by};
 ghost use Rattle.language.specs.Building.{IsOver};
 ghost use Rattle.language.specs.Language.{AreNames};
 ghost use Rattle.voc_read.specs.Answers.{Reads, Refuses};
-ghost use Rattle.voc_read.specs.Relations.{relation_data, stated_relation, name_refusal, small_arity, made_of, relation_stated, relations_from, given_names, relation_names_refusal, listed_relations, IsNamed};
+ghost use Rattle.voc_read.specs.Relations.{relation_data, stated_relation, name_refusal};
+ghost use Rattle.voc_read.specs.Relations.{small_arity, made_of, relation_stated, relations_from};
+ghost use Rattle.voc_read.specs.Relations.{given_names, relation_names_refusal, listed_relations};
+ghost use Rattle.voc_read.specs.Relations.{IsNamed};
 ghost use Rattle.voc_read.specs.Rules.{tuple_count};
 ghost use Rattle.voc_read.specs.Texts.{texts_of};
 ghost use Rattle.voc_read.specs.Widest.{widest, items_widest};
@@ -81,7 +84,8 @@ fn made_of(
     stated: &StatedRelation<'_>,
 ) -> Result<RelPart, VocFault>
     requires { tuple_count stated.now.rule < 2 ^ 32 }
-    ensures is { Reads given_by (made_of i domain.least_value domain.value_count (stated_relation stated.now)) result }
+    ensures is { Reads given_by
+        (made_of i domain.least_value domain.value_count (stated_relation stated.now)) result }
     ensures kind { IfOk result (IsOver domain.value_count) }
     ensures named { IfOk result IsNamed }
 {
@@ -95,7 +99,8 @@ fn made_of(
 /// Relation i, over the values of the domain.
 fn relation_of(alloc: Global, i: u32, domain: Domain, value: &Value) -> Result<RelPart, VocFault>
     requires { widest (view value.now) < 2 ^ 32 }
-    ensures is { Reads given_by (relation_stated i domain.least_value domain.value_count (view value.now)) result }
+    ensures is { Reads given_by
+        (relation_stated i domain.least_value domain.value_count (view value.now)) result }
     ensures kind { IfOk result (IsOver domain.value_count) }
     ensures named { IfOk result IsNamed }
 {
@@ -107,7 +112,8 @@ fn relation_of(alloc: Global, i: u32, domain: Domain, value: &Value) -> Result<R
 fn relations_of(alloc: Global, domain: Domain, list: &[Value]) -> Result<Vec<RelPart>, VocFault>
     requires few { length list.now < 2 ^ 32 }
     requires parts { items_widest (items_view list.now) < 2 ^ 32 }
-    ensures is { Reads (λ v. map given_by v.items) (relations_from 0 domain.least_value domain.value_count (items_view list.now)) result }
+    ensures is { Reads (λ v. map given_by v.items)
+        (relations_from 0 domain.least_value domain.value_count (items_view list.now)) result }
     ensures kinds { IfOk result (λ v. All (IsOver domain.value_count) v.items) }
     ensures named { IfOk result (λ v. All IsNamed v.items) }
     ensures each { IfOk result (λ v. length v.items ≡ length list.now) }
@@ -147,7 +153,8 @@ fn check_names_apart(alloc: Global, relations: &[RelPart]) -> Result<(), VocFaul
 pub fn given_of(alloc: Global, domain: Domain, list: &[Value]) -> Result<Vec<RelPart>, VocFault>
     requires few { length list.now < 2 ^ 32 }
     requires parts { items_widest (items_view list.now) < 2 ^ 32 }
-    ensures is { Reads (λ v. map given_by v.items) (listed_relations domain.least_value domain.value_count (items_view list.now)) result }
+    ensures is { Reads (λ v. map given_by v.items)
+        (listed_relations domain.least_value domain.value_count (items_view list.now)) result }
     ensures kinds { IfOk result (λ v. All (IsOver domain.value_count) v.items) }
     ensures names { IfOk result (λ v. AreNames (given_names (map given_by v.items))) }
 {

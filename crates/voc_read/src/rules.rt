@@ -6,7 +6,9 @@ ghost use Rattle.rel_table.specs.Made.{lists};
 ghost use Rattle.rel_table.specs.Table.{TruthTable};
 ghost use Rattle.rel_formula.specs.Reading.{formula_in};
 ghost use Rattle.voc_read.specs.Answers.{Reads};
-ghost use Rattle.voc_read.specs.Rules.{stated_under, stated_data, stated_widest, rule_in, rule_data, tuple_count, rule_formula, relation_of_tuples, relation_of_formula, relation_of_rule};
+ghost use Rattle.voc_read.specs.Rules.{stated_under, stated_data, stated_widest, rule_in};
+ghost use Rattle.voc_read.specs.Rules.{rule_data, tuple_count, rule_formula, relation_of_tuples};
+ghost use Rattle.voc_read.specs.Rules.{relation_of_formula, relation_of_rule};
 ghost use Rattle.voc_read.specs.Widest.{widest};
 
 use crate::domain::Domain;
@@ -26,7 +28,8 @@ pub enum Stated<'a> {
 
 /// What stands under `tuples` or `formula`: one of the keys has to be there, and not both.
 pub fn stated_under<'a>(value: &'a Value, here: Spot) -> Result<Stated<'a>, VocFault>
-    ensures part { IfOk result (λ stated. stated_widest (stated_data stated) ≤ widest (view value.entry.now)) }
+    ensures part { IfOk result
+        (λ stated. stated_widest (stated_data stated) ≤ widest (view value.entry.now)) }
     ensures is { Reads stated_data (stated_under here (view value.entry.now)) result }
 {
     match (value.get("tuples"), value.get("formula")) {
@@ -46,7 +49,8 @@ pub enum Rule<'a> {
 
 /// The rule that is stated, where tuples are an array of arrays of whole numbers.
 pub fn rule_in<'a>(alloc: Global, stated: Stated<'a>, here: Spot) -> Result<Rule<'a>, VocFault>
-    ensures few { IfOk result (λ rule. tuple_count rule ≤ stated_widest (stated_data stated.entry)) }
+    ensures few { IfOk result
+        (λ rule. tuple_count rule ≤ stated_widest (stated_data stated.entry)) }
     ensures is { Reads rule_data (rule_in here (stated_data stated.entry)) result }
 {
     match stated {
@@ -81,7 +85,8 @@ fn table_of_tuples(
     requires short { arity ≤ 4 }
     requires fits { domain.value_count ^ arity ≤ 65536 }
     requires few { length tuples.now < 2 ^ 32 }
-    ensures is { Reads (λ (t : TruthTable). t.truth) (relation_of_tuples i domain.least_value domain.value_count arity (lists tuples.now)) result }
+    ensures is { Reads (λ (t : TruthTable). t.truth) (relation_of_tuples i domain.least_value
+        domain.value_count arity (lists tuples.now)) result }
     ensures long { IfOk result (λ t. t.arity ≡ arity) }
     ensures values { IfOk result (λ t. t.value_count ≡ domain.value_count) }
 {
@@ -134,7 +139,8 @@ fn table_of_formula(
     requires some { 1 ≤ arity }
     requires short { arity ≤ 4 }
     requires fits { domain.value_count ^ arity ≤ 65536 }
-    ensures is { Reads (λ (t : TruthTable). t.truth) (relation_of_formula i domain.least_value domain.value_count arity (view value.now)) result }
+    ensures is { Reads (λ (t : TruthTable). t.truth) (relation_of_formula i domain.least_value
+        domain.value_count arity (view value.now)) result }
     ensures long { IfOk result (λ t. t.arity ≡ arity) }
     ensures values { IfOk result (λ t. t.value_count ≡ domain.value_count) }
 {
@@ -163,7 +169,8 @@ pub fn table_by(
     requires short { arity ≤ 4 }
     requires fits { domain.value_count ^ arity ≤ 65536 }
     requires few { tuple_count rule.now < 2 ^ 32 }
-    ensures is { Reads (λ (t : TruthTable). t.truth) (relation_of_rule i domain.least_value domain.value_count arity (rule_data rule.now)) result }
+    ensures is { Reads (λ (t : TruthTable). t.truth) (relation_of_rule i domain.least_value
+        domain.value_count arity (rule_data rule.now)) result }
     ensures long { IfOk result (λ t. t.arity ≡ arity) }
     ensures values { IfOk result (λ t. t.value_count ≡ domain.value_count) }
 {

@@ -26,7 +26,8 @@ fn numbers_of(
     listed: &[&str],
 ) -> Result<SmallVec<u8, 4>, VocFault>
     requires { length names.now.keys ≤ 128 }
-    ensures { Reads (λ scope. scope.items) (ok_or (numbers_of (texts_of names.now.keys) (texts_of listed.now)) (VocFault.UnknownVariable i)) result }
+    ensures { Reads (λ scope. scope.items) (ok_or (numbers_of (texts_of names.now.keys)
+        (texts_of listed.now)) (VocFault.UnknownVariable i)) result }
 {
     let mut scope = SmallVec::new(alloc);
     for name in listed {
@@ -44,7 +45,8 @@ fn scope_of(
     value: &Value,
 ) -> Result<SmallVec<u8, 4>, VocFault>
     requires { length names.now.keys ≤ 128 }
-    ensures { Reads (λ scope. scope.items) (scope_stated i (texts_of names.now.keys) (view value.now)) result }
+    ensures { Reads
+        (λ scope. scope.items) (scope_stated i (texts_of names.now.keys) (view value.now)) result }
 {
     let listed = text_list(alloc, value, Spot::Scope(i))?;
     numbers_of(alloc, i, names, &listed)
@@ -58,7 +60,8 @@ fn scopes_in(
 ) -> Result<Vec<SmallVec<u8, 4>>, VocFault>
     requires variables { length names.now.keys ≤ 128 }
     requires few { length list.now < 2 ^ 32 }
-    ensures is { Reads (λ v. map (λ scope. scope.items) v.items) (scopes_from 0 (texts_of names.now.keys) (items_view list.now)) result }
+    ensures is { Reads (λ v. map (λ scope. scope.items) v.items)
+        (scopes_from 0 (texts_of names.now.keys) (items_view list.now)) result }
     ensures each { IfOk result (λ v. length v.items ≡ length list.now) }
 {
     let mut scopes = Vec::new(alloc);
@@ -78,7 +81,8 @@ pub fn scopes_of(
     requires variables { length names.now ≤ 128 }
     requires apart { first_repeat (texts_of names.now) ≡ None }
     requires few { IfSome listed (λ list. length list.now < 2 ^ 32) }
-    ensures is { Reads listed_in (scopes_stated (texts_of names.now) (listed_items listed.entry)) result }
+    ensures is { Reads listed_in
+        (scopes_stated (texts_of names.now) (listed_items listed.entry)) result }
     ensures known { IfOk result (λ part. AreKnown (length names.now) (listed_in part)) }
     ensures countable { IfOk result (λ part. AreCountable (listed_in part)) }
 {

@@ -1,7 +1,8 @@
 // The text of each fault.
 ghost use Rattle.std.specs.Prelude.{◌≡◌, ◌++◌, codes, string_bytes, IfOk};
 ghost use Rattle.std.specs.Fmt.{decimal};
-ghost use Rattle.voc_read.specs.FaultTexts.{pair_text, spot_text, table_text, formula_text, evaluation_text, lang_text, fault_text};
+ghost use Rattle.voc_read.specs.FaultTexts.{pair_text, spot_text, table_text, formula_text};
+ghost use Rattle.voc_read.specs.FaultTexts.{evaluation_text, lang_text, fault_text};
 
 use crate::fault::{Spot, VocFault};
 use language::LangFault;
@@ -39,7 +40,8 @@ fn placed(alloc: Global, what: &str, place: &str, i: u32) -> Result<String, Allo
 
 /// What is wrong with relation i: two texts behind its number.
 fn of_relation(alloc: Global, i: u32, what: &str, reason: &str) -> Result<String, AllocError>
-    ensures { IfOk result (λ text. string_bytes text ≡ codes "relation " ++ (decimal i ++ (what.now ++ reason.now))) }
+    ensures { IfOk result
+        (λ text. string_bytes text ≡ codes "relation " ++ (decimal i ++ (what.now ++ reason.now))) }
 {
     format!(in alloc; "relation {i}{what}{reason}")
 }
@@ -100,7 +102,8 @@ fn evaluation_text(alloc: Global, fault: TableOfFault) -> Result<String, AllocEr
 
 /// Why relation i has no table.
 fn table_fault_text(alloc: Global, i: u32, fault: TableFault) -> Result<String, AllocError>
-    ensures { IfOk result (λ text. string_bytes text ≡ codes "relation " ++ (decimal i ++ (codes " table " ++ table_text fault))) }
+    ensures { IfOk result (λ text. string_bytes text ≡ codes "relation "
+        ++ (decimal i ++ (codes " table " ++ table_text fault))) }
 {
     let reason = table_text(alloc, fault)?;
     of_relation(alloc, i, " table ", reason.as_str())
@@ -108,7 +111,8 @@ fn table_fault_text(alloc: Global, i: u32, fault: TableFault) -> Result<String, 
 
 /// Why relation i has no formula.
 fn formula_fault_text(alloc: Global, i: u32, fault: FormulaFault) -> Result<String, AllocError>
-    ensures { IfOk result (λ text. string_bytes text ≡ codes "relation " ++ (decimal i ++ (codes " formula " ++ formula_text fault))) }
+    ensures { IfOk result (λ text. string_bytes text ≡ codes "relation "
+        ++ (decimal i ++ (codes " formula " ++ formula_text fault))) }
 {
     let reason = formula_text(alloc, fault)?;
     of_relation(alloc, i, " formula ", reason.as_str())
@@ -116,7 +120,8 @@ fn formula_fault_text(alloc: Global, i: u32, fault: FormulaFault) -> Result<Stri
 
 /// Why the formula of relation i has no table.
 fn evaluation_fault_text(alloc: Global, i: u32, fault: TableOfFault) -> Result<String, AllocError>
-    ensures { IfOk result (λ text. string_bytes text ≡ codes "relation " ++ (decimal i ++ (codes " " ++ evaluation_text fault))) }
+    ensures { IfOk result (λ text. string_bytes text ≡ codes "relation "
+        ++ (decimal i ++ (codes " " ++ evaluation_text fault))) }
 {
     let reason = evaluation_text(alloc, fault)?;
     of_relation(alloc, i, " ", reason.as_str())
@@ -145,8 +150,8 @@ fn lang_text(alloc: Global, fault: LangFault) -> Result<String, AllocError>
     }
 }
 
-/// The text of a fault, as a user reads it behind `refused vocabulary `. No vocabulary causes want of memory; it is
-/// told as `memory`.
+/// The text of a fault, as a user reads it behind `refused vocabulary `. No vocabulary causes want
+/// of memory; it is told as `memory`.
 pub fn voc_text(alloc: Global, fault: VocFault) -> Result<String, AllocError>
     ensures { IfOk result (λ text. string_bytes text ≡ fault_text fault) }
 {
