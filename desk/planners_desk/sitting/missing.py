@@ -49,11 +49,9 @@ def lacking(session: Session, values: Values | None = None, yes: bool = False) -
             possible.back()
     refused = _smallest([answers[place][0] for place in clash])
     accepted = [some for some, accepts in answers if accepts]
-    things = (
-        tuple(sorted(values))
-        if values is not None and not yes and not _together(session.case, values)
-        else ()
-    )
+    # no word speaks of a whole plan, which is what is refused where nobody says which cells
+    meant = {} if values is None or yes or len(values) > max(WORDS_OF) else values
+    things = () if _together(session.case, meant) else tuple(sorted(meant))
     return _search(session, refused, accepted, things)
 
 
