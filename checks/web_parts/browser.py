@@ -14,28 +14,30 @@ import time
 from collections.abc import Callable, Iterator
 from typing import TypeVar
 
-PATIENCE = 60.0         # seconds that a page may take on a machine that has much to do
+PATIENCE = 180.0        # seconds that a page may take on a machine that has much to do
 LOADS = 120             # seconds that a page may take to load
 TICK = 0.03
 
 # whether a page is loaded, and drawn for all that was typed
-STANDS = """
-if (document.readyState !== 'complete') return false;
-const {wanted, drawn} = document.body.dataset;
-return !document.getElementById('fields') || wanted !== undefined && wanted === drawn;"""
-# the first button or link that can be seen and begins so
-BUTTON = """
+STANDING = """
+const {wanted, drawn} = document.body ? document.body.dataset : {};
+const standing = document.readyState === 'complete'
+    && (!document.getElementById('fields') || wanted !== undefined && wanted === drawn);
+"""
+STANDS = STANDING + "return standing;"
+# on a page that stands the first button or link that can be seen and begins so
+BUTTON = STANDING + """
 const says = arguments[0].toLowerCase();
-return [...document.querySelectorAll('button, a, summary, label')].find(
+return standing && [...document.querySelectorAll('button, a, summary, label')].find(
     one => one.checkVisibility({visibilityProperty: true}) && one.innerText.trim().toLowerCase().startsWith(says)) || null;"""
-# opens what is folded around an element, the outermost first, and scrolls to it; how many were opened
-UNFOLD = """
-const folded = [];
-for (let one = arguments[0].parentElement; one; one = one.parentElement)
+# on a page that stands the first element of a selector; what is folded around it is opened, the outermost first
+AT = STANDING + """
+const found = standing ? document.querySelector(arguments[0]) : null, folded = [];
+for (let one = found && found.parentElement; one; one = one.parentElement)
     if (one.tagName === 'DETAILS' && !one.open) folded.unshift(one);
 for (const one of folded) one.querySelector('summary').click();
-arguments[0].scrollIntoView({block: 'center', behavior: 'instant'});
-return folded.length;"""
+if (found) found.scrollIntoView({block: 'center', behavior: 'instant'});
+return found;"""
 
 Found = TypeVar("Found")
 
@@ -174,11 +176,7 @@ class Browser:
 
     def at(self, selector: str):
         """The first element of a selector on a page that stands; what it is folded in is opened."""
-        def found():
-            if not self.stands() or not (some := self.all(selector)):
-                return None
-            return None if self.driver.execute_script(UNFOLD, some[0]) and not self.stands() else some[0]
-        return self.wait(found)
+        return self.wait(lambda: self.driver.execute_script(AT, selector))
 
     def errors(self) -> list[str]:
         """What the browser complained of since the last time."""
@@ -187,14 +185,13 @@ class Browser:
     # ---- doing
 
     def button(self, says: str):
-        """The first button or link that can be seen and begins so."""
+        """The first button or link that can be seen and begins so, on a page that stands."""
         return self.driver.execute_script(BUTTON, says)
 
     def tried(self, do: Callable[[], object]) -> None:
         """Does something on a page that stands, once; where that is drawn anew before it is done, on the new one."""
         end = time.monotonic() + PATIENCE
         while True:
-            self.settled()
             try:
                 do()
                 return
@@ -213,10 +210,16 @@ class Browser:
 
     def types(self, selector: str, text: str) -> None:
         """Types a text into a field, in place of what stands there."""
-        if self.at(selector).get_property("value"):
+        if self.value(selector):
             self.tried(lambda: self.at(selector).clear())
         self.tried(lambda: self.at(selector).send_keys(text))
-        self.wait(lambda: self.at(selector).get_property("value") == text)
+        self.wait(lambda: self.value(selector) == text)
+
+    def value(self, selector: str) -> str:
+        """What stands in a field."""
+        return self.wait(lambda: self.driver.execute_script(STANDING + """
+            const one = document.querySelector(arguments[0]);
+            return standing && one ? [one.value] : null;""", selector))[0]
 
     def ticks(self, selector: str) -> None:
         """Ticks a box where it isn't ticked; the page stands again when it is."""

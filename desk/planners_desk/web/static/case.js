@@ -15,14 +15,13 @@ function typing(target) {
     && (target.tagName === "TEXTAREA" || target.tagName === "INPUT" && target.type === "text");
 }
 
-// on a narrow page groups in which nothing is ticked are folded, until somebody opens them
+// on a narrow page groups are folded, until somebody opens them; they say how much is ticked
 const narrow = matchMedia("(max-width: 40rem)");
 
 function fold(part, seen) {
   for (const one of part.querySelectorAll("details[data-fold]")) {
-    const head = one.querySelector("summary").textContent;
-    const ticked = one.querySelector(":checked") !== null;
-    one.open = seen.has(head) ? seen.get(head) : ticked || !narrow.matches;
+    const head = one.dataset.fold;
+    one.open = seen.has(head) ? seen.get(head) : one.open && !narrow.matches;
   }
 }
 
@@ -35,7 +34,7 @@ function put(page) {
     if (part.contains(active) && typing(active)) continue;
     const open = [...part.querySelectorAll("details")].map(one => one.open);
     const folds = [...part.querySelectorAll("details[data-fold]")];
-    const seen = new Map(folds.map(one => [one.querySelector("summary").textContent, one.open]));
+    const seen = new Map(folds.map(one => [one.dataset.fold, one.open]));
     part.replaceChildren(...now.childNodes);
     const details = [...part.querySelectorAll("details")];
     if (details.length === open.length) {
