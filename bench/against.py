@@ -29,6 +29,7 @@ import journals
 import strikes
 import vocabularies
 from journals import Cost
+from printed import head, row
 from questions import Task, drawn_network, exams, latin_square, learn
 from search import ORDERS, Case, bounded_sums, cases, milliseconds
 
@@ -71,15 +72,6 @@ def in_turn(runs, times=TIMES):
     return costs
 
 
-def show(*cells):
-    print(f"| {' | '.join(str(cell) for cell in cells)} |", flush=True)
-
-
-def head(*cells):
-    show(*cells)
-    print(f"|{'---|' * len(cells)}", flush=True)
-
-
 def replay_of(program, case, answers):
     given = case.input_of(answers)
     return lambda: Cost([program, ":memory:", "try", *case.words], given, subprocess.PIPE)
@@ -98,7 +90,7 @@ def row_of(programs, case):
     costs = in_turn(runs)
     seconds = [cost.processor for cost in costs]
     assert costs[0].text == text, "it prints something else where the answers come in one piece"
-    show(case.name, f"{count:,}", last, *(milliseconds(one) for one in seconds), f"{seconds[1] / seconds[0]:.1f}", same, *(cost.memory for cost in costs))
+    row(case.name, f"{count:,}", last, *(milliseconds(one) for one in seconds), f"{seconds[1] / seconds[0]:.1f}", same, *(cost.memory for cost in costs))
 
 
 def vocabulary_row(programs, what, bytes_in):
@@ -117,7 +109,7 @@ def vocabulary_row(programs, what, bytes_in):
     lines = [cost.text.split("\n", 1)[0][:50] for cost in costs]
     seconds = [cost.processor for cost in costs]
     says = lines[0] if lines[0] == lines[1] else f"{lines[0]} / {lines[1]}"
-    show(what, f"{len(bytes_in):,}", says, *(milliseconds(one) for one in seconds), f"{seconds[1] / seconds[0]:.1f}", *(cost.memory for cost in costs))
+    row(what, f"{len(bytes_in):,}", says, *(milliseconds(one) for one in seconds), f"{seconds[1] / seconds[0]:.1f}", *(cost.memory for cost in costs))
 
 
 def journal_row(programs, path, name, plan, vocabulary, records):
@@ -132,7 +124,7 @@ def journal_row(programs, path, name, plan, vocabulary, records):
     alone = [cost.processor - start.processor for cost, start in zip(costs, empty)]
     says = ends[0] if ends[0] == ends[1] else " / ".join(ends)
     ratio = f"{alone[1] / alone[0]:.1f}" if alone[0] > 0.0005 else "-"
-    show(f"{name}, plan {plan}", f"{len(records):,}", says, *(milliseconds(one) for one in whole), *(milliseconds(max(0, one)) for one in alone), ratio, *(cost.memory for cost in costs))
+    row(f"{name}, plan {plan}", f"{len(records):,}", says, *(milliseconds(one) for one in whole), *(milliseconds(max(0, one)) for one in alone), ratio, *(cost.memory for cost in costs))
 
 
 def strike_row(programs, vocabulary, name, shown):
@@ -145,7 +137,7 @@ def strike_row(programs, vocabulary, name, shown):
         while (spent := run(times) - start) < 0.5 and times < 3_000_000:
             times *= 4
         seconds.append(spent / times)
-    show(name, shown, *(f"{one * 1e6:,.2f}" for one in seconds), f"{seconds[1] / seconds[0]:.1f}")
+    row(name, shown, *(f"{one * 1e6:,.2f}" for one in seconds), f"{seconds[1] / seconds[0]:.1f}")
 
 
 def text_of(case):

@@ -14,7 +14,6 @@ Seen to: `check` confirms each certificate, and prints the network that was lear
 asserted of the times.
 """
 
-import argparse
 import json
 import os
 import subprocess
@@ -24,6 +23,7 @@ import time
 
 sys.dont_write_bytecode = True
 from journals import Cost
+from printed import table, words_of
 from search import cases, milliseconds
 
 REFUSED = (16, 17)
@@ -40,19 +40,33 @@ def elapsed(words, given):
 def row_of(program, case, budget):
     options = list(zip(case.words[::2], case.words[1::2]))
     words_of = lambda name: [word for option in options if option[0] == name for word in option]
-    target = json.dumps([text.split(" ") for text in case.task.constraints], separators=(",", ":")).encode()
-    with tempfile.TemporaryDirectory(dir="/dev/shm" if os.path.isdir("/dev/shm") else None) as folder:
+    target = json.dumps(
+        [text.split(" ") for text in case.task.constraints], separators=(",", ":")
+    ).encode()
+    with tempfile.TemporaryDirectory(
+        dir="/dev/shm" if os.path.isdir("/dev/shm") else None
+    ) as folder:
         journal = os.path.join(folder, "journal")
-        made = Cost([program, journal, "new", *words_of("--plan")], case.vocabulary.encode(), subprocess.DEVNULL)
+        made = Cost(
+            [program, journal, "new", *words_of("--plan")],
+            case.vocabulary.encode(),
+            subprocess.DEVNULL,
+        )
         assert made.status == 0, "new is refused"
         played = Cost([program, journal, "play", *words_of("--budget")], target, subprocess.PIPE)
-        learned = [line for line in played.text.splitlines() if line[:1] != "q" and not line.startswith("open ")]
+        learned = [
+            line
+            for line in played.text.splitlines()
+            if line[:1] != "q" and not line.startswith("open ")
+        ]
         cost = Cost([program, journal, "certify", "--budget", budget], b"", subprocess.PIPE)
     head = [case.name, learned[0].split(" ")[0], f"{len(learned) - 1:,}"]
     if cost.status in REFUSED:
         return [*head, cost.text.splitlines()[0], "", milliseconds(cost.processor), "", "", ""]
     assert cost.status == 0, f"certify ends with status {cost.status}"
-    listed = next(line for line in cost.text.splitlines()[::-1] if line.startswith("implied ")).split(" ")[1]
+    listed = next(
+        line for line in cost.text.splitlines()[::-1] if line.startswith("implied ")
+    ).split(" ")[1]
     words = [program, ":memory:", "check"]
     text = cost.text.encode()
     checked = Cost(words, text, subprocess.PIPE)
@@ -72,28 +86,20 @@ def row_of(program, case, budget):
 
 
 def main():
-    words = argparse.ArgumentParser(usage="bench/certs.py PROGRAM [--budget N] [--case WORD]")
-    words.add_argument("program")
-    words.add_argument("--budget", default=BUDGET)
-    words.add_argument("--case", default="")
-    if len(sys.argv) < 2:
-        print(__doc__)
-        sys.exit(2)
-    given = words.parse_args()
-    program = os.path.realpath(given.program)
-    heads = ["case", "ending", "learned", "listed", "bytes", "ms of certify", "ms of check", "waited on one", "waited on all"]
-    print(f"| {' | '.join(heads)} |\n|{'---|' * len(heads)}", flush=True)
-    right = True
-    for _, make in cases():
-        case = make()
-        if given.case not in case.name:
-            continue
-        try:
-            print(f"| {' | '.join(row_of(program, case, given.budget))} |", flush=True)
-        except AssertionError as fault:
-            print(f"{case.name}: {fault}", flush=True)
-            right = False
-    sys.exit(0 if right else 1)
+    given = words_of(
+        __doc__,
+        "bench/certs.py PROGRAM [--budget N] [--case WORD]",
+        (["--budget"], {"default": BUDGET}),
+        (["--case"], {"default": ""}),
+    )
+    heads = ["case", "ending", "learned", "listed", "bytes", "ms of certify", "ms of check"]
+    heads += ["waited on one", "waited on all"]
+    rows = (
+        (case.name, lambda case=case: row_of(given.program, case, given.budget))
+        for case in (make() for _, make in cases())
+        if given.case in case.name
+    )
+    table(heads, rows)
 
 
 if __name__ == "__main__":

@@ -16,7 +16,7 @@ are those of all threads of the program. The clock's are of the machine as it is
 Nothing is asserted of the times. A printed constraint that isn't the owner's is a fault, and then the status is 1.
 """
 
-import argparse
+import functools
 import itertools
 import os
 import random
@@ -27,7 +27,19 @@ import time
 from typing import NamedTuple
 
 sys.dont_write_bytecode = True
-from questions import APART, DIFFER, NEXT, PLANS, Program, Task, Vocabulary, latin_square, processor_of_ended, processor_so_far
+from printed import table, words_of
+from questions import (
+    APART,
+    DIFFER,
+    NEXT,
+    PLANS,
+    Program,
+    Task,
+    Vocabulary,
+    latin_square,
+    processor_of_ended,
+    processor_so_far,
+)
 from questions import read_network, scopes_of, vocabulary
 from search import ORDERS, mixed_network, sudoku, with_orders
 
@@ -44,33 +56,61 @@ def league(teams, weeks, by="weeks"):
     if by == "teams":
         rows = [list(names) for names in zip(*rows)]
     network = [text for names in [*rows, *zip(*rows)] for text in alldifferent(names)]
-    return Task(f"league of {teams} teams, {weeks} weeks, by {by}", vocabulary(sum(rows, []), [1, teams], ORDERS), network)
+    return Task(
+        f"league of {teams} teams, {weeks} weeks, by {by}",
+        vocabulary(sum(rows, []), [1, teams], ORDERS),
+        network,
+    )
 
 
 def full_exams(count, slots):
     """Exams of one year, each two of which have students in common: each has a slot of its own."""
     names = [f"exam{i:02}" for i in range(1, count + 1)]
-    return Task(f"{count} exams in {slots} slots", vocabulary(names, [1, slots], [*ORDERS, NEXT, APART]), alldifferent(names))
+    return Task(
+        f"{count} exams in {slots} slots",
+        vocabulary(names, [1, slots], [*ORDERS, NEXT, APART]),
+        alldifferent(names),
+    )
 
 
 def shifts(days, places, nurses):
     """Three shifts a day with so many places: who works on a day works once, and nobody a night and the next morning."""
-    of_shift = [[f"d{day}s{shift}p{place}" for place in range(1, places + 1)] for day in range(1, days + 1) for shift in (1, 2, 3)]
-    network = [text for day in range(days) for text in alldifferent(sum(of_shift[3 * day : 3 * day + 3], []))]
+    of_shift = [
+        [f"d{day}s{shift}p{place}" for place in range(1, places + 1)]
+        for day in range(1, days + 1)
+        for shift in (1, 2, 3)
+    ]
+    network = [
+        text
+        for day in range(days)
+        for text in alldifferent(sum(of_shift[3 * day : 3 * day + 3], []))
+    ]
     for night, morning in zip(of_shift[2::3], of_shift[3::3]):
         network += [f"ne {one} {other}" for one, other in itertools.product(night, morning)]
-    return Task(f"shifts of {days} days, {places} places, {nurses} nurses", vocabulary(sum(of_shift, []), [1, nurses], ORDERS), network)
+    return Task(
+        f"shifts of {days} days, {places} places, {nurses} nurses",
+        vocabulary(sum(of_shift, []), [1, nurses], ORDERS),
+        network,
+    )
 
 
 def job_shop(jobs, machines, slots, number):
     """Each job goes through all machines, in a drawn order, and each machine has one job at a time."""
     draw = random.Random(number)
-    of_job = [[f"j{job:02}m{machine}" for machine in range(1, machines + 1)] for job in range(1, jobs + 1)]
-    rank = {name: place for names in of_job for place, name in enumerate(draw.sample(names, machines))}
+    of_job = [
+        [f"j{job:02}m{machine}" for machine in range(1, machines + 1)] for job in range(1, jobs + 1)
+    ]
+    rank = {
+        name: place for names in of_job for place, name in enumerate(draw.sample(names, machines))
+    }
     pairs = [pair for names in of_job for pair in itertools.combinations(names, 2)]
     network = [f"{'lt' if rank[one] < rank[other] else 'gt'} {one} {other}" for one, other in pairs]
     network += [text for names in zip(*of_job) for text in alldifferent(names)]
-    return Task(f"job shop of {jobs} jobs, {machines} machines", vocabulary(sum(of_job, []), [1, slots], ORDERS), network)
+    return Task(
+        f"job shop of {jobs} jobs, {machines} machines",
+        vocabulary(sum(of_job, []), [1, slots], ORDERS),
+        network,
+    )
 
 
 def cases():
@@ -118,7 +158,9 @@ class Watched:
         clock.cancel()
         self.run.close()
         self.processor, self.clock = processor_of_ended() - before, time.perf_counter() - self.begun
-        self.waits.append(Wait(self.processor - self.taken, self.ended - self.asked, len(self.waits) + 1))
+        self.waits.append(
+            Wait(self.processor - self.taken, self.ended - self.asked, len(self.waits) + 1)
+        )
 
     def cut(self):
         self.is_cut = True
@@ -135,7 +177,9 @@ class Watched:
                 self.last.append(line)
                 continue
             taken = processor_so_far(self.run.pid) or self.taken
-            self.waits.append(Wait(taken - self.taken, self.ended - self.asked, len(self.waits) + 1))
+            self.waits.append(
+                Wait(taken - self.taken, self.ended - self.asked, len(self.waits) + 1)
+            )
             self.taken = taken
             shown = {name: int(value) for name, value in (part.split("=") for part in parts)}
             said = b"yes\n" if accepts(task, shown) else b"no\n"
@@ -158,39 +202,41 @@ def row_of(program, task, words, seconds):
         ending = session.last[0].split(" ")[0] + (f", {opened:,} open" if opened else "")
     at = f"{longest.question:,}" if longest.question < len(session.waits) else "the end"
     waited = f"{more}{longest.processor:.2f} ({more}{longest.clock:.2f}), {at}"
-    return [f"{len(session.waits) - 1:,}", ending, waited, f"{session.processor:.1f} ({session.clock:.0f})"]
+    return [
+        f"{len(session.waits) - 1:,}",
+        ending,
+        waited,
+        f"{session.processor:.1f} ({session.clock:.0f})",
+    ]
 
 
 def main():
-    words = argparse.ArgumentParser(usage="bench/full.py PROGRAM [--seconds N] [--case WORD] [--plan P] [--budget N ..]")
-    words.add_argument("program")
-    words.add_argument("--seconds", type=float, default=60)
-    words.add_argument("--case", default="")
-    words.add_argument("--plan", choices=PLANS)
-    words.add_argument("--budget", action="append", default=[])
-    if len(sys.argv) < 2:
-        print(__doc__)
-        sys.exit(2)
-    given = words.parse_args()
-    program = os.path.realpath(given.program)
-    heads = ["case", "variables, scopes, constraints", "plan", "budget", "questions", "ending", "longest wait, s (by the clock)", "s in all"]
-    print(f"| {' | '.join(heads)} |\n|{'---|' * len(heads)}", flush=True)
-    right = True
-    for make in cases():
-        task = make()
-        if given.case not in task.name:
-            continue
+    given = words_of(
+        __doc__,
+        "bench/full.py PROGRAM [--seconds N] [--case WORD] [--plan P] [--budget N ..]",
+        (["--seconds"], {"type": float, "default": 60}),
+        (["--case"], {"default": ""}),
+        (["--plan"], {"choices": PLANS}),
+        (["--budget"], {"action": "append", "default": []}),
+    )
+    heads = ["case", "variables, scopes, constraints", "plan", "budget", "questions", "ending"]
+    heads += ["longest wait, s (by the clock)", "s in all"]
+
+    def cells(task, plan, budget):
         size = f"{len(task.vocabulary['variables'])}, {scopes_of(task):,}, {len(task.network):,}"
-        for plan, budget in itertools.product([given.plan] if given.plan else PLANS, given.budget or [""]):
-            options = ["--plan", plan, *(["--budget", budget] if budget else [])]
-            try:
-                cells = row_of(program, task, options, given.seconds)
-            except AssertionError as fault:
-                print(f"{task.name}, plan {plan}: {fault}")
-                right = False
-                continue
-            print(f"| {' | '.join([task.name, size, plan, budget or '100000', *cells])} |", flush=True)
-    sys.exit(0 if right else 1)
+        options = ["--plan", plan, *(["--budget", budget] if budget else [])]
+        spent = row_of(given.program, task, options, given.seconds)
+        return [task.name, size, plan, budget or "100000", *spent]
+
+    rows = (
+        (f"{task.name}, plan {plan}", functools.partial(cells, task, plan, budget))
+        for task in (make() for make in cases())
+        if given.case in task.name
+        for plan, budget in itertools.product(
+            [given.plan] if given.plan else PLANS, given.budget or [""]
+        )
+    )
+    table(heads, rows)
 
 
 if __name__ == "__main__":

@@ -13,11 +13,10 @@ Nothing is asserted of the times. A printed constraint that isn't the owner's is
 come in one piece; then the status is 1.
 """
 
-import argparse
-import os
 import sys
 
 sys.dont_write_bytecode = True
+from printed import table, words_of
 from questions import drawn_network, exams, learn, read_network
 from search import ORDERS, Case, milliseconds, mixed_network, replay
 
@@ -53,28 +52,25 @@ def row_of(program, name, size, task):
 
 
 def main():
-    words = argparse.ArgumentParser(usage="bench/growth.py PROGRAM [--most N] [--family WORD]")
-    words.add_argument("program")
-    words.add_argument("--most", type=int, default=SIZES[-1])
-    words.add_argument("--family", default="")
-    if len(sys.argv) < 2:
-        print(__doc__)
-        sys.exit(2)
-    given = words.parse_args()
-    program = os.path.realpath(given.program)
-    heads = ["family", "variables", "constraints", "questions", "ending", "ms", "us a question", "longest wait, ms"]
-    print(f"| {' | '.join(heads)} |\n|{'---|' * len(heads)}", flush=True)
-    right = True
-    for name, make in FAMILIES.items():
-        if given.family not in name:
-            continue
-        for size in (it for it in SIZES if it <= given.most):
-            try:
-                print(f"| {' | '.join(row_of(program, name, size, make(size)))} |", flush=True)
-            except AssertionError as fault:
-                print(f"{name}, {size} variables: {fault}", flush=True)
-                right = False
-    sys.exit(0 if right else 1)
+    given = words_of(
+        __doc__,
+        "bench/growth.py PROGRAM [--most N] [--family WORD]",
+        (["--most"], {"type": int, "default": SIZES[-1]}),
+        (["--family"], {"default": ""}),
+    )
+    heads = ["family", "variables", "constraints", "questions", "ending"]
+    heads += ["ms", "us a question", "longest wait, ms"]
+    rows = (
+        (
+            f"{name}, {size} variables",
+            lambda name=name, size=size: row_of(given.program, name, size, FAMILIES[name](size)),
+        )
+        for name in FAMILIES
+        if given.family in name
+        for size in SIZES
+        if size <= given.most
+    )
+    table(heads, rows)
 
 
 if __name__ == "__main__":

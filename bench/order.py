@@ -9,15 +9,13 @@ them shuffled, 5 where none are given, by draws of fixed numbers. The network st
 questions as it stands, and the least and the most of the shuffled ones. Plan `scopes` asks about scopes one by one, so it isn't tried.
 """
 
-import argparse
-import os
 import random
 import sys
 
 sys.dont_write_bytecode = True
 from full import job_shop, league, shifts
+from printed import head, row, words_of
 from questions import Task, exams, latin_square, learn, zebra
-from search import ORDERS
 
 
 def cases():
@@ -42,7 +40,9 @@ def opposites_of(task):
     relations, opposite = list(task.vocabulary["relations"]), {}
     table = {name: frozenset((other, one) for one, other in it) for name, it in task.tables.items()}
     for it in task.vocabulary["relations"]:
-        name = next((name for name, it_has in task.tables.items() if it_has == table[it["name"]]), None)
+        name = next(
+            (name for name, it_has in task.tables.items() if it_has == table[it["name"]]), None
+        )
         if name is None:
             name = f"{it['name']}_turned"
             relations.append({**it, "name": name, "formula": turned_round(it["formula"])})
@@ -71,26 +71,29 @@ def row_of(program, task, plan, draws):
     first, *others = (len(it.questions) for it in learned)
     endings = sorted({it.last[0].split(" ")[0] for it in learned})
     more = [f"{100 * (count - first) / first:+.0f}" for count in (min(others), max(others))]
-    return [task.name, plan, f"{first:,}", f"{min(others):,} to {max(others):,}", f"{more[0]} to {more[1]} in 100", ", ".join(endings)]
+    return [
+        task.name,
+        plan,
+        f"{first:,}",
+        f"{min(others):,} to {max(others):,}",
+        f"{more[0]} to {more[1]} in 100",
+        ", ".join(endings),
+    ]
 
 
 def main():
-    words = argparse.ArgumentParser(usage="bench/order.py PROGRAM [--draws N] [--case WORD]")
-    words.add_argument("program")
-    words.add_argument("--draws", type=int, default=5)
-    words.add_argument("--case", default="")
-    if len(sys.argv) < 2:
-        print(__doc__)
-        sys.exit(2)
-    given = words.parse_args()
-    program = os.path.realpath(given.program)
-    heads = ["task", "plan", "as it stands", "shuffled", "more", "ending"]
-    print(f"| {' | '.join(heads)} |\n|{'---|' * len(heads)}", flush=True)
+    given = words_of(
+        __doc__,
+        "bench/order.py PROGRAM [--draws N] [--case WORD]",
+        (["--draws"], {"type": int, "default": 5}),
+        (["--case"], {"default": ""}),
+    )
+    head("task", "plan", "as it stands", "shuffled", "more", "ending")
     for make in cases():
         task = make()
         if given.case in task.name:
             for plan in ("quacq", "multi"):
-                print(f"| {' | '.join(row_of(program, task, plan, given.draws))} |", flush=True)
+                row(*row_of(given.program, task, plan, given.draws))
 
 
 if __name__ == "__main__":

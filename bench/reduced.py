@@ -12,7 +12,6 @@ Seen to: what remains is a part of what was learned, in the same order. Where th
 the times.
 """
 
-import argparse
 import json
 import os
 import subprocess
@@ -21,6 +20,7 @@ import tempfile
 
 sys.dont_write_bytecode = True
 from journals import Cost
+from printed import table, words_of
 from search import cases, milliseconds
 
 SPENT = 20
@@ -35,13 +35,25 @@ def is_part(part, whole):
 def row_of(program, case, budget):
     options = list(zip(case.words[::2], case.words[1::2]))
     words_of = lambda name: [word for option in options if option[0] == name for word in option]
-    target = json.dumps([text.split(" ") for text in case.task.constraints], separators=(",", ":")).encode()
-    with tempfile.TemporaryDirectory(dir="/dev/shm" if os.path.isdir("/dev/shm") else None) as folder:
+    target = json.dumps(
+        [text.split(" ") for text in case.task.constraints], separators=(",", ":")
+    ).encode()
+    with tempfile.TemporaryDirectory(
+        dir="/dev/shm" if os.path.isdir("/dev/shm") else None
+    ) as folder:
         journal = os.path.join(folder, "journal")
-        made = Cost([program, journal, "new", *words_of("--plan")], case.vocabulary.encode(), subprocess.DEVNULL)
+        made = Cost(
+            [program, journal, "new", *words_of("--plan")],
+            case.vocabulary.encode(),
+            subprocess.DEVNULL,
+        )
         assert made.status == 0, "new is refused"
         played = Cost([program, journal, "play", *words_of("--budget")], target, subprocess.PIPE)
-        lines = [line for line in played.text.splitlines() if line[:1] != "q" and not line.startswith("open ")]
+        lines = [
+            line
+            for line in played.text.splitlines()
+            if line[:1] != "q" and not line.startswith("open ")
+        ]
         learned = lines[1:]
         cost = Cost([program, journal, "reduce", *budget], b"", subprocess.PIPE)
     said = cost.text.splitlines()
@@ -52,33 +64,29 @@ def row_of(program, case, budget):
         assert said[0] == f"reduced {len(said) - 1} of {len(learned)}", said[0]
         assert is_part(said[1:], learned), "what remains is no part of what was learned"
         left = f"{len(said) - 1:,}"
-    return [case.name, lines[0].split(" ")[0], f"{len(learned):,}", left, milliseconds(cost.processor)]
+    return [
+        case.name,
+        lines[0].split(" ")[0],
+        f"{len(learned):,}",
+        left,
+        milliseconds(cost.processor),
+    ]
 
 
 def main():
-    words = argparse.ArgumentParser(usage="bench/reduced.py PROGRAM [--budget N] [--case WORD]")
-    words.add_argument("program")
-    words.add_argument("--budget")
-    words.add_argument("--case", default="")
-    if len(sys.argv) < 2:
-        print(__doc__)
-        sys.exit(2)
-    given = words.parse_args()
-    program = os.path.realpath(given.program)
+    given = words_of(
+        __doc__,
+        "bench/reduced.py PROGRAM [--budget N] [--case WORD]",
+        (["--budget"], {}),
+        (["--case"], {"default": ""}),
+    )
     budget = ["--budget", given.budget] if given.budget else []
-    heads = ["case", "ending", "learned", "left", "ms of reduce"]
-    print(f"| {' | '.join(heads)} |\n|{'---|' * len(heads)}", flush=True)
-    right = True
-    for _, make in cases():
-        case = make()
-        if given.case not in case.name:
-            continue
-        try:
-            print(f"| {' | '.join(row_of(program, case, budget))} |", flush=True)
-        except AssertionError as fault:
-            print(f"{case.name}: {fault}", flush=True)
-            right = False
-    sys.exit(0 if right else 1)
+    rows = (
+        (case.name, lambda case=case: row_of(given.program, case, budget))
+        for case in (make() for _, make in cases())
+        if given.case in case.name
+    )
+    table(["case", "ending", "learned", "left", "ms of reduce"], rows)
 
 
 if __name__ == "__main__":

@@ -20,7 +20,6 @@ the answers come in one piece, or where the network answers; then the status is 
 All cases are made here and in bench/questions.py, those that are drawn from fixed numbers.
 """
 
-import argparse
 import itertools
 import json
 import operator
@@ -32,8 +31,20 @@ import tempfile
 
 sys.dont_write_bytecode = True
 from journals import Cost
+from printed import table, words_of
 from questions import AFTER, BEFORE, DIFFER, EQUAL, Task
-from questions import drawn_network, exams, golomb, latin_square, learn, read_network, relation, scopes_of, vocabulary, zebra
+from questions import (
+    drawn_network,
+    exams,
+    golomb,
+    latin_square,
+    learn,
+    read_network,
+    relation,
+    scopes_of,
+    vocabulary,
+    zebra,
+)
 
 NO_LATER, NO_EARLIER = relation("le", ["<=", "$0", "$1"]), relation("ge", [">=", "$0", "$1"])
 ORDERS = [EQUAL, DIFFER, BEFORE, NO_LATER, AFTER, NO_EARLIER]
@@ -46,8 +57,14 @@ def sudoku():
     name = lambda cell: f"x{cell[0] + 1}{cell[1] + 1}"
     box = lambda cell: (cell[0] // 3, cell[1] // 3)
     meet = lambda one, other: one[0] == other[0] or one[1] == other[1] or box(one) == box(other)
-    network = [f"ne {name(one)} {name(other)}" for one, other in itertools.combinations(cells, 2) if meet(one, other)]
-    return Task("Sudoku 9 by 9", vocabulary([name(cell) for cell in cells], [1, 9], ORDERS), network)
+    network = [
+        f"ne {name(one)} {name(other)}"
+        for one, other in itertools.combinations(cells, 2)
+        if meet(one, other)
+    ]
+    return Task(
+        "Sudoku 9 by 9", vocabulary([name(cell) for cell in cells], [1, 9], ORDERS), network
+    )
 
 
 def queens(size):
@@ -59,23 +76,39 @@ def queens(size):
         rows, columns = abs(one[0] - other[0]), abs(one[1] - other[1])
         return rows == 0 or columns == 0 or rows == columns
 
-    network = [f"nand {name(one)} {name(other)}" for one, other in itertools.combinations(fields, 2) if attack(one, other)]
+    network = [
+        f"nand {name(one)} {name(other)}"
+        for one, other in itertools.combinations(fields, 2)
+        if attack(one, other)
+    ]
     both = ["+", "$0", "$1"]
     relations = [relation("nand", ["<=", both, 1]), relation("or", [">=", both, 1]), EQUAL, DIFFER]
-    return Task(f"queens on {size} by {size} fields", vocabulary([name(field) for field in fields], [0, 1], relations), network)
+    return Task(
+        f"queens on {size} by {size} fields",
+        vocabulary([name(field) for field in fields], [0, 1], relations),
+        network,
+    )
 
 
 def mixed_network(count, values, constraints, number):
     """An order relation on each of so many pairs, drawn so that some values meet them all; each pair is asked about."""
     draw = random.Random(number)
-    tests = {"ne": operator.ne, "lt": operator.lt, "le": operator.le, "gt": operator.gt, "ge": operator.ge}
+    tests = {
+        "ne": operator.ne,
+        "lt": operator.lt,
+        "le": operator.le,
+        "gt": operator.gt,
+        "ge": operator.ge,
+    }
     names = [f"v{i:03}" for i in range(1, count + 1)]
     hidden = {name: draw.randint(1, values) for name in names}
     network = []
     for one, other in sorted(draw.sample(list(itertools.combinations(names, 2)), constraints)):
         met = [name for name, test in tests.items() if test(hidden[one], hidden[other])]
         network.append(f"{draw.choice(met)} {one} {other}")
-    return Task(f"{count} variables, {constraints} mixed", vocabulary(names, [1, values], ORDERS), network)
+    return Task(
+        f"{count} variables, {constraints} mixed", vocabulary(names, [1, values], ORDERS), network
+    )
 
 
 def bounded_sums(count, scopes, number):
@@ -89,7 +122,11 @@ def bounded_sums(count, scopes, number):
     listed = sorted(drawn)
     relations = [relation("below", ["<", ["+", "$0", "$1", "$2", "$3"], 60], 4)]
     network = [" ".join(["below", *four]) for four in listed]
-    return Task(f"{count} variables of arity 4", vocabulary(names, [0, 15], relations, [list(four) for four in listed]), network)
+    return Task(
+        f"{count} variables of arity 4",
+        vocabulary(names, [0, 15], relations, [list(four) for four in listed]),
+        network,
+    )
 
 
 def with_ranges(task):
@@ -115,7 +152,12 @@ class Case:
     def __init__(self, task, *words):
         self.task = task
         self.words = words
-        self.name = ", ".join([task.name, *(f"{option[2:]} {value}" for option, value in zip(words[::2], words[1::2]))])
+        self.name = ", ".join(
+            [
+                task.name,
+                *(f"{option[2:]} {value}" for option, value in zip(words[::2], words[1::2])),
+            ]
+        )
         self.vocabulary = json.dumps(task.vocabulary, separators=(",", ":"))
 
     def input_of(self, learned):
@@ -151,23 +193,41 @@ def replay(program, case, learned):
     cost = Cost([program, ":memory:", "try", *case.words], case.input_of(learned), subprocess.PIPE)
     seconds = cost.processor
     if seconds < SHORT:
-        more = (Cost([program, ":memory:", "try", *case.words], case.input_of(learned), subprocess.DEVNULL) for _ in range(2))
+        more = (
+            Cost(
+                [program, ":memory:", "try", *case.words],
+                case.input_of(learned),
+                subprocess.DEVNULL,
+            )
+            for _ in range(2)
+        )
         seconds = min(seconds, *(one.processor for one in more))
     return cost.text, seconds, cost.memory
 
 
 def played(program, case, learned):
     """The seconds of a processor that `play` takes. Fails where it prints something else than `try` does, with the answers."""
-    target = json.dumps([text.split(" ") for text in case.task.constraints], separators=(",", ":")).encode()
+    target = json.dumps(
+        [text.split(" ") for text in case.task.constraints], separators=(",", ":")
+    ).encode()
     options = list(zip(case.words[::2], case.words[1::2]))
     words_of = lambda name: [word for option in options if option[0] == name for word in option]
-    with tempfile.TemporaryDirectory(dir="/dev/shm" if os.path.isdir("/dev/shm") else None) as folder:
+    with tempfile.TemporaryDirectory(
+        dir="/dev/shm" if os.path.isdir("/dev/shm") else None
+    ) as folder:
         journal = os.path.join(folder, "journal")
-        made = Cost([program, journal, "new", *words_of("--plan")], case.vocabulary.encode(), subprocess.DEVNULL)
+        made = Cost(
+            [program, journal, "new", *words_of("--plan")],
+            case.vocabulary.encode(),
+            subprocess.DEVNULL,
+        )
         assert made.status == 0, "new is refused"
         cost = Cost([program, journal, "play", *words_of("--budget")], target, subprocess.PIPE)
     questions = learned.text().splitlines()[: len(learned.answers)]
-    lines = [*(f"{question} {answer}" for question, answer in zip(questions, learned.answers)), *learned.last]
+    lines = [
+        *(f"{question} {answer}" for question, answer in zip(questions, learned.answers)),
+        *learned.last,
+    ]
     assert cost.text == "".join(f"{line}\n" for line in lines), "play prints something else"
     return cost.processor
 
@@ -210,33 +270,24 @@ def row_of(program, other, case):
 
 
 def main():
-    words = argparse.ArgumentParser(usage="bench/search.py PROGRAM [OTHER] [--all] [--case WORD]")
-    words.add_argument("program")
-    words.add_argument("other", nargs="?")
-    words.add_argument("--all", action="store_true")
-    words.add_argument("--case", default="")
-    if len(sys.argv) < 2:
-        print(__doc__)
-        sys.exit(2)
-    given = words.parse_args()
-    program, other = (path and os.path.realpath(path) for path in (given.program, given.other))
+    given = words_of(
+        __doc__,
+        "bench/search.py PROGRAM [OTHER] [--all] [--case WORD]",
+        (["other"], {"nargs": "?"}),
+        (["--all"], {"action": "store_true"}),
+        (["--case"], {"default": ""}),
+    )
+    other = given.other and os.path.realpath(given.other)
     heads = ["case", "variables, scopes, constraints", "questions", "ending", "learned", "open"]
     heads += ["ms", "us a question", "longest wait, ms", "memory", "ms of play"]
     heads += ["ms of the other", "times as long", "the same text"] if other else []
-    print(f"| {' | '.join(heads)} |\n|{'---|' * len(heads)}", flush=True)
-    right = True
-    for is_long, make in cases():
-        if is_long and not (given.all or given.case):
-            continue
-        case = make()
-        if given.case not in case.name:
-            continue
-        try:
-            print(f"| {' | '.join(row_of(program, other, case))} |", flush=True)
-        except AssertionError as fault:
-            print(f"{case.name}: {fault}", flush=True)
-            right = False
-    sys.exit(0 if right else 1)
+    made = (make() for is_long, make in cases() if not is_long or given.all or given.case)
+    rows = (
+        (case.name, lambda case=case: row_of(given.program, other, case))
+        for case in made
+        if given.case in case.name
+    )
+    table(heads, rows)
 
 
 if __name__ == "__main__":

@@ -16,7 +16,6 @@ The times are those of the program, two pipes, the system and this script, on a 
 be this script's.
 """
 
-import argparse
 import json
 import os
 import statistics
@@ -24,6 +23,7 @@ import sys
 import time
 
 sys.dont_write_bytecode = True
+from printed import head, row, words_of
 from questions import Program, learn
 from search import cases
 
@@ -77,7 +77,12 @@ def row_of(name, program, words, vocabulary, answers):
 
 def sessions(program, given):
     """A name, words, a vocabulary and its answers for each row."""
-    options = [word for option in ("plan", "budget") if getattr(given, option) for word in (f"--{option}", getattr(given, option))]
+    options = [
+        word
+        for option in ("plan", "budget")
+        if getattr(given, option)
+        for word in (f"--{option}", getattr(given, option))
+    ]
     for path in given.files:
         with open(path, "rb") as file:
             vocabulary, *answers = file.read().splitlines()
@@ -88,26 +93,32 @@ def sessions(program, given):
         case = make()
         if given.case in case.name if given.case else case.name in USUAL:
             learned = learn(program, case.task, *case.words)
-            yield case.name, case.words, case.vocabulary.encode(), [answer.encode() for answer in learned.answers]
+            yield case.name, case.words, case.vocabulary.encode(), [
+                answer.encode() for answer in learned.answers
+            ]
 
 
 def main():
-    words = argparse.ArgumentParser(usage="bench/waits.py PROGRAM [--case WORD] [--plan P] [--budget N] [FILE ..]")
-    words.add_argument("program")
-    words.add_argument("files", nargs="*")
-    words.add_argument("--case", default="")
-    words.add_argument("--plan", default="")
-    words.add_argument("--budget", default="")
-    if len(sys.argv) < 2:
-        print(__doc__)
-        sys.exit(2)
-    given = words.parse_args()
-    program = os.path.realpath(given.program)
-    heads = ["case", "questions (complete)", "median, us", "99 in 100 below", "longest", "median of complete", "first", "last"]
-    print(f"| {' | '.join(heads)} |\n|{'---|' * len(heads)}", flush=True)
-    for session in sessions(program, given):
-        name, options, vocabulary, answers = session
-        print(f"| {' | '.join(row_of(name, program, options, vocabulary, answers))} |", flush=True)
+    given = words_of(
+        __doc__,
+        "bench/waits.py PROGRAM [--case WORD] [--plan P] [--budget N] [FILE ..]",
+        (["files"], {"nargs": "*"}),
+        (["--case"], {"default": ""}),
+        (["--plan"], {"default": ""}),
+        (["--budget"], {"default": ""}),
+    )
+    head(
+        "case",
+        "questions (complete)",
+        "median, us",
+        "99 in 100 below",
+        "longest",
+        "median of complete",
+        "first",
+        "last",
+    )
+    for name, options, vocabulary, answers in sessions(given.program, given):
+        row(*row_of(name, given.program, options, vocabulary, answers))
 
 
 if __name__ == "__main__":

@@ -7,12 +7,8 @@ A full journal is made by hand: its vocabulary, the record that says that take-b
 between each two, 1,000,000 records besides that one. No run of such a length is needed to come there.
 """
 
-import os
-import subprocess
-import sys
-import tempfile
+import over_files
 
-TOP = os.path.join(os.path.dirname(os.path.abspath(__file__)), "..")
 YES = bytes.fromhex("01 41 00 00 00 06 01 02 00 00 01 01")
 RAISED = bytes.fromhex("01 55 00 00 00 01 02")
 BACK = bytes.fromhex("01 42 00 00 00 00")
@@ -33,48 +29,21 @@ COMMANDS = [
 ]
 
 
-class Room:
-    """A folder, the program and the vocabulary, and how many rows were as they should be."""
+class Room(over_files.Room):
+    """A room whose journals are raised."""
 
-    def __init__(self, folder, program):
-        self.folder = folder
-        self.program = os.path.abspath(program)
-        with open(os.path.join(TOP, "examples/first/vocabulary.json"), "rb") as file:
-            self.vocabulary = file.read().strip()
-        self.passed = self.failed = 0
-
-    def report(self, row, wanted, got):
-        if wanted == got:
-            self.passed += 1
-        else:
-            self.failed += 1
-            print(f"backs: {row}: {got!r} and not {wanted!r}")
-
-    def look(self, journal, words, given=b""):
-        """What a command prints, and its status."""
-        done = subprocess.run(
-            [self.program, journal, *words.split()],
-            input=self.vocabulary if given is None else given,
-            stdout=subprocess.PIPE,
-            timeout=300,
-            check=False,
-        )
-        return done.stdout.decode(), done.returncode
+    check = "backs"
 
     def put(self, name, events):
         """A journal of the vocabulary, raised, with these events."""
         payload = b"\2" + self.vocabulary
         start = b"QUACQJ1\n" + b"\1S" + len(payload).to_bytes(4, "big") + payload
-        path = os.path.join(self.folder, name)
-        with open(path, "wb") as file:
-            file.write(start + RAISED + events + CLOSED)
-        return path
+        return super().put(name, start + RAISED + events + CLOSED)
 
 
 def over_one_file(room):
-    journal = os.path.join(room.folder, "rows")
-    for number, (words, given, text, status) in enumerate(COMMANDS):
-        room.report(f"row {number}, {words}", (text, status), room.look(journal, words, given))
+    for number, command in enumerate(COMMANDS):
+        room.look_at(number, room.path("rows"), command)
 
 
 def full(room):
@@ -96,16 +65,4 @@ def full(room):
     room.report("a take-back of nothing", ("refused journal stray 3\n", 3), room.look(journal, "show"))
 
 
-def main():
-    if len(sys.argv) != 2:
-        print(__doc__)
-        sys.exit(2)
-    with tempfile.TemporaryDirectory() as folder:
-        room = Room(folder, sys.argv[1])
-        over_one_file(room)
-        full(room)
-    print(f"backs: {room.passed} passed, {room.failed} failed")
-    sys.exit(1 if room.failed else 0)
-
-
-main()
+over_files.check(__doc__, Room, [over_one_file, full])

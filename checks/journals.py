@@ -21,14 +21,12 @@ import select
 import shutil
 import signal
 import subprocess
-import sys
-import tempfile
 import termios
 import time
 
+import over_files
 from owners import Program
 
-TOP = os.path.join(os.path.dirname(os.path.abspath(__file__)), "..")
 NOBODY = 65534
 WORKED = bytes.fromhex("01 41 00 00 00 06 01 02 00 00 01 01 00")
 
@@ -79,31 +77,14 @@ STREAMS = {"input": [0], "output": [1], "error": [2], "all": [0, 1, 2]}
 ADD_FIRST = ("new", "back")
 
 
-class Room:
-    """A folder, the program and the vocabulary, and how many rows were as they should be."""
+class Room(over_files.Room):
+    """A room that others may enter, with a copy of the program in it."""
+
+    check = "journals"
 
     def __init__(self, folder, program):
-        self.folder = folder
+        super().__init__(folder, shutil.copy(program, os.path.join(folder, "program")))
         os.chmod(folder, 0o755)
-        self.program = shutil.copy(program, os.path.join(folder, "program"))
-        with open(os.path.join(TOP, "examples/first/vocabulary.json"), "rb") as file:
-            self.vocabulary = file.read().strip()
-        self.passed = self.failed = 0
-
-    def report(self, row, wanted, got):
-        if wanted == got:
-            self.passed += 1
-        else:
-            self.failed += 1
-            print(f"journals: {row}: {got!r} and not {wanted!r}")
-
-    def path(self, name):
-        return os.path.join(self.folder, name)
-
-    def put(self, name, content):
-        with open(self.path(name), "wb") as file:
-            file.write(content)
-        return self.path(name)
 
     def look(self, journal, words, given=b"", limit=None, user=None, closed=(), prepare=lambda: None):
         """What a command prints, and its status. Files may get `limit` bytes long, if there is one. The streams of `closed` are
@@ -117,16 +98,8 @@ class Room:
             for stream in closed:
                 os.close(stream)
 
-        done = subprocess.run(
-            [self.program, journal, *words.split()],
-            input=self.vocabulary if given is None else given,
-            stdout=subprocess.PIPE,
-            stderr=subprocess.PIPE,
-            timeout=300,
-            preexec_fn=begin,
-            user=user,
-            check=False,
-        )
+        how = {"stderr": subprocess.PIPE, "preexec_fn": begin, "user": user}
+        done = self.run(journal, words, given, **how)
         if 2 not in closed:
             told = FAULTS.get(done.returncode, "").format(journal=journal)
             self.report(f"{words}, status {done.returncode}: standard error", told, done.stderr.decode())
@@ -142,8 +115,8 @@ def content_of(journal):
 
 def over_one_file(room):
     journal = room.path("rows")
-    for number, (words, given, text, status, length) in enumerate(COMMANDS):
-        room.report(f"row {number}, {words}", (text, status), room.look(journal, words, given))
+    for number, (*command, length) in enumerate(COMMANDS):
+        room.look_at(number, journal, command)
         content = content_of(journal)
         room.report(f"row {number}, its length", length, content and len(content))
     room.report("the worked bytes", WORKED, content_of(journal)[183:195] + b"\0")
@@ -499,16 +472,4 @@ PARTS = [
 ]
 
 
-def main():
-    if len(sys.argv) != 2:
-        print(__doc__)
-        sys.exit(2)
-    with tempfile.TemporaryDirectory() as folder:
-        room = Room(folder, sys.argv[1])
-        for part in PARTS:
-            part(room)
-    print(f"journals: {room.passed} passed, {room.failed} failed")
-    sys.exit(1 if room.failed else 0)
-
-
-main()
+over_files.check(__doc__, Room, PARTS)

@@ -187,8 +187,8 @@ class Line:
         for j in range(1, count + 1):
             for i in range(j - 1, -1, -1):
                 wide = self.width(i, j)
-                if wide > WIDTH and costs[j] < NEVER:
-                    break
+                if wide > WIDTH and costs[j] < NEVER and i:
+                    continue
                 cost = costs[i] + LINE + (self.costs[i] + DEEPER * self.depths[i] if i else 0)
                 if wide > WIDTH:
                     cost += 200 + 5 * (wide - WIDTH)
