@@ -44,7 +44,7 @@ import sys
 import tempfile
 import time
 from concurrent.futures import ThreadPoolExecutor
-from typing import BinaryIO
+from typing import IO
 
 HERE = os.path.dirname(os.path.realpath(__file__))
 sys.dont_write_bytecode = True
@@ -164,7 +164,7 @@ class Bench:
         return said
 
     def first_row(self, name: str, edits: list[Edit],
-                  calls: BinaryIO | None = None) -> tuple[str, str]:
+                  calls: IO[bytes] | None = None) -> tuple[str, str]:
         """The first row of a table that doesn't hold with these bodies, and what came instead."""
         program, seconds = self.programs[name], self.seconds.get(name, 600)
         row, came, used = run(program, self.tables[name], switch_of(edits), seconds, calls)
@@ -319,7 +319,8 @@ def judge(said: argparse.Namespace, bench: Bench) -> tuple[int, int, dict[str, s
     if said.write:
         write_lines({name: line for name, line in lines.items()
                      if name in known and not known[name].same})
-        sums = sums_of(edits, lines)
+    # (with the lines as they came)
+    sums = sums_of(edits, lines)
     kept.write({it.name: sums[it.name] for it in due if it.name not in wrong}, set(known))
     if not said.names:
         wrong.update({name: "it has a line, and is no edit" for name in set(lines) - set(known)})
@@ -340,7 +341,7 @@ def tell_plants(said: argparse.Namespace, bench: Bench) -> None:
     edits = bench.compile([*TABLES], edits, refused)
     if faults := bench.right_faults(False):
         raise SystemExit("\n".join(f"wrong_bodies: {it}: {why}" for it, why in faults.items()))
-    count = collections.Counter()
+    count: collections.Counter[str] = collections.Counter()
     for edit, line in zip(edits, bench.pool.map(lambda edit: bench.notices([edit]), edits)):
         by = line[0] if line else "nothing" if bench.lookers([edit]) else "no table calls it"
         count[by] += 1
