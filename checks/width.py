@@ -1,14 +1,15 @@
 #!/usr/bin/env python3
-"""No line of sources, specifications and proofs is over 100 columns, but for the named ones, and Python gets no wider.
+"""No line of sources and specifications is over 100 columns, but for named ones. Python gets no wider.
 
 usage: checks/width.py
 
-- A line of a `.rt` or `.antt` file has 100 columns at most. EXCEPTIONS names those that can't be
-  broken, 50 at most, each by its file and how it begins, with the reason; none is over 120. One
-  that isn't over 100 any more is no exception. `tools/width.py` breaks the others.
+- A line of a source or a specification has 100 columns at most; proofs may be wider. EXCEPTIONS
+  names those that can't be broken, 50 at most, each by its file and how it begins, with the reason;
+  none is over 120. One that isn't over 100 any more is no exception. `tools/width.py` breaks the
+  others.
 - At most MOST_PYTHON lines of Python are over 100 columns: those of before. The number only falls.
-- A line with a column too much is noticed in a source, a specification, a proof, a script and a
-  named line, and one with a column less isn't.
+- A line with a column too much is noticed in a source, a specification, a script and a named line,
+  and one with a column less isn't.
 """
 
 import os
@@ -29,11 +30,11 @@ EXCEPTIONS = {
     ("crates/store_trials/src/random.rt", '"{} answers'): TEXT,
     ("crates/voc_read/src/reading.rt", "#[tactic("): ATTRIBUTE,
 }
-PARTS = ("src", "specs", "proofs")
+PARTS = ("src", "specs")
 
 
 def files(top):
-    """The sources, specifications, proofs and scripts below a folder, by their names from there."""
+    """The sources, specifications and scripts below a folder, by their names from there."""
     for where, folders, names in os.walk(top):
         folders[:] = [it for it in folders if it not in (".git", "out", "__pycache__")]
         for name in sorted(names):
@@ -72,7 +73,7 @@ def look(top, exceptions, most_python):
 def planted():
     """What is seen wrongly of lines as long as they may be, and of those with a column more."""
     named = "crates/low/src/lib.rt"
-    paths = ["crates/low/src/plain.rt", "crates/low/specs/A.antt", "crates/low/proofs/f/B.antt"]
+    paths = ["crates/low/src/plain.rt", "crates/low/specs/A.antt"]
     for more in (0, 1):
         for wide in (*paths, named, "tools/long.py"):
             with tempfile.TemporaryDirectory() as room:
