@@ -15,7 +15,8 @@ heading. Beside that:
 - docs/calls.md has each public call with a clause of the crates that the program stands on, and each law, and names no other call;
 - in docs/promises.md a definition is one of the crate whose clause is cited beside it, or of one that this crate uses;
 - README.md has the figures of the tables of docs/performance.md, and in that section no others;
-- no line of text has more than 130 columns, and in the pages that a user reads first no sentence more than 40 words;
+- no line of text has more than 130 columns, and in the pages that a user reads first no sentence
+  has more than 40 words;
 - THIRD-PARTY.md is what tools/third_party.py makes, where the kit that it names is there.
 
 That a command prints what a page shows under it is seen by checks/examples.sh.
@@ -32,6 +33,8 @@ from fnmatch import fnmatch
 TOP = os.path.realpath(os.path.join(os.path.dirname(os.path.abspath(__file__)), ".."))
 # The pages on contracts, where each single word is a name.
 ON_CONTRACTS = [f"docs/{page}.md" for page in ("promises", "definitions", "calls", "glossary", "map", "carrying_on", "DECISIONS")]
+# The pages that somebody who uses the program reads first.
+FOR_USERS = ["README.md", *(f"docs/{page}.md" for page in ("guide", "guarantees", "troubleshooting"))]
 # Words in backquotes that look like names of the sources and are others, and what they are.
 OTHERS = {
     **dict.fromkeys((".rt", "abbrev", "match", "requires", "Copy"), "words of Rattle"),
@@ -485,38 +488,53 @@ def rows_under(head):
     return {row[0]: row[1:] for row in rows}
 
 
-def longest_waits(column):
-    """The longest wait of each row of the table of full tables, in seconds, in one column of it or, for None, in any."""
+def longest_waits(columns):
+    """The longest wait of each row of the table of full tables, in seconds, in some of its columns."""
     rows = rows_under("| case | variables, scopes, constraints | `scopes` | `quacq` | `multi` |")
     wait = lambda cell: float(cell.split("; ")[1].removeprefix(">"))
-    return {case: max(map(wait, row[1:] if column is None else [row[column]])) for case, row in rows.items()}
+    return {case: max(wait(row[column]) for column in columns) for case, row in rows.items()}
+
+
+def found_in(page, pattern):
+    """What a pattern finds in a page, or a word that no other page has in its place."""
+    found = re.search(pattern, " ".join(text_of(page).split()))
+    return found[1] if found else f"<what {page} no longer says>"
 
 
 def due_figures():
-    """The sentences of README.md on what was measured, with the figures of docs/performance.md and the limits of docs/formats.md."""
+    """The sentences of README.md on what was measured, and on what is the most."""
     asked = rows_under("| task | variables, scopes, candidates | `scopes` | `quacq` | `multi` |")
     of = lambda task, column: asked[task][column].split(" of ")[0]
     candidates = lambda task: asked[task][0].split(", ")[2]
+    yield f"A roster with {candidates('roster')} possible constraints takes {of('roster', 2)} questions."
+    exams = "100 exams"
+    by_scopes = f"and {of(exams, 1)} in plan `scopes`."
+    yield f"{exams} with {candidates(exams)} take {of(exams, 2)}, {by_scopes}"
+
     timed = rows_under("| case | variables, scopes, constraints | questions | ending |")
     done = {case: row for case, row in timed.items() if row[2] == "converged"}
     others = [int(row[6]) for case, row in done.items() if "Golomb" not in case]
     ruler = next(int(row[6]) for case, row in done.items() if "Golomb" in case)
-    waits = [float(row[7]) for row in done.values()]
+    took = f"a question took {min(others)} to {max(others)} us of a processor"
+    yield f"{took} ({ruler / 1000:.2f} ms on a Golomb ruler)"
+    yield f"nobody waited for more than {max(float(row[7]) for row in done.values()):.0f} ms"
     memory = [float(row[8].removesuffix(" MB")) for row in done.values()]
-    full = longest_waits(None)
+    yield f"and {min(memory)} to {max(memory)} MB were enough"
+
+    full = longest_waits([1, 2, 3])
     longest = lambda word: max(wait for case, wait in full.items() if word in case)
-    yield f"A roster with {candidates('roster')} possible constraints takes {of('roster', 2)} questions."
-    yield f"100 exams with {candidates('100 exams')} take {of('100 exams', 2)}, and {of('100 exams', 1)} in plan `scopes`."
-    yield f"a question took {min(others)} to {max(others)} us of a processor ({ruler / 1000:.2f} ms on a Golomb ruler)"
-    yield f"nobody waited for more than {max(waits):.0f} ms, and {min(memory)} to {max(memory)} MB were enough"
-    yield f"of a Sudoku one waits for {longest('Sudoku')} s of a processor and more, of a league for {longest('by teams')} s"
+    yield f"of a Sudoku one waits for {longest('Sudoku')} s of a processor and more"
+    yield f"of a league for {longest('by teams')} s"
     yield f"with 1,800 constraints between 128 variables for {longest('1,800 mixed'):.0f} s."
-    yield f"Plan `scopes` has {'no such wait' if max(longest_waits(1).values()) < 0.01 else 'such waits too'}"
-    budget, limits = " ".join(text_of("docs/performance.md").split()), text_of("docs/formats.md")
-    wait = re.search("0.06 s under 1,000, with 1,800 it was ([0-9.]+) s", budget)
-    yield f"under a `--budget` of 1,000 none was above {wait[1] if wait else 'what docs/performance.md no longer says'} s."
-    most = [re.search(f"{words} ([0-9,]+) {what}", limits)[1] for words, what in (("1 to", "names"), ("1 to", "values"), ("at most", "scopes"))]
-    yield f"The largest languages have {most[0]} variables, {most[1]} values and {most[2]} scopes."
+    has_none = max(longest_waits([1]).values()) < 0.01
+    yield f"Plan `scopes` has {'no such wait' if has_none else 'such waits too'}"
+    wait = found_in("docs/performance.md", "0.06 s under 1,000, with 1,800 it was ([0-9.]+) s")
+    yield f"under a `--budget` of 1,000 none was above {wait} s."
+
+    names = found_in("docs/formats.md", "1 to ([0-9,]+) names")
+    values = found_in("docs/formats.md", "1 to ([0-9,]+) values")
+    scopes = found_in("docs/formats.md", "at most ([0-9,]+) scopes")
+    yield f"The largest languages have {names} variables, {values} values and {scopes} scopes."
 
 
 def figure_faults(page):
@@ -544,7 +562,8 @@ def sentence_faults(page):
         plain = re.sub(r"`[^`]*`|\]\([^)]*\)", "x", text)
         for sentence in re.split(r"[.!?][*`)]*\s| \| ", plain):
             if (count := len(re.findall(r"[^\s]*\w[^\s]*", sentence))) > 40:
-                yield number, f"a sentence has {count} words, and 40 are the most: {' '.join(sentence.split()[:8])} .."
+                begun = " ".join(sentence.split()[:8])
+                yield number, f"a sentence has {count} words, and 40 are the most: {begun} .."
 
 
 def third_party_faults(page):
@@ -571,7 +590,7 @@ def main():
     parts += [("docs/promises.md", lambda page: citing_faults(sources, page))]
     parts += [("README.md", figure_faults), ("THIRD-PARTY.md", third_party_faults)]
     parts += [(name, width_faults) for name in pages]
-    parts += [(name, sentence_faults) for name in ("README.md", "docs/guide.md", "docs/guarantees.md", "docs/troubleshooting.md")]
+    parts += [(name, sentence_faults) for name in FOR_USERS]
     failed = 0
     for name, faults in parts:
         found = list(faults(pages[name]))

@@ -3,10 +3,12 @@
 
 usage: checks/words.py PROGRAM [NUMBER]
 
-NUMBER lists of words (800) are drawn: some plain, some with a word more, less or changed, and some with `--`. Each is given to
-PROGRAM, and to a copy of the script beside which nothing is built and no kit is there. Where the program prints the usage line, or
-finds no session since no file has the journal's name, the script prints the same, with the same status; and else it says that it
-can't build. For half of the lists each word is the name of a file, without a byte. The script's own words are left out.
+NUMBER lists of words (800) are drawn: some plain, some with a word more, less or changed, and some
+with `--`. Each is given to PROGRAM, and to a copy of the script beside which nothing is built and no
+kit is there. Where the program prints the usage line, or finds no session since no file has the
+journal's name, the script prints the same, with the same status; and else it says that it can't
+build. For half of the lists each word is the name of a file, without a byte. The script's own words
+are left out.
 """
 
 import os
@@ -28,7 +30,7 @@ VALUES = {
     "--number": ["0", "4294967295", "4294967296", "000", "+5", "x", "1_0"],
 }
 JOURNALS = ["j", "run", "help", ":memory:", ":memory:", "some journal", "-j", "-"]
-OTHERS = ["more", "--fast", "-x", "--plan", "--budget", "--number", "--plan=", "-", "--", "--", "shwo"]
+OTHERS = ["more", "--fast", "-x", "--plan", "--budget", "--number", "--plan=", "-", "shwo", *["--"] * 2]
 NO_SESSION = ("refused journal no session\n", 3)
 NOT_BUILT = ("", 70)
 
@@ -70,7 +72,8 @@ def with_files(room):
     """A folder in which each word that may come is a file without a byte."""
     folder = f"{room}/files"
     os.mkdir(folder)
-    for name in {*JOURNALS, *OPTIONS, *OTHERS, *(value for values in VALUES.values() for value in values)} - {":memory:", ""}:
+    values = {value for some in VALUES.values() for value in some}
+    for name in {*JOURNALS, *OPTIONS, *OTHERS, *values} - {":memory:", ""}:
         with open(f"{folder}/{name}", "wb"):
             pass
     return folder
@@ -100,8 +103,10 @@ def main():
             missed += is_missed
             if (said.stdout, said.returncode) != (due if is_refused or is_missed else NOT_BUILT):
                 failed += 1
-                print(f"words: {words}, {'' if there else 'no '}files: the program prints {due}, and the script {said.stdout + said.stderr!r}, status {said.returncode}")
-    print(f"words: {number} lists of words, {refused} of which the program refuses, {missed} without a file; {failed} failed")
+                printed = f"{said.stdout + said.stderr!r}, status {said.returncode}"
+                print(f"words: {words}, {'' if there else 'no '}files: {due}, and the script: {printed}")
+    told = f"{refused} of which the program refuses, {missed} without a file"
+    print(f"words: {number} lists of words, {told}; {failed} failed")
     sys.exit(1 if failed else 0)
 
 

@@ -108,7 +108,8 @@ class Session:
     Either a question is open (`question`) or the session has ended (`ending`). `answer`, `back` and `stop` say what a person says;
     `run` has a function answer until the end. Use it as a context manager, or call `close`: the program waits until then.
 
-    `vocabulary` is the `Vocabulary` that it is about, also where the journal gave it, and `plan` the plan.
+    `vocabulary` is the `Vocabulary` that it is about, also where the journal gave it; `plan` is its
+    plan.
 
     Over a journal each answer is on the disk before the next question comes, and a session that is begun over a journal with
     answers goes on behind them. It isn't for several threads at a time.
@@ -128,8 +129,9 @@ class Session:
         patience: how many seconds each question, and each other call, may take; else they are waited for. Where they are over, the
             program is killed, the session is at its end, and `TimeOver` is raised; over a journal a new `Session` goes on.
 
-        Raises `ValueError` where there is no such plan or budget, or neither vocabulary nor journal is named; `VocabularyRefused`;
-        `JournalRefused`, also where the journal has another vocabulary or plan; `ProgramMissing`, `ProgramEnded`, `SystemFault`.
+        Raises `ValueError` where there is no such plan or budget, or neither vocabulary nor journal
+        is named; `VocabularyRefused`; `JournalRefused`, also where the journal has another
+        vocabulary or plan; `ProgramMissing`, `ProgramEnded` and `SystemFault`.
         """
         if plan is not None and plan not in PLANS:
             raise ValueError(f"{plan!r} is no plan: {', '.join(PLANS)}")
