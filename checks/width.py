@@ -5,7 +5,7 @@ usage: checks/width.py
 
 - A line of a source or a specification has 100 columns at most; proofs may be wider. EXCEPTIONS
   names those that can't be broken, 50 at most, each by its file and how it begins, with the reason;
-  none is over 120. One that isn't over 100 any more is no exception. `tools/width.py` breaks the
+  none is over 132. One that isn't over 100 any more is no exception. `tools/width.py` breaks the
   others.
 - At most MOST_PYTHON lines of Python are over 100 columns: those of before. The number only falls.
 - A line with a column too much is noticed in a source, a specification, a script and a named line,
@@ -17,17 +17,20 @@ import sys
 import tempfile
 
 TOP = os.path.realpath(os.path.join(os.path.dirname(os.path.abspath(__file__)), ".."))
-WIDTH, WIDEST, MOST, MOST_PYTHON = 100, 120, 50, 2_525
+WIDTH, WIDEST, MOST, MOST_PYTHON = 100, 132, 50, 1_896
 ATTRIBUTE = "`rt fmt` keeps an attribute on one line"
+IMPORT = "an import"
 TABLE = "a row of a table"
 TEXT = "a text that the program makes, on one line as it comes out"
 EXCEPTIONS = {
+    ("crates/acq_cli/src/top.rt", "#[tactic("): ATTRIBUTE,
     ("crates/acq_said/src/lib.rt", "//! | say something of a journal's session"): TABLE,
     ("crates/acquire/src/main.rt", "\"acquire: {journal} can't be opened"): TEXT,
     ("crates/rel_table/src/lib.rt", "//! | learn a table's size"): TABLE,
     ("crates/samples/src/languages.rt", 'r#"{{"variables"'): TEXT,
     ("crates/store_trials/src/random.rt", 'r#"{{"variables"'): TEXT,
     ("crates/store_trials/src/random.rt", '"{} answers'): TEXT,
+    ("crates/voc_read/specs/Rules.antt", "use Rattle.voc_read.specs.declared.fault"): IMPORT,
     ("crates/voc_read/src/reading.rt", "#[tactic("): ATTRIBUTE,
 }
 PARTS = ("src", "specs")

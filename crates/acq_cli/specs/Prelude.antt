@@ -1,11 +1,23 @@
 -- The names from outside that these definitions use, passed on from one place. Declares nothing.
-pub use Rattle.acq_loop.specs.Prelude.{All, NoneAgrees, Said, TakesSome, WalkEnd, flat_map, kept, plain_size}
-pub use Rattle.acq_said.specs.Prelude.{Adds, AddsFront, AllFault, Answer, Assignment, At, Bool, Candidate, Closing, Converged, DiskOf, Drove, Ending, Err, Event, ForSome, Gathered, Gives, HasSameSolutions, SaysOpened, Idle, IfOk, IsConverged, IsCovered, IsNetwork, IsTrue, IsVocabulary, Language, List, MatchResult, Ok, OnErr, Opened, Opens, Option, Plan, Put, Quacq, Ran, RefusesOpening, Result, Runs, SFault, Scopes, Some, Terms, Told, Turns, VocFault, [], agrees, all_of, candidates, codes, decimal, ending_line, ending_of, false, first_line_of, learned_in, length, line_turn, network_text, standing_on, state_after, terms_with, true, variable_count, ℕ}
+pub use Rattle.acq_loop.specs.Prelude.{All, NoneAgrees, Said, TakesSome, WalkEnd, flat_map, kept}
+pub use Rattle.acq_loop.specs.Prelude.{plain_size}
+pub use Rattle.acq_said.specs.Prelude.{Adds, AddsFront, AllFault, Answer, Assignment, At, Bool}
+pub use Rattle.acq_said.specs.Prelude.{Candidate, Closing, Converged, DiskOf, Drove, Ending, Err}
+pub use Rattle.acq_said.specs.Prelude.{Event, ForSome, Gathered, Gives, HasSameSolutions}
+pub use Rattle.acq_said.specs.Prelude.{SaysOpened, Idle, IfOk, IsConverged, IsCovered, IsNetwork}
+pub use Rattle.acq_said.specs.Prelude.{IsTrue, IsVocabulary, Language, List, MatchResult, Ok, OnErr}
+pub use Rattle.acq_said.specs.Prelude.{Opened, Opens, Option, Plan, Put, Quacq, Ran, RefusesOpening}
+pub use Rattle.acq_said.specs.Prelude.{Result, Runs, SFault, Scopes, Some, Terms, Told, Turns}
+pub use Rattle.acq_said.specs.Prelude.{VocFault, [], agrees, all_of, candidates, codes, decimal}
+pub use Rattle.acq_said.specs.Prelude.{ending_line, ending_of, false, first_line_of, learned_in}
+pub use Rattle.acq_said.specs.Prelude.{length, line_turn, network_text, standing_on, state_after}
+pub use Rattle.acq_said.specs.Prelude.{terms_with, true, variable_count, ℕ}
 pub use Rattle.acq_io.specs.Lines.{LacksNewline, newline}
 pub use Rattle.acq_loop.specs.Added.{IsAdded}
 pub use Rattle.acq_loop.specs.Driven.{HasFound, IsLeftOpen}
 pub use Rattle.acq_loop.specs.Program.{ended_as}
-pub use Rattle.acq_loop.specs.Run.{Collapsed, JournalFull, LineTooLong, Suspended, Undecided, Unreadable}
+pub use Rattle.acq_loop.specs.Run.{Collapsed, JournalFull, LineTooLong, Suspended, Undecided}
+pub use Rattle.acq_loop.specs.Run.{Unreadable}
 pub use Rattle.acq_loop.specs.Texts.{closing_text, learned_after, usage_text}
 pub use Rattle.acq_said.specs.Asks.{AsksTruly, asked_said}
 pub use Rattle.acq_said.specs.Breaks.{BreaksRun}

@@ -1,6 +1,8 @@
 -- What the words ask of the program.
 use Rattle.std.specs.Prelude.{◌≡◌}
-use Rattle.acq_cli.specs.Prelude.{Bool, Command, Contents, Err, List, Memory, Ok, Option, Result, TakesSome, Usage, UsageFault, WordsFault, request_of_words, false, true, ℕ}
+use Rattle.acq_cli.specs.Prelude.{Bool, Command, Contents, Err, List, Memory, Ok, Option, Result}
+use Rattle.acq_cli.specs.Prelude.{TakesSome, Usage, UsageFault, WordsFault, request_of_words, false}
+use Rattle.acq_cli.specs.Prelude.{true, ℕ}
 use Rattle.acq_words.specs.declared.request.Command.TheVariants as command
 
 abbrev pub command_in : Result Contents UsageFault → Result Command UsageFault
@@ -64,9 +66,11 @@ IsCommandOf asked (Ok c) = asked ≡ Ok c
 IsCommandOf asked (Err (Usage fault)) = asked ≡ Err fault
 IsCommandOf asked (Err Memory) = Unit {0}
 
--- The input has an end of what it had, where it tells. What the words don't ask for is spared, whatever it tells: a command that doesn't
--- read leaves the input itself as it was, and one that isn't over a journal the disk.
-pub record Spares {S D : Type 0} (asked : Result Command UsageFault) (left : S → Option (List ℕ)) (source source' : S) (old new : D) : Type 0 where
+-- The input has an end of what it had, where it tells. What the words don't ask for is spared,
+-- whatever it tells: a command that doesn't read leaves the input itself as it was, and one that
+-- isn't over a journal the disk.
+pub record Spares {S D : Type 0} (asked : Result Command UsageFault) (left : S →
+    Option (List ℕ)) (source source' : S) (old new : D) : Type 0 where
   pub takes : TakesSome (left source) (left source')
   pub unread : is_reading asked ≡ false → source' ≡ source
   pub untouched : is_over_journal asked ≡ false → new ≡ old

@@ -48,9 +48,11 @@ pub fn run_journal<R: Threads + Sync, S: Source, K: Sink, D: Disk, G: Gate>(
     gate: &G,
 ) -> Result<Ending, Put>
     requires { IsBudget budget }
-    ensures runs { Does D.Disk (Ok (Run budget)) (S.left input.old) (K.written out.old) (S.left input.new) (K.written out.new) disk.old disk.new result }
+    ensures runs { Does D.Disk (Ok (Run budget)) (S.left input.old) (K.written out.old)
+        (S.left input.new) (K.written out.new) disk.old disk.new result }
     ensures takes { TakesSome (S.left input.old) (S.left input.new) }
-    ensures read { HasCalled (S.faults input.old) (S.faults input.new) (S.late input.old) (S.late input.new) (result ≡ Ok Ending.ReadFault) }
+    ensures read { HasCalled (S.faults input.old) (S.faults input.new) (S.late input.old)
+        (S.late input.new) (result ≡ Ok Ending.ReadFault) }
     ensures no_fault { IfOk result (λ ending. ending ≢ Ending.WriteFault) }
     ensures failed { result ≡ Err Put.Failed → Rose (K.faults out.old) (K.faults out.new) }
     ensures lost { result ≡ Ok Ending.DiskFault → DiskRose (D.faults disk.old) (D.faults disk.new) }

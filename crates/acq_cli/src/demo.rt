@@ -1,12 +1,14 @@
 //! The command that makes a language and a target of a number.
 
-ghost use Rattle.std.specs.Prelude.{◌≡◌, ◌∷◌, ◌++◌, [], length, true, IsTrue, IfOk, None, Err, codes};
+ghost use Rattle.std.specs.Prelude.{◌≡◌, ◌∷◌, ◌++◌, [], length, true, IsTrue, IfOk, None, Err};
+ghost use Rattle.std.specs.Prelude.{codes};
 ghost use Rattle.std.specs.Fmt.{decimal};
 ghost use Rattle.acq_io.specs.Streams.{Rose};
 ghost use Rattle.acq_words.specs.Request.{IsBudget};
 ghost use Rattle.language.specs.Language.{IsLanguage};
 ghost use Rattle.language.specs.Answers.{IsNetwork, agrees, standing_on};
-ghost use Rattle.session_store.specs.Loose.{lang_of as lang_in, plan_of, events_of, question_of, IsSound};
+ghost use Rattle.session_store.specs.Loose.{lang_of as lang_in, plan_of, events_of, question_of};
+ghost use Rattle.session_store.specs.Loose.{IsSound};
 ghost use Rattle.acq_cli.specs.Demoing.{Demos, HasDriven, IsQuietEnd, SaysSum, demo_text};
 ghost use Rattle.session_store.specs.Keeps.{IsSameSession};
 ghost use Rattle.acq_loop.specs.Points.{terms_with};
@@ -43,8 +45,8 @@ fn made(alloc: Global, number: u32, lang: &Language) -> Result<Said, Memory>
     Ok(Said::new(text, Ending::Done))
 }
 
-/// Lets a network answer without a word. Nothing is read, written or kept on a disk, so what the loop is handed of these is
-/// its own.
+/// Lets a network answer without a word. Nothing is read, written or kept on a disk, so what the
+/// loop is handed of these is its own.
 fn drive_quietly<R: Threads + Sync, G: Gate>(
     rt: &R,
     alloc: Global,
@@ -58,8 +60,10 @@ fn drive_quietly<R: Threads + Sync, G: Gate>(
     requires fresh { events_of keep.old ≡ [] }
     requires idle { question_of keep.old ≡ None }
     requires target { IsNetwork (lang_in keep.old) target.list }
-    ensures driven { HasDriven target.list (lang_in keep.old) (terms_with (plan_of keep.old) budget) (events_of keep.new) result }
-    ensures agreeing { IsTrue (agrees (lang_in keep.old) target.list (standing_on (lang_in keep.old) (events_of keep.new))) }
+    ensures driven { HasDriven target.list (lang_in keep.old) (terms_with (plan_of keep.old) budget)
+        (events_of keep.new) result }
+    ensures agreeing { IsTrue (agrees (lang_in keep.old) target.list
+        (standing_on (lang_in keep.old) (events_of keep.new))) }
     ensures same { IsSameSession ⟦<Loose as Keep<MemDisk>>⟧ keep.old keep.new }
 {
     let lang = lang_of::<MemDisk, Loose>(keep);
@@ -96,7 +100,8 @@ fn drive_quietly<R: Threads + Sync, G: Gate>(
 /// Says how it ended after so many answers, and how many candidates were learned.
 fn summary(alloc: Global, word: &str, m: u32, learned: u32, ending: Ending) -> Result<Said, Memory>
     requires { is_told ending ≡ true }
-    ensures { IfOk result (λ said. said ≡ saying (word.now ++ (32 ∷ (decimal m ++ (10 ∷ (codes "learned " ++ (decimal learned ++ 10 ∷ [])))))) ending) }
+    ensures { IfOk result (λ said. said ≡ saying (word.now ++ (32
+        ∷ (decimal m ++ (10 ∷ (codes "learned " ++ (decimal learned ++ 10 ∷ [])))))) ending) }
 {
     let text = format!(in alloc; "{word} {m}\nlearned {learned}\n")?;
     Ok(Said::new(text, ending))
@@ -130,12 +135,14 @@ fn summed(alloc: Global, drove: Drove, learned: u32) -> Result<Said, Unsaid>
 /// How many candidates the session of a keeper has learned.
 fn learned_by<D: Disk, P: Keep<D>>(keep: &P) -> u32
     requires { P.sound keep.now }
-    ensures is { (budget : _) → result ≡ length (learned_after (P.lang keep.now) (terms_with (P.plan keep.now) budget) (standing_on (P.lang keep.now) (P.record_of keep.now))) }
+    ensures is { (budget : _) → result ≡ length (learned_after (P.lang keep.now) (terms_with
+        (P.plan keep.now) budget) (standing_on (P.lang keep.now) (P.record_of keep.now))) }
 {
     keep.session().network().len()
 }
 
-/// Makes a language and a target of a number, lets the target answer in plan Quacq, and says how that ended.
+/// Makes a language and a target of a number, lets the target answer in plan Quacq, and says how
+/// that ended.
 pub fn demo_number<R: Threads + Sync, K: Sink, G: Gate>(
     rt: &R,
     alloc: Global,

@@ -10,15 +10,15 @@ pub fn budget_is_enough()
     ensures { BudgetIsEnough }
 {}
 
-/// The default budget of 100,000 is enough for every session about the generated language, since no search there has more
-/// than 88,573 steps.
+/// The default budget of 100,000 is enough for every session about the generated language, since no
+/// search there has more than 88,573 steps.
 #[tactic(auto, using(crate::proofs::Enough::generated_is_short))]
 pub fn generated_is_short()
     ensures { GeneratedIsShort }
 {}
 
-/// A journal without take-backs has a record for each answer that its session may still take, and so has one with as many
-/// records left as any session takes answers.
+/// A journal without take-backs has a record for each answer that its session may still take, and
+/// so has one with as many records left as any session takes answers.
 #[tactic(auto, using(crate::proofs::Room::room_is_left))]
 pub fn room_is_left()
     ensures { RoomIsLeft }

@@ -1,6 +1,7 @@
 //! The command that lets a network answer.
 
-ghost use Rattle.std.specs.Prelude.{◌≡◌, ◌≢◌, ◌≤◌, ◌++◌, ◌∷◌, [], codes, length, IfOk, IfErr, Ok, Err};
+ghost use Rattle.std.specs.Prelude.{◌≡◌, ◌≢◌, ◌≤◌, ◌++◌, ◌∷◌, [], codes, length, IfOk, IfErr, Ok};
+ghost use Rattle.std.specs.Prelude.{Err};
 ghost use Rattle.std.specs.Fmt.{decimal};
 ghost use Rattle.acq_io.specs.Streams.{HasCalled, Rose, TakesSome};
 ghost use Rattle.acq_words.specs.Request.{IsBudget};
@@ -39,7 +40,8 @@ fn answers_of<D: Disk, P: Keep<D>>(keep: &P) -> u32
 
 /// Says that some answers stand.
 fn stale(alloc: Global, m: u32) -> Result<Said, Memory>
-    ensures { IfOk result (λ said. said ≡ saying (codes "refused not fresh " ++ (decimal m ++ 10 ∷ [])) (Ending.NotFresh m)) }
+    ensures { IfOk result (λ said.
+        said ≡ saying (codes "refused not fresh " ++ (decimal m ++ 10 ∷ [])) (Ending.NotFresh m)) }
 {
     let text = format!(in alloc; "refused not fresh {m}\n")?;
     Ok(Said::new(text, Ending::NotFresh(m)))
@@ -63,18 +65,21 @@ fn untargeted(alloc: Global, fault: NetFault) -> Result<Said, Unsaid>
     or_silent(refused_target(alloc, fault))
 }
 
-/// Reads a network of a language, to the end of the input. Else it says why there is none, but for a fault of the input and want of
-/// memory.
+/// Reads a network of a language, to the end of the input. Else it says why there is none, but for
+/// a fault of the input and want of memory.
 fn read_target<S: Source>(
     alloc: Global,
     lang: &Language,
     input: &mut S,
 ) -> Result<Network, Result<Said, Unsaid>>
-    ensures target { IfOk result (λ (net : Learned). ReadsTarget lang.now (S.left input.old) (S.left input.new) net.list) }
-    ensures lacks { IfErr result (SaysOfInput 4194304 (SaysNoNetwork lang.now) (S.left input.old) (S.left input.new)) }
+    ensures target { IfOk result
+        (λ (net : Learned). ReadsTarget lang.now (S.left input.old) (S.left input.new) net.list) }
+    ensures lacks { IfErr result
+        (SaysOfInput 4194304 (SaysNoNetwork lang.now) (S.left input.old) (S.left input.new)) }
     ensures no_disk { IfErr result (λ said. said ≢ Err Unsaid.DiskFault) }
     ensures takes { TakesSome (S.left input.old) (S.left input.new) }
-    ensures called { HasCalled (S.faults input.old) (S.faults input.new) (S.late input.old) (S.late input.new) (result ≡ Err (Err Unsaid.ReadFault)) }
+    ensures called { HasCalled (S.faults input.old) (S.faults input.new) (S.late input.old)
+        (S.late input.new) (result ≡ Err (Err Unsaid.ReadFault)) }
 {
     let bytes = match read_all(alloc, input, MOST_TARGET) {
         Ok(bytes) => bytes,
@@ -101,9 +106,11 @@ pub fn play_journal<R: Threads + Sync, S: Source, K: Sink, D: Disk, G: Gate>(
     gate: &G,
 ) -> Result<Ending, Put>
     requires { IsBudget budget }
-    ensures plays { PlaysOn D.Disk budget (S.left input.old) (K.written out.old) (S.left input.new) (K.written out.new) disk.old disk.new result }
+    ensures plays { PlaysOn D.Disk budget (S.left input.old) (K.written out.old) (S.left input.new)
+        (K.written out.new) disk.old disk.new result }
     ensures takes { TakesSome (S.left input.old) (S.left input.new) }
-    ensures read { HasCalled (S.faults input.old) (S.faults input.new) (S.late input.old) (S.late input.new) (result ≡ Ok Ending.ReadFault) }
+    ensures read { HasCalled (S.faults input.old) (S.faults input.new) (S.late input.old)
+        (S.late input.new) (result ≡ Ok Ending.ReadFault) }
     ensures no_fault { IfOk result (λ ending. ending ≢ Ending.WriteFault) }
     ensures failed { result ≡ Err Put.Failed → Rose (K.faults out.old) (K.faults out.new) }
     ensures lost { result ≡ Ok Ending.DiskFault → DiskRose (D.faults disk.old) (D.faults disk.new) }

@@ -29,10 +29,13 @@ pub(crate) fn speak<R: Threads + Sync, S: Source, D: Disk, G: Gate>(
 ) -> Result<Said, Unsaid>
     requires speaking { is_speaking command ≡ true }
     requires within { CommandIsWithin command }
-    ensures spoke { Spoke D.Disk command (S.left input.old) (S.left input.new) disk.old disk.new result }
+    ensures spoke { Spoke D.Disk command (S.left input.old)
+        (S.left input.new) disk.old disk.new result }
     ensures spares { Spares (Ok command) S.left input.old input.new disk.old disk.new }
-    ensures read { HasCalled (S.faults input.old) (S.faults input.new) (S.late input.old) (S.late input.new) (result ≡ Err Unsaid.ReadFault) }
-    ensures lost { result ≡ Err Unsaid.DiskFault → DiskRose (D.faults disk.old) (D.faults disk.new) }
+    ensures read { HasCalled (S.faults input.old) (S.faults input.new) (S.late input.old)
+        (S.late input.new) (result ≡ Err Unsaid.ReadFault) }
+    ensures lost { result ≡ Err Unsaid.DiskFault →
+        DiskRose (D.faults disk.old) (D.faults disk.new) }
 {
     match command {
         Command::New(plan) => new_journal(alloc, plan, input, disk),

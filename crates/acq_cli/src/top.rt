@@ -1,4 +1,5 @@
-ghost use Rattle.std.specs.Prelude.{◌≡◌, ◌≤◌, ◌≢◌, ◌⊎◌, ℕ, List, [], map, IfOk, IsFalse, OnErr, Ok, Err};
+ghost use Rattle.std.specs.Prelude.{◌≡◌, ◌≤◌, ◌≢◌, ◌⊎◌, ℕ, List, [], map, IfOk, IsFalse, OnErr, Ok};
+ghost use Rattle.std.specs.Prelude.{Err};
 ghost use Rattle.assign.specs.declared.events.Event.{Event};
 ghost use Rattle.std.specs.String.{string_bytes};
 ghost use Rattle.acq_io.specs.Streams.{Adds, AddsFront, HasCalled, Rose, TakesSome};
@@ -60,13 +61,18 @@ pub(crate) fn say<K: Sink>(
     out: &mut K,
 ) -> Result<Ending, Put>
     requires made { AreMarksFor (knowledge_of session.now).lang screen.now }
-    ensures says { (budget : _) (t : List Answer) → Stands session.now t → let k = knowledge_of session.now in let terms = terms_with k.plan budget in
-        HasEnded k.lang terms t drove → ((m : _) → drove ≡ Drove.Undecided m → TellsOpen k.lang terms t screen.now)
+    ensures says { (budget : _) (t : List Answer) → Stands session.now t →
+        let k = knowledge_of session.now in let terms = terms_with k.plan budget in
+        HasEnded k.lang terms t drove →
+        ((m : _) → drove ≡ Drove.Undecided m → TellsOpen k.lang terms t screen.now)
         → IfOk result (Says k.lang terms t (K.written out.old) (K.written out.new) drove) }
-    ensures part { (budget : _) (t : List Answer) → Stands session.now t → let k = knowledge_of session.now in let terms = terms_with k.plan budget in
-        HasEnded k.lang terms t drove → ((m : _) → drove ≡ Drove.Undecided m → TellsOpen k.lang terms t screen.now)
+    ensures part { (budget : _) (t : List Answer) → Stands session.now t →
+        let k = knowledge_of session.now in let terms = terms_with k.plan budget in
+        HasEnded k.lang terms t drove →
+        ((m : _) → drove ≡ Drove.Undecided m → TellsOpen k.lang terms t screen.now)
         → OnErr result (SaysPart k.lang terms t (K.written out.old) (K.written out.new) drove) }
-    ensures failed { result ≡ Err Put.Failed → drove ≢ Drove.WriteFault → Rose (K.faults out.old) (K.faults out.new) }
+    ensures failed { result ≡ Err Put.Failed → drove ≢ Drove.WriteFault →
+        Rose (K.faults out.old) (K.faults out.new) }
     ensures later_sink { K.faults out.old ≤ K.faults out.new }
 {
     match drove {
@@ -75,8 +81,8 @@ pub(crate) fn say<K: Sink>(
     }
 }
 
-/// Asks on from where a session stands until the answers converge, nothing more can be asked, or the teacher stops, and says
-/// how that ended.
+/// Asks on from where a session stands until the answers converge, nothing more can be asked, or
+/// the teacher stops, and says how that ended.
 #[tactic(auto, using(acq_loop::proofs::Taking::takes_same, crate::proofs::Causes::called_idle))]
 pub(crate) fn ask_on<
     R: Threads + Sync,
@@ -99,13 +105,18 @@ pub(crate) fn ask_on<
 ) -> Result<Ending, Put>
     requires keeper { IsKeeping P.Keep keep.old disk.old }
     requires fits { T.fits teacher.old (P.lang keep.old) }
-    requires settled { IsSettled (P.lang keep.old) (P.plan keep.old) (standing_on (P.lang keep.old) (P.record_of keep.old)) (P.question keep.old) }
+    requires settled { IsSettled (P.lang keep.old) (P.plan keep.old)
+        (standing_on (P.lang keep.old) (P.record_of keep.old)) (P.question keep.old) }
     requires budget { IsBudget budget }
-    ensures asked { HasAsked (T.turn teacher.old) (P.lang keep.old) (terms_with (P.plan keep.old) budget) (P.record_of keep.old) (P.record_of keep.new)
+    ensures asked { HasAsked (T.turn teacher.old) (P.lang keep.old)
+        (terms_with (P.plan keep.old) budget) (P.record_of keep.old) (P.record_of keep.new)
         (S.left input.old) (K.written out.old) (S.left input.new) (K.written out.new) result }
-    ensures faults { HasReadAndWritten (S.left input.old) (S.left input.new) (S.faults input.old) (S.faults input.new) (S.late input.old) (S.late input.new) (K.faults out.old) (K.faults out.new) (result ≡ Ok Ending.ReadFault) (result ≡ Err Put.Failed) }
+    ensures faults { HasReadAndWritten (S.left input.old) (S.left input.new) (S.faults input.old)
+        (S.faults input.new) (S.late input.old) (S.late input.new) (K.faults out.old)
+        (K.faults out.new) (result ≡ Ok Ending.ReadFault) (result ≡ Err Put.Failed) }
     ensures no_fault { IfOk result (λ ending. ending ≢ Ending.WriteFault) }
-    ensures taught { IsTaught (P.lang keep.old) (P.plan keep.old) (T.may_say teacher.old (P.lang keep.old)) (P.record_of keep.old) (P.record_of keep.new)
+    ensures taught { IsTaught (P.lang keep.old) (P.plan keep.old)
+        (T.may_say teacher.old (P.lang keep.old)) (P.record_of keep.old) (P.record_of keep.new)
         (MayEnd (T.may_say teacher.old (P.lang keep.old)) result) }
     // where the teacher doesn't read, nothing does
     ensures unread { IsFalse (T.reads teacher.old) → input.new ≡ input.old }
@@ -154,10 +165,14 @@ fn try_language<R: Threads + Sync, S: Source, K: Sink, G: Gate>(
     gate: &G,
 ) -> Result<Ending, Put>
     requires { IsBudget terms.budget }
-    ensures tries { IfOk result (λ ending. (events : List Event) × Tries line_turn lang terms [] events (S.left input.old) (K.written out.old) (S.left input.new) (K.written out.new) ending) }
-    ensures part { OnErr result ((events : List Event) × BreaksRun line_turn lang terms [] events (S.left input.old) (K.written out.old) (S.left input.new) (K.written out.new)) }
+    ensures tries { IfOk result (λ ending. (events : List Event)
+        × Tries line_turn lang terms [] events (S.left input.old) (K.written out.old)
+        (S.left input.new) (K.written out.new) ending) }
+    ensures part { OnErr result ((events : List Event) × BreaksRun line_turn lang terms [] events
+        (S.left input.old) (K.written out.old) (S.left input.new) (K.written out.new)) }
     ensures takes { TakesSome (S.left input.old) (S.left input.new) }
-    ensures read { HasCalled (S.faults input.old) (S.faults input.new) (S.late input.old) (S.late input.new) (result ≡ Ok Ending.ReadFault) }
+    ensures read { HasCalled (S.faults input.old) (S.faults input.new) (S.late input.old)
+        (S.late input.new) (result ≡ Ok Ending.ReadFault) }
     ensures no_fault { IfOk result (λ ending. ending ≢ Ending.WriteFault) }
     ensures no_disk { IfOk result (λ ending. ending ≢ Ending.DiskFault) }
     ensures failed { result ≡ Err Put.Failed → Rose (K.faults out.old) (K.faults out.new) }
@@ -187,8 +202,10 @@ fn try_language<R: Threads + Sync, S: Source, K: Sink, G: Gate>(
 
 /// Refuses the vocabulary.
 fn refuse<K: Sink>(alloc: Global, fault: VocFault, out: &mut K) -> Result<Ending, Put>
-    ensures ok { IfOk result (λ ending. (ending ≡ Ending.VocRefused fault) × Adds (K.written out.old) (K.written out.new) (refusal_text fault)) }
-    ensures part { OnErr result (AddsFront (K.written out.old) (K.written out.new) (refusal_text fault)) }
+    ensures ok { IfOk result (λ ending. (ending ≡ Ending.VocRefused fault)
+        × Adds (K.written out.old) (K.written out.new) (refusal_text fault)) }
+    ensures part { OnErr result
+        (AddsFront (K.written out.old) (K.written out.new) (refusal_text fault)) }
     ensures failed { result ≡ Err Put.Failed → Rose (K.faults out.old) (K.faults out.new) }
 {
     put(or_silent(refused_voc(alloc, fault)), out)
@@ -204,10 +221,13 @@ fn try_input<R: Threads + Sync, S: Source, K: Sink, G: Gate>(
     gate: &G,
 ) -> Result<Ending, Put>
     requires { IsBudget terms.budget }
-    ensures acquires { IfOk result (Acquires terms (S.left input.old) (K.written out.old) (S.left input.new) (K.written out.new)) }
-    ensures part { OnErr result (HasBrokenOff terms (S.left input.old) (K.written out.old) (S.left input.new) (K.written out.new)) }
+    ensures acquires { IfOk result (Acquires terms (S.left input.old) (K.written out.old)
+        (S.left input.new) (K.written out.new)) }
+    ensures part { OnErr result (HasBrokenOff terms (S.left input.old) (K.written out.old)
+        (S.left input.new) (K.written out.new)) }
     ensures takes { TakesSome (S.left input.old) (S.left input.new) }
-    ensures read { HasCalled (S.faults input.old) (S.faults input.new) (S.late input.old) (S.late input.new) (result ≡ Ok Ending.ReadFault) }
+    ensures read { HasCalled (S.faults input.old) (S.faults input.new) (S.late input.old)
+        (S.late input.new) (result ≡ Ok Ending.ReadFault) }
     ensures no_fault { IfOk result (λ ending. ending ≢ Ending.WriteFault) }
     ensures failed { result ≡ Err Put.Failed → Rose (K.faults out.old) (K.faults out.new) }
 {
@@ -226,7 +246,8 @@ fn try_input<R: Threads + Sync, S: Source, K: Sink, G: Gate>(
 
 /// Says how the program is used, where the words are refused.
 fn refuse_words<K: Sink>(alloc: Global, fault: UsageFault, out: &mut K) -> Result<Ending, Put>
-    ensures tells { HasWritten (Ok (saying usage_text (Ending.Usage fault))) (K.written out.old) (K.written out.new) result }
+    ensures tells { HasWritten (Ok (saying usage_text (Ending.Usage fault))) (K.written out.old)
+        (K.written out.new) result }
     ensures failed { result ≡ Err Put.Failed → Rose (K.faults out.old) (K.faults out.new) }
 {
     let usage = "usage: acquire JOURNAL COMMAND [--plan P] [--budget N] [--number N]\n";
@@ -244,8 +265,8 @@ fn command_asked(alloc: Global, words: &[String]) -> Result<Command, WordsFault>
     }
 }
 
-/// What the program does, and how it ends where the output takes all: a command over the journal on the disk, or one that
-/// touches no disk.
+/// What the program does, and how it ends where the output takes all: a command over the journal on
+/// the disk, or one that touches no disk.
 #[tactic(auto, using(acq_loop::proofs::Taking::takes_same, crate::proofs::Causes::told_causes, crate::proofs::Causes::called_idle))]
 fn perform<R: Threads + Sync, S: Source, K: Sink, D: Disk, G: Gate>(
     rt: &R,
@@ -256,9 +277,13 @@ fn perform<R: Threads + Sync, S: Source, K: Sink, D: Disk, G: Gate>(
     disk: &mut D,
     gate: &G,
 ) -> Result<Ending, Put>
-    ensures does { Does D.Disk (command_asked (map string_bytes words.now)) (S.left input.old) (K.written out.old) (S.left input.new) (K.written out.new) disk.old disk.new result }
-    ensures spares { Spares (command_asked (map string_bytes words.now)) S.left input.old input.new disk.old disk.new }
-    ensures causes { TellsCauses (S.faults input.old) (S.faults input.new) (S.late input.old) (S.late input.new) (K.faults out.old) (K.faults out.new) (D.faults disk.old) (D.faults disk.new) (ended_as result) }
+    ensures does { Does D.Disk (command_asked (map string_bytes words.now)) (S.left input.old)
+        (K.written out.old) (S.left input.new) (K.written out.new) disk.old disk.new result }
+    ensures spares { Spares
+        (command_asked (map string_bytes words.now)) S.left input.old input.new disk.old disk.new }
+    ensures causes { TellsCauses (S.faults input.old) (S.faults input.new) (S.late input.old)
+        (S.late input.new) (K.faults out.old) (K.faults out.new) (D.faults disk.old)
+        (D.faults disk.new) (ended_as result) }
 {
     let command = match command_asked(alloc, words) {
         Ok(command) => command,
@@ -299,8 +324,8 @@ fn ended(got: Result<Ending, Put>) -> Ending
     }
 }
 
-/// The program: reads the words, and does what they ask for with the input, the output and the disk. The gate does the searches
-/// for questions.
+/// The program: reads the words, and does what they ask for with the input, the output and the
+/// disk. The gate does the searches for questions.
 pub fn acquire<R: Threads + Sync, S: Source, K: Sink, D: Disk, G: Gate>(
     rt: &R,
     alloc: Global,
@@ -310,25 +335,43 @@ pub fn acquire<R: Threads + Sync, S: Source, K: Sink, D: Disk, G: Gate>(
     disk: &mut D,
     gate: &G,
 ) -> Ending
-    // where it converges, the learned network agrees with each answer and has the solutions of every network that does; where it
-    // collapses, none agrees; where it is undecided, no search under the budget finds a question, and some are larger than it
-    ensures converged { (m : ℕ) → result ≡ Ending.Converged m → FindsNetwork (command_asked (map string_bytes words.now)) (S.left input.old) (D.content disk.old) (K.written out.new) m }
-    ensures collapsed { (m : ℕ) → result ≡ Ending.Collapsed m → FindsNone (command_asked (map string_bytes words.now)) (S.left input.old) (D.content disk.old) m }
-    ensures undecided { (m : ℕ) → result ≡ Ending.Undecided m → LeavesOpen (command_asked (map string_bytes words.now)) (S.left input.old) (D.content disk.old) (K.written out.new) m }
+    // where it converges, the learned network agrees with each answer and has the solutions of
+    // every network that does; where it collapses, none agrees; where it is undecided, no search
+    // under the budget finds a question, and some are larger than it
+    ensures converged { (m : ℕ) → result ≡ Ending.Converged m →
+        FindsNetwork (command_asked (map string_bytes words.now)) (S.left input.old)
+        (D.content disk.old) (K.written out.new) m }
+    ensures collapsed { (m : ℕ) → result ≡ Ending.Collapsed m → FindsNone
+        (command_asked (map string_bytes words.now)) (S.left input.old) (D.content disk.old) m }
+    ensures undecided { (m : ℕ) → result ≡ Ending.Undecided m →
+        LeavesOpen (command_asked (map string_bytes words.now)) (S.left input.old)
+        (D.content disk.old) (K.written out.new) m }
     ensures does { (got : _) × (result ≡ ended_as got)
-        × Does D.Disk (command_asked (map string_bytes words.now)) (S.left input.old) (K.written out.old) (S.left input.new) (K.written out.new) disk.old disk.new got }
-    // An answer behind whose lines something was written is in each content that a crash may leave at the call's end, and those from
-    // before the call are there at any moment of it. Of a disk that stops at a call, this is said of what was written up to then.
-    ensures acknowledged { Acknowledges D.Disk (command_asked (map string_bytes words.now)) (S.left input.old) (K.written out.old) (S.left input.new) (K.written out.new) disk.old disk.new }
-    ensures spares { Spares (command_asked (map string_bytes words.now)) S.left input.old input.new disk.old disk.new }
+        × Does D.Disk (command_asked (map string_bytes words.now)) (S.left input.old)
+        (K.written out.old) (S.left input.new) (K.written out.new) disk.old disk.new got }
+    // An answer behind whose lines something was written is in each content that a crash may leave
+    // at the call's end, and those from before the call are there at any moment of it. Of a disk
+    // that stops at a call, this is said of what was written up to then.
+    ensures acknowledged { Acknowledges D.Disk (command_asked (map string_bytes words.now)) (S.left
+        input.old) (K.written out.old) (S.left input.new) (K.written out.new) disk.old disk.new }
+    ensures spares { Spares
+        (command_asked (map string_bytes words.now)) S.left input.old input.new disk.old disk.new }
     ensures refuses { (fault : UsageFault)
-        → (command_asked (map string_bytes words.now) ≡ Err fault → (got : _) × (result ≡ ended_as got) × HasWritten (Ok (saying usage_text (Ending.Usage fault))) (K.written out.old) (K.written out.new) got)
+        → (command_asked (map string_bytes words.now) ≡ Err fault → (got : _)
+        × (result ≡ ended_as got) × HasWritten (Ok (saying usage_text (Ending.Usage fault)))
+        (K.written out.old) (K.written out.new) got)
         × (result ≡ Ending.Usage fault → command_asked (map string_bytes words.now) ≡ Err fault) }
-    ensures causes { TellsCauses (S.faults input.old) (S.faults input.new) (S.late input.old) (S.late input.new) (K.faults out.old) (K.faults out.new) (D.faults disk.old) (D.faults disk.new) result }
-    ensures exactly { IsBrokenOff result ⊎ IfOk (command_asked (map string_bytes words.now)) (λ command. EndsExactly command (S.left input.old) (D.content disk.old) result) }
+    ensures causes { TellsCauses (S.faults input.old) (S.faults input.new) (S.late input.old)
+        (S.late input.new) (K.faults out.old) (K.faults out.new) (D.faults disk.old)
+        (D.faults disk.new) result }
+    ensures exactly { IsBrokenOff result ⊎ IfOk (command_asked (map string_bytes words.now))
+        (λ command. EndsExactly command (S.left input.old) (D.content disk.old) result) }
     // where nothing fails, what is given enough comes to its own end
-    ensures completes { (Rose (S.faults input.old) (S.faults input.new) → ⊥) → (Rose (K.faults out.old) (K.faults out.new) → ⊥) → (DiskRose (D.faults disk.old) (D.faults disk.new) → ⊥)
-        → result ≢ Ending.Memory → IfOk (command_asked (map string_bytes words.now)) (λ command. Completes command (S.left input.old) (D.content disk.old) result) }
+    ensures completes { (Rose (S.faults input.old) (S.faults input.new) → ⊥) →
+        (Rose (K.faults out.old) (K.faults out.new) → ⊥) →
+        (DiskRose (D.faults disk.old) (D.faults disk.new) → ⊥)
+        → result ≢ Ending.Memory → IfOk (command_asked (map string_bytes words.now))
+        (λ command. Completes command (S.left input.old) (D.content disk.old) result) }
 {
     // a law: what refuses a file is the only reason
     no_two_readings();

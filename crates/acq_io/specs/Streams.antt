@@ -24,7 +24,8 @@ Adds before now piece = now ≡ option_map (λ written. written ++ piece) before
 
 -- where the bytes are told, a front of this piece was added at their end
 abbrev pub AddsFront : Option (List ℕ) → Option (List ℕ) → List ℕ → Type 0
-AddsFront before now piece = (front : List ℕ) × (back : List ℕ) × (piece ≡ front ++ back) × Adds before now front
+AddsFront before now piece = (front : List ℕ) × (back : List ℕ) × (piece ≡ front ++ back)
+    × Adds before now front
 
 -- where the bytes are told, some were taken from their front, or none
 abbrev pub TakesSome : Option (List ℕ) → Option (List ℕ) → Type 0
@@ -34,8 +35,9 @@ TakesSome before now = (piece : List ℕ) × Takes before now piece
 abbrev pub AddsOn : Option (List ℕ) → Option (List ℕ) → List ℕ → Type 0
 AddsOn before now piece = (more : List ℕ) × Adds before now (piece ++ more)
 
--- How an input stands after calls on it: its faults never fall, and rise where one is told. Where it hadn't failed before, it has
--- failed only where a fault is told, and it wasn't called again after that.
+-- How an input stands after calls on it: its faults never fall, and rise where one is told. Where
+-- it hadn't failed before, it has failed only where a fault is told, and it wasn't called again
+-- after that.
 pub record HasCalled (faults faults' late late' : ℕ) (told : Type 0) : Type 0 where
   pub later : faults ≤ faults'
   pub rose : told → Rose faults faults'

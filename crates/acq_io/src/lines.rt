@@ -86,7 +86,8 @@ pub fn read_line<S: Source>(source: &mut S, line: &mut Line) -> LineGot
     ensures short { length line.new ≤ 256 }
     // whatever it answers, what is left is an end of what was left
     ensures takes { TakesSome (S.left source.old) (S.left source.new) }
-    ensures called { HasCalled (S.faults source.old) (S.faults source.new) (S.late source.old) (S.late source.new) (result ≡ LineGot.Fault) }
+    ensures called { HasCalled (S.faults source.old) (S.faults source.new) (S.late source.old)
+        (S.late source.new) (result ≡ LineGot.Fault) }
 {
     line.clear();
     loop {

@@ -1,4 +1,6 @@
-ghost use Rattle.std.specs.Prelude.{◌≡◌, ◌≢◌, ℕ, ◌<◌, ◌≤◌, ◌↔◌, List, [], ◌++◌, length, take, min, Contains, IsErr, IsTrue, IfOk, OnOk, OnErr, MatchResult, MatchBool, Some};
+ghost use Rattle.std.specs.Prelude.{◌≡◌, ◌≢◌, ℕ, ◌<◌, ◌≤◌, ◌↔◌, List, [], ◌++◌, length, take, min};
+ghost use Rattle.std.specs.Prelude.{Contains, IsErr, IsTrue, IfOk, OnOk, OnErr, MatchResult};
+ghost use Rattle.std.specs.Prelude.{MatchBool, Some};
 ghost use Rattle.acq_io.specs.Streams.{raised, IsLate};
 ghost use Rattle.acq_io.specs.Memory.{Scripted, scripted};
 
@@ -34,7 +36,8 @@ impl Script {
         ensures chosen { IsTrue result ↔ Contains self.old.fails.items self.old.calls }
         ensures calls { self.new.calls ≡ raised self.old.calls }
         ensures fails { self.new.fails.items ≡ self.old.fails.items }
-        ensures faults { MatchBool result (self.new.faults ≡ raised self.old.faults) (self.new.faults ≡ self.old.faults) }
+        ensures faults { MatchBool result (self.new.faults ≡ raised self.old.faults)
+            (self.new.faults ≡ self.old.faults) }
         ensures later { self.old.faults ≤ self.new.faults }
         ensures late { IsLate self.old.faults self.old.late self.new.late }
     {
@@ -58,7 +61,8 @@ fn is_among(numbers: &[u32], call: u64) -> bool
     numbers.iter().any(|&number| number as u64 == call)
 }
 
-/// Bytes in memory that are given in order. It fails at exactly the calls whose numbers stand in a list.
+/// Bytes in memory that are given in order. It fails at exactly the calls whose numbers stand in a
+/// list.
 #[derive(Drop)]
 pub struct MemSource {
     plain: PlainSource,
@@ -70,7 +74,13 @@ impl Model for MemSource {
 
     ghost Value = { Scripted };
 
-    ghost view = { λ s. record { bytes = s.plain; calls = s.script.calls; fails = s.script.fails.items; faults = s.script.faults; late = s.script.late } };
+    ghost view = { λ s. record {
+      bytes = s.plain;
+      calls = s.script.calls;
+      fails = s.script.fails.items;
+      faults = s.script.faults;
+      late = s.script.late;
+    } };
 }
 
 impl MemSource {
@@ -101,17 +111,20 @@ impl Source for MemSource {
 
     ghost late = { λ s. s.late };
 
-    /// Gives as many bytes as there are and fit, unless the call's number is one of those that fail.
+    /// Gives as many bytes as there are and fit, unless the call's number is one of those that
+    /// fail.
     fn read(&mut self, buf: &mut [u8]) -> Result<usize, Failed>
         requires { 0 < length buf.old }
         ensures chosen { IsErr result ↔ Contains self.old.fails self.old.calls }
-        ensures all_that_fits { IfOk result (λ n. n ≡ min (length buf.old) (length self.old.bytes)) }
+        ensures all_that_fits { IfOk result
+            (λ n. n ≡ min (length buf.old) (length self.old.bytes)) }
         ensures count { IfOk result (λ n. n ≤ length buf.new) }
         ensures bytes { IfOk result (λ n. self.old.bytes ≡ take n buf.new ++ self.new.bytes) }
         ensures err { OnErr result (self.new.bytes ≡ self.old.bytes) }
         ensures unread { OnErr result (buf.new ≡ buf.old) }
 
-        ensures script { (self.new.calls ≡ raised self.old.calls) × (self.new.fails ≡ self.old.fails) }
+        ensures script { (self.new.calls ≡ raised self.old.calls)
+            × (self.new.fails ≡ self.old.fails) }
         ensures raised { OnErr result (self.new.faults ≡ raised self.old.faults) }
         ensures kept { OnOk result (self.new.faults ≡ self.old.faults) }
         ensures later { self.old.faults ≤ self.new.faults }
@@ -125,8 +138,8 @@ impl Source for MemSource {
     }
 }
 
-/// Bytes that are kept in memory. It fails at exactly the calls whose numbers stand in a list, and adds nothing then. It
-/// may lack memory.
+/// Bytes that are kept in memory. It fails at exactly the calls whose numbers stand in a list, and
+/// adds nothing then. It may lack memory.
 #[derive(Drop)]
 pub struct MemSink {
     plain: PlainSink,
@@ -138,7 +151,13 @@ impl Model for MemSink {
 
     ghost Value = { Scripted };
 
-    ghost view = { λ s. record { bytes = s.plain; calls = s.script.calls; fails = s.script.fails.items; faults = s.script.faults; late = s.script.late } };
+    ghost view = { λ s. record {
+      bytes = s.plain;
+      calls = s.script.calls;
+      fails = s.script.fails.items;
+      faults = s.script.faults;
+      late = s.script.late;
+    } };
 }
 
 impl MemSink {

@@ -1,4 +1,5 @@
-ghost use Rattle.std.specs.Prelude.{◌≡◌, ◌≢◌, ℕ, ◌<◌, ◌≤◌, List, [], ◌++◌, length, take, min, IfOk, OnOk, Some};
+ghost use Rattle.std.specs.Prelude.{◌≡◌, ◌≢◌, ℕ, ◌<◌, ◌≤◌, List, [], ◌++◌, length, take, min, IfOk};
+ghost use Rattle.std.specs.Prelude.{OnOk, Some};
 
 use crate::streams::{Failed, Put, Sink, Source};
 use std::alloc::Global;

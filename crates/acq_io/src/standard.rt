@@ -6,8 +6,9 @@ use crate::streams::{Failed, Put, Sink, Source};
 use std::io::{ErrorKind, Read, Write};
 use std::marker::Model;
 
-/// A reader of std with a count of its faults. As a source it tells nothing of the bytes; what the reader tells of them, it passes
-/// on. Each call is one read of the reader, so one that is asked byte by byte is best buffered.
+/// A reader of std with a count of its faults. As a source it tells nothing of the bytes; what the
+/// reader tells of them, it passes on. Each call is one read of the reader, so one that is asked
+/// byte by byte is best buffered.
 #[derive(Drop)]
 pub struct StdSource<R> {
     inner: R,
@@ -56,8 +57,10 @@ impl<R: Read> Source for StdSource<R> {
         ensures kept { OnOk result (self.new.faults ≡ self.old.faults) }
         ensures later { self.old.faults ≤ self.new.faults }
         ensures late { IsLate self.old.faults self.old.late self.new.late }
-        // where the reader tells what it will give, these bytes were taken from it, and nothing by a read that failed
-        ensures passes { ReadConsumes (R.remaining self.old.inner) (R.remaining self.new.inner) result buf.new }
+        // where the reader tells what it will give, these bytes were taken from it, and nothing by
+        // a read that failed
+        ensures passes { ReadConsumes (R.remaining self.old.inner)
+            (R.remaining self.new.inner) result buf.new }
     {
         if self.faults > 0 {
             self.late = self.late.saturating_add(1);
@@ -84,7 +87,8 @@ fn read_uninterrupted<R: Read>(reader: &mut R, buf: &mut [u8]) -> Result<usize, 
     }
 }
 
-/// What comes of a read after an error of this kind. That is rare, and kept apart from what is done at each byte.
+/// What comes of a read after an error of this kind. That is rare, and kept apart from what is done
+/// at each byte.
 #[inline(never)]
 fn read_again<R: Read>(first: ErrorKind, reader: &mut R, buf: &mut [u8]) -> Result<usize, Failed>
     ensures fits { IfOk result (λ n. n ≤ length buf.new) }
@@ -103,7 +107,8 @@ fn read_again<R: Read>(first: ErrorKind, reader: &mut R, buf: &mut [u8]) -> Resu
     Err(Failed)
 }
 
-/// A writer of std with a count of its faults. As a sink it tells nothing of the bytes; each piece is passed on whole, and flushed.
+/// A writer of std with a count of its faults. As a sink it tells nothing of the bytes; each piece
+/// is passed on whole, and flushed.
 #[derive(Drop)]
 pub struct StdSink<W> {
     inner: W,
@@ -142,7 +147,8 @@ impl<W: Write> Sink for StdSink<W> {
         ensures kept { OnOk result (self.new.faults ≡ self.old.faults) }
         ensures later { self.old.faults ≤ self.new.faults }
         // where the writer tells what it holds, the piece was added to that
-        ensures passes { OnOk result (Appends (W.contents self.old.inner) (W.contents self.new.inner) piece.now) }
+        ensures passes { OnOk result
+            (Appends (W.contents self.old.inner) (W.contents self.new.inner) piece.now) }
     {
         if self.inner.write_all(piece).is_err() {
             self.faults = self.faults.saturating_add(1);

@@ -1,6 +1,8 @@
-ghost use Rattle.std.specs.Prelude.{◌≡◌, ℕ, ◌<◌, ◌≤◌, List, length, take, IfOk, IsErr, OnOk, OnErr, Option};
+ghost use Rattle.std.specs.Prelude.{◌≡◌, ℕ, ◌<◌, ◌≤◌, List, length, take, IfOk, IsErr, OnOk, OnErr};
+ghost use Rattle.std.specs.Prelude.{Option};
 ghost use Rattle.std.specs.Option.{option_to_list};
-ghost use Rattle.acq_io.specs.Streams.{raised, Rose, Takes, HasCalled, IsLate, WasEmpty, Adds, AddsFront};
+ghost use Rattle.acq_io.specs.Streams.{raised, Rose, Takes, HasCalled, IsLate, WasEmpty, Adds};
+ghost use Rattle.acq_io.specs.Streams.{AddsFront};
 
 use std::alloc::AllocError;
 use thiserror::Error;
@@ -43,7 +45,8 @@ pub trait Source {
     /// How often it was called after it had failed.
     ghost late: { Self → ℕ };
 
-    /// Puts bytes at the front of the buffer, and answers how many; 0 means the end. A call that fails takes nothing.
+    /// Puts bytes at the front of the buffer, and answers how many; 0 means the end. A call that
+    /// fails takes nothing.
     fn read(&mut self, buf: &mut [u8]) -> Result<usize, Failed>
         requires { 0 < length buf.old }
         ensures count { IfOk result (λ n. n ≤ length buf.new) }
@@ -67,7 +70,8 @@ pub trait Sink {
     /// Adds the piece at the end. A call that fails may have added a front of it.
     fn write(&mut self, piece: &[u8]) -> Result<(), Put>
         ensures ok { OnOk result (Adds (written self.old) (written self.new) piece.now) }
-        ensures failed { result ≡ Err Put.Failed → AddsFront (written self.old) (written self.new) piece.now }
+        ensures failed { result ≡ Err Put.Failed →
+            AddsFront (written self.old) (written self.new) piece.now }
         ensures memory { result ≡ Err Put.Memory → written self.new ≡ written self.old }
         ensures later { faults self.old ≤ faults self.new }
         ensures cause { result ≡ Err Put.Failed → Rose (faults self.old) (faults self.new) };
@@ -76,10 +80,12 @@ pub trait Sink {
 /// The next byte, or `None` at the end.
 #[inline(always)]
 pub fn read_byte<S: Source>(source: &mut S) -> Result<Option<u8>, Failed>
-    ensures bytes { IfOk result (λ byte. Takes (S.left source.old) (S.left source.new) (option_to_list byte)) }
+    ensures bytes { IfOk result
+        (λ byte. Takes (S.left source.old) (S.left source.new) (option_to_list byte)) }
     ensures end { result ≡ Ok None → WasEmpty (S.left source.old) }
     ensures err { OnErr result (S.left source.new ≡ S.left source.old) }
-    ensures called { HasCalled (S.faults source.old) (S.faults source.new) (S.late source.old) (S.late source.new) (IsErr result) }
+    ensures called { HasCalled (S.faults source.old) (S.faults source.new) (S.late source.old)
+        (S.late source.new) (IsErr result) }
 {
     let mut place = [0u8; 1];
     let count = source.read(&mut place)?;

@@ -25,13 +25,16 @@ const PIECE: usize = 4096;
 
 /// Reads to the end.
 pub fn read_all<S: Source>(alloc: Global, source: &mut S, most: u32) -> Result<Vec<u8>, AllFault>
-    ensures all { IfOk result (λ all. Gives (all_of most) (S.left source.old) (S.left source.new) (Ok all.items)) }
+    ensures all { IfOk result
+        (λ all. Gives (all_of most) (S.left source.old) (S.left source.new) (Ok all.items)) }
     ensures few { IfOk result (λ all. length all.items ≤ most) }
     ensures too_long { result ≡ Err AllFault.TooLong
         → Gives (all_of most) (S.left source.old) (S.left source.new) (Err AllFault.TooLong) }
-    ensures stopped { IfErr result (λ e. e ≢ AllFault.TooLong → TakesAtMost most (S.left source.old) (S.left source.new)) }
+    ensures stopped { IfErr result (λ e. e ≢ AllFault.TooLong →
+        TakesAtMost most (S.left source.old) (S.left source.new)) }
     ensures takes { TakesSome (S.left source.old) (S.left source.new) }
-    ensures called { HasCalled (S.faults source.old) (S.faults source.new) (S.late source.old) (S.late source.new) (result ≡ Err AllFault.Fault) }
+    ensures called { HasCalled (S.faults source.old) (S.faults source.new) (S.late source.old)
+        (S.late source.new) (result ≡ Err AllFault.Fault) }
 {
     let most = most as usize;
     let mut all = Vec::new(alloc);
@@ -55,21 +58,25 @@ pub fn read_all<S: Source>(alloc: Global, source: &mut S, most: u32) -> Result<V
     }
 }
 
-/// Reads to the first newline or to the end, byte by byte, and gives the bytes before it. The newline is taken, and no
-/// byte past it.
+/// Reads to the first newline or to the end, byte by byte, and gives the bytes before it. The
+/// newline is taken, and no byte past it.
 pub fn read_first_line<S: Source>(
     alloc: Global,
     source: &mut S,
     most: u32,
 ) -> Result<Vec<u8>, AllFault>
-    ensures line { IfOk result (λ line. Gives (first_line_of most) (S.left source.old) (S.left source.new) (Ok line.items)) }
+    ensures line { IfOk result (λ line.
+        Gives (first_line_of most) (S.left source.old) (S.left source.new) (Ok line.items)) }
     ensures few { IfOk result (λ line. length line.items ≤ most) }
     ensures one_line { IfOk result (λ line. LacksNewline line.items) }
     ensures too_long { result ≡ Err AllFault.TooLong
-        → Gives (first_line_of most) (S.left source.old) (S.left source.new) (Err AllFault.TooLong) }
-    ensures stopped { IfErr result (λ e. e ≢ AllFault.TooLong → TakesOfLine most (S.left source.old) (S.left source.new)) }
+        →
+        Gives (first_line_of most) (S.left source.old) (S.left source.new) (Err AllFault.TooLong) }
+    ensures stopped { IfErr result (λ e. e ≢ AllFault.TooLong →
+        TakesOfLine most (S.left source.old) (S.left source.new)) }
     ensures takes { TakesSome (S.left source.old) (S.left source.new) }
-    ensures called { HasCalled (S.faults source.old) (S.faults source.new) (S.late source.old) (S.late source.new) (result ≡ Err AllFault.Fault) }
+    ensures called { HasCalled (S.faults source.old) (S.faults source.new) (S.late source.old)
+        (S.late source.new) (result ≡ Err AllFault.Fault) }
 {
     let mut line = Vec::new(alloc);
     loop {

@@ -1,7 +1,8 @@
 -- How the endings of the loop and of the program are tied to how a run closes.
 use Rattle.acq_loop.specs.Prelude.{ℕ, Option, Some, None, Result, Ok, Err, Put}
 use Rattle.acq_io.specs.declared.streams.Put.TheVariants as put
-use Rattle.acq_loop.specs.Run.{Closing, Converged, Collapsed, Undecided, Suspended, LineTooLong, Unreadable, JournalFull}
+use Rattle.acq_loop.specs.Run.{Closing, Converged, Collapsed, Undecided, Suspended, LineTooLong}
+use Rattle.acq_loop.specs.Run.{Unreadable, JournalFull}
 use Rattle.acq_loop.specs.declared.driving.Drove.{Drove}
 use Rattle.acq_loop.specs.declared.driving.Drove.TheVariants as drove
 use Rattle.acq_loop.specs.declared.ending.Ending.{Ending}

@@ -1,6 +1,7 @@
 -- What comes next in a session, and what the loop does with it.
 use Rattle.std.specs.Prelude.{◌≡◌, ◌⊎◌, ◌∷◌, ◌++◌}
-use Rattle.acq_loop.specs.Prelude.{List, [], Option, Some, None, Assignment, Answer, Event, Language, IsLawfulAfter, SFault}
+use Rattle.acq_loop.specs.Prelude.{List, [], Option, Some, None, Assignment, Answer, Event}
+use Rattle.acq_loop.specs.Prelude.{Language, IsLawfulAfter, SFault}
 use Rattle.session_store.specs.declared.fault.SFault.TheVariants as store
 use Rattle.acq_loop.specs.Run.{Puts, next_after}
 use Rattle.acq_loop.specs.Driven.{IsDone, IsCollapsed, IsLeftOpen}
@@ -11,7 +12,8 @@ use Rattle.acq_loop.specs.declared.next.Upcoming.{Upcoming}
 use Rattle.acq_loop.specs.declared.next.Upcoming.TheVariants as next
 
 -- the question that is put is the one that comes next
-pub record IsDue (l : Language) (terms : Terms) (t : List Answer) (put : Option Assignment) : Type 0 where
+pub record IsDue (l : Language) (terms : Terms) (t : List Answer) (put : Option Assignment) :
+    Type 0 where
   pub question : Assignment
   pub is : put ≡ Some question
   pub puts : next_after l terms t ≡ Some (Puts question)
@@ -19,7 +21,8 @@ pub record IsDue (l : Language) (terms : Terms) (t : List Answer) (put : Option 
 -- what comes next after these answers, where this question is put or none is
 abbrev pub NextIs : Language → Terms → List Answer → Option Assignment → Upcoming → Type 0
 NextIs l terms t put next.Open = IsDue l terms t put
-NextIs l terms t put (next.New q) = (next_after l terms t ≡ Some (Puts q)) × (put ≡ None) × IsLawfulAfter l terms.plan t q
+NextIs l terms t put (next.New q) = (next_after l terms t ≡ Some (Puts q)) × (put ≡ None)
+    × IsLawfulAfter l terms.plan t q
 NextIs l terms t put next.Converged = IsDone l terms t
 NextIs l terms t put next.Collapsed = IsCollapsed l terms t
 NextIs l terms t put next.Undecided = IsLeftOpen l terms t

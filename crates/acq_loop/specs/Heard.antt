@@ -1,6 +1,8 @@
 -- What is heard of a teacher's word to a question: what is to be kept of it, or how the loop ends.
 use Rattle.std.specs.Prelude.{◌≡◌, ◌≢◌, ◌<◌, ◌+◌}
-use Rattle.acq_loop.specs.Prelude.{ℕ, List, [], true, false, Option, Some, None, IsSome, Result, Ok, Err, ForSome, Assignment, standing, Event, Language, Remembered, HasNoMarks, answer_event, SFault, AsksFirst, Tells, Turns, Told}
+use Rattle.acq_loop.specs.Prelude.{ℕ, List, [], true, false, Option, Some, None, IsSome, Result, Ok}
+use Rattle.acq_loop.specs.Prelude.{Err, ForSome, Assignment, standing, Event, Language, Remembered}
+use Rattle.acq_loop.specs.Prelude.{HasNoMarks, answer_event, SFault, AsksFirst, Tells, Turns, Told}
 use Rattle.assign.specs.declared.events.Event.TheVariants as event
 use Rattle.target_oracle.specs.declared.teacher.Told.TheVariants as told
 use Rattle.acq_loop.specs.Due.{ended_by}
@@ -25,16 +27,20 @@ heard_of told.WriteFault count = heard.End drove.WriteFault
 heard_of told.Memory count = heard.End drove.Memory
 
 -- This is heard of the teacher's word to this question, after so many answers.
-pub record HearsReply (turns : Turns) (may : Language → Assignment → Told → Type 0) (l : Language) (q : Assignment) (count : ℕ) (left written left' written' : Option (List ℕ)) (heard : Heard) : Type 0 where
+pub record HearsReply (turns : Turns) (may : Language → Assignment → Told → Type 0) (l : Language)
+    (q : Assignment) (count : ℕ) (left written left' written' : Option (List ℕ)) (heard : Heard) :
+    Type 0 where
   pub word : Told
   pub is : heard ≡ heard_of word count
   -- where the source tells
-  pub tells : ForSome left (λ bytes. Tells (turns l (count + 1) q bytes) written left' written' word)
+  pub tells :
+      ForSome left (λ bytes. Tells (turns l (count + 1) q bytes) written left' written' word)
   pub asks : AsksFirst left written left' written' (turns l (count + 1) q []).text
   pub says : may l q word
   pub back : word ≡ told.Back → 1 < count + 1
 
--- the event of an entry, where this question is put; an answer is said to a question, so there is one
+-- the event of an entry, where this question is put; an answer is said to a question, so there is
+-- one
 abbrev pub event_on : Entry → Option Assignment → Event
 event_on (entry.Answer reply) (Some q) = answer_event q reply
 event_on (entry.Answer reply) None = event.Back

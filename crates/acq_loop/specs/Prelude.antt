@@ -2,7 +2,9 @@
 pub use Rattle.std.specs.Fmt.{decimal}
 pub use Rattle.std.specs.List.{flat_map}
 pub use Rattle.std.specs.Option.{ForSome, option_map, option_map_or}
-pub use Rattle.std.specs.Prelude.{All, Bool, Err, IfSome, IsFalse, IsSome, IsTrue, List, None, Ok, Option, Result, Some, [], codes, false, filter, length, suc, true, zero, ℕ}
+pub use Rattle.std.specs.Prelude.{All, Bool, Err, IfSome, IsFalse, IsSome, IsTrue, List, None, Ok}
+pub use Rattle.std.specs.Prelude.{Option, Result, Some, [], codes, false, filter, length, suc, true}
+pub use Rattle.std.specs.Prelude.{zero, ℕ}
 pub use Rattle.acq_io.specs.Streams.{Adds, AddsFront, HasCalled, Rose, TakesSome}
 pub use Rattle.acq_io.specs.declared.streams.Put.{Put}
 pub use Rattle.acq_words.specs.Request.{IsBudget}
@@ -17,8 +19,10 @@ pub use Rattle.disk_model.specs.declared.disk.Disk.{Ghosts as DiskOf}
 pub use Rattle.fd_solver.specs.Outcomes.{outcome_of_candidate}
 pub use Rattle.fd_solver.specs.declared.outcome.Outcome.TheVariants.{Spent}
 pub use Rattle.find_scope.specs.Bound.{log_up}
-pub use Rattle.language.specs.Answers.{IsConverged, IsCovered, IsNetwork, NoneAgrees, agrees, has_scope, kept, standing_on}
-pub use Rattle.language.specs.Language.{HasSameSolutions, IsCandidate, IsImplied, IsQuestion, Language, candidates, variable_count}
+pub use Rattle.language.specs.Answers.{IsConverged, IsCovered, IsNetwork, NoneAgrees, agrees}
+pub use Rattle.language.specs.Answers.{has_scope, kept, standing_on}
+pub use Rattle.language.specs.Language.{HasSameSolutions, IsCandidate, IsImplied, IsQuestion}
+pub use Rattle.language.specs.Language.{Language, candidates, variable_count}
 pub use Rattle.language.specs.Search.{plain_size}
 pub use Rattle.language.specs.Texts.{candidate_text}
 pub use Rattle.language.specs.declared.candidates.Candidate.{Candidate}
@@ -32,7 +36,9 @@ pub use Rattle.query_gen.specs.declared.query.Query.{Query}
 pub use Rattle.session_core.specs.Settled.{IsSettled}
 pub use Rattle.session_laws.specs.Bound.{bound, greatest_arity}
 pub use Rattle.session_laws.specs.Laws.{IsWalked, network_in}
-pub use Rattle.session_laws.specs.Session.{At, Choosing, Halving, Idle, Over, Course, State, Stray, Walking, open_question, scope_question, state_after, walk_end}
+pub use Rattle.session_laws.specs.Session.{At, Choosing, Halving, Idle, Over, Course, State, Stray}
+pub use Rattle.session_laws.specs.Session.{Walking, open_question, scope_question, state_after}
+pub use Rattle.session_laws.specs.Session.{walk_end}
 pub use Rattle.session_laws.specs.Walk.{WalkEnd}
 pub use Rattle.session_store.specs.Keeps.{LosesNone}
 pub use Rattle.session_store.specs.Kept.{IsLawfulAfter, answer_event, event_for}

@@ -11,9 +11,10 @@ ended_as (Ok end) = end
 ended_as (Err put.Failed) = ending.WriteFault
 ended_as (Err put.Memory) = ending.Memory
 
--- A fault of the input, the output or the disk is told only where its count has risen. Of an input that hadn't failed before, one is told
--- wherever it has failed, and it isn't called again.
-pub record TellsCauses (input input' late late' output output' disk disk' : ℕ) (end : Ending) : Type 0 where
+-- A fault of the input, the output or the disk is told only where its count has risen. Of an input
+-- that hadn't failed before, one is told wherever it has failed, and it isn't called again.
+pub record TellsCauses (input input' late late' output output' disk disk' : ℕ) (end : Ending) :
+    Type 0 where
   pub read : end ≡ ending.ReadFault → Rose input input'
   pub well : input ≡ 0 → (end ≡ ending.ReadFault → ⊥) → input' ≡ 0
   pub stopped : input ≡ 0 → late' ≡ late

@@ -1,6 +1,11 @@
 -- What a run writes, how it ends, its events, and what it leaves.
 use Rattle.std.specs.Prelude.{◌≡◌, ◌==◌, ◌+◌, ◌∷◌, ◌++◌}
-use Rattle.acq_loop.specs.Prelude.{ℕ, zero, suc, List, [], length, Bool, true, false, Option, Some, None, option_map, Assignment, Answer, Event, Plan, Scopes, Candidate, Language, kept, standing_on, Query, next_query, State, Idle, Over, Course, At, Stray, open_question, scope_question, state_after, answer_event, Turns, Reply, Said, TakenBack, Stopped, Overlong, Unread, option_map_or}
+use Rattle.acq_loop.specs.Prelude.{ℕ, zero, suc, List, [], length, Bool, true, false, Option, Some}
+use Rattle.acq_loop.specs.Prelude.{None, option_map, Assignment, Answer, Event, Plan, Scopes}
+use Rattle.acq_loop.specs.Prelude.{Candidate, Language, kept, standing_on, Query, next_query, State}
+use Rattle.acq_loop.specs.Prelude.{Idle, Over, Course, At, Stray, open_question, scope_question}
+use Rattle.acq_loop.specs.Prelude.{state_after, answer_event, Turns, Reply, Said, TakenBack}
+use Rattle.acq_loop.specs.Prelude.{Stopped, Overlong, Unread, option_map_or}
 use Rattle.assign.specs.declared.events.Event.TheVariants as event
 use Rattle.query_gen.specs.declared.query.Query.TheVariants as query
 use Rattle.acq_loop.specs.declared.terms.Terms.{Terms}
@@ -28,14 +33,17 @@ searched (query.Ask q) = Puts q
 searched query.AllImplied = Ends Converged
 searched query.Undecided = Ends Undecided
 
--- what comes where nothing is open: in plan Scopes the first question of the next scope, and else what the search says
+-- what comes where nothing is open: in plan Scopes the first question of the next scope, and else
+-- what the search says
 abbrev pub idle_next : Language → Plan → ℕ → (live network : List Candidate) → Next
-idle_next l Scopes budget live network = option_map_or Puts (scope_question l live network) (Ends Converged)
+idle_next l Scopes budget live network =
+    option_map_or Puts (scope_question l live network) (Ends Converged)
 idle_next l plan budget live network = searched (next_query l network live budget)
 
 -- what a state has next: the open question, where there is one
 abbrev pub next_at : Language → Terms → List Answer → State → Next
-next_at l terms t (Idle network end) = idle_next l terms.plan terms.budget (kept l t network) network
+next_at l terms t (Idle network end) =
+    idle_next l terms.plan terms.budget (kept l t network) network
 next_at l terms t (Over network) = Ends Collapsed
 next_at l terms t state = option_map_or Puts (open_question l state) (Ends Collapsed)
 
@@ -47,7 +55,8 @@ next_in l terms t (At state) = Some (next_at l terms t state)
 abbrev pub next_after : Language → Terms → List Answer → Option Next
 next_after l terms t = next_in l terms t (state_after l terms.plan t)
 
--- a journal takes no further event: it has 1,000,000 records, that of the vocabulary and one for each event
+-- a journal takes no further event: it has 1,000,000 records, that of the vocabulary and one for
+-- each event
 abbrev pub is_full : List Event → Bool
 is_full events = (length events + 1) == 1000000
 
@@ -59,7 +68,8 @@ unless_full false (Puts q) = Puts q
 
 -- what comes next after these events, by the answers that stand
 abbrev pub next_on : Language → Terms → List Event → Option Next
-next_on l terms events = option_map (unless_full (is_full events)) (next_after l terms (standing_on l events))
+next_on l terms events =
+    option_map (unless_full (is_full events)) (next_after l terms (standing_on l events))
 
 -- what a run has written, how it ended, its events, and the bytes that it left
 pub record Ran : Type 0 where
@@ -84,7 +94,8 @@ event_heard q TakenBack = Some event.Back
 event_heard q reply = None
 
 -- how it goes on after what was heard
-abbrev pub heard_on : (List Event → List ℕ → Option Ran) → List Event → Assignment → List ℕ → Reply → Option Ran
+abbrev pub heard_on : (List Event → List ℕ → Option Ran) → List Event → Assignment → List ℕ →
+    Reply → Option Ran
 heard_on again events q rest (Said reply) = again (events ++ answer_event q reply ∷ []) rest
 heard_on again events q rest TakenBack = again (events ++ event.Back ∷ []) rest
 heard_on again events q rest Stopped = Some (ended Suspended events rest)
@@ -106,11 +117,13 @@ unfoldable pub ran : Turns → Language → Terms → ℕ → List Event → Lis
 ran turns l terms zero events bytes = None
 ran turns l terms (suc count) events bytes =
     put_on
-    (λ q. let turned = turns l (number_on l events) q bytes in option_map (after_text turned.text) (heard_on (ran turns l terms count) events q turned.heard.rest turned.heard.reply))
+    (λ q. let turned = turns l (number_on l events) q bytes in option_map (after_text turned.text)
+    (heard_on (ran turns l terms count) events q turned.heard.rest turned.heard.reply))
     events bytes (next_on l terms events)
 
 -- the run of some number of turns
-pub record Runs (turns : Turns) (l : Language) (terms : Terms) (events : List Event) (bytes : List ℕ) (run : Ran) : Type 0 where
+pub record Runs (turns : Turns) (l : Language) (terms : Terms) (events : List Event)
+    (bytes : List ℕ) (run : Ran) : Type 0 where
   pub count : ℕ
   pub is : ran turns l terms count events bytes ≡ Some run
 
@@ -133,10 +146,13 @@ stretch_on put None = None
 stretch_on put (Some (Ends closing)) = None
 stretch_on put (Some (Puts q)) = put q
 
--- the turns by which these events come one after the other, from those before and these bytes on; none where no question comes for one
-unfoldable pub stretch_of : Turns → Language → Terms → (events : List Event) → List ℕ → (more : List Event) → Option Stretch
+-- the turns by which these events come one after the other, from those before and these bytes on;
+-- none where no question comes for one
+unfoldable pub stretch_of : Turns → Language → Terms → (events : List Event) → List ℕ →
+    (more : List Event) → Option Stretch
 stretch_of turns l terms events bytes [] = Some (stretch [] bytes)
 stretch_of turns l terms events bytes (e ∷ more) =
     stretch_on
-    (λ q. let turned = turns l (number_on l events) q bytes in option_map (stretch_after turned.text) (stretch_of turns l terms (events ++ e ∷ []) turned.heard.rest more))
+    (λ q. let turned = turns l (number_on l events) q bytes in option_map (stretch_after
+    turned.text) (stretch_of turns l terms (events ++ e ∷ []) turned.heard.rest more))
     (next_on l terms events)

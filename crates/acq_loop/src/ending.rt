@@ -48,7 +48,8 @@ pub enum Ending {
     CnfTooLarge,
     /// The input is no model of the network.
     ModelRefused(ModelFault),
-    /// Something is left to ask, or no network agrees with the answers, so there is nothing to certify.
+    /// Something is left to ask, or no network agrees with the answers, so there is nothing to
+    /// certify.
     NotConverged(u32),
     /// No certificate is made.
     CertRefused(MakeFault),

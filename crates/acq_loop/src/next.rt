@@ -39,7 +39,8 @@ pub enum Upcoming {
 /// What comes next in plan Scopes, where nothing is open.
 fn scoped_next(idle: &Idle) -> Upcoming
     requires plan { (knowledge_of (Session.Idle idle.now)).plan ≡ Scopes }
-    ensures next { (t : List Answer) (budget : _) → let k = knowledge_of (Session.Idle idle.now) in Stands (Session.Idle idle.now) t
+    ensures next { (t : List Answer) (budget : _) → let k = knowledge_of (Session.Idle idle.now) in
+        Stands (Session.Idle idle.now) t
         → NextIs k.lang (terms_with k.plan budget) t None result }
     ensures decided { result ≢ Upcoming.Undecided }
 {
@@ -62,13 +63,18 @@ fn searched_next<R: Threads + Sync, G: Gate>(
     requires plan { (knowledge_of (Session.Idle idle.now)).plan ≢ Scopes }
     requires places { AreMadeFor (knowledge_of (Session.Idle idle.now)).lang places.old }
     requires screen { AreMarksFor (knowledge_of (Session.Idle idle.now)).lang screen.old }
-    requires marks { let k = knowledge_of (Session.Idle idle.now) in MarksHold k.lang k.network.list budget screen.old }
+    requires marks { let k = knowledge_of (Session.Idle idle.now) in
+        MarksHold k.lang k.network.list budget screen.old }
     requires budget { IsBudget budget }
-    ensures next { (t : List Answer) → let k = knowledge_of (Session.Idle idle.now) in Stands (Session.Idle idle.now) t → NextIs k.lang (terms_with k.plan budget) t None result }
+    ensures next { (t : List Answer) → let k = knowledge_of (Session.Idle idle.now) in
+        Stands (Session.Idle idle.now) t → NextIs k.lang (terms_with k.plan budget) t None result }
     ensures places { AreMadeFor (knowledge_of (Session.Idle idle.now)).lang places.new }
     ensures screen { AreMarksFor (knowledge_of (Session.Idle idle.now)).lang screen.new }
-    ensures marks { let k = knowledge_of (Session.Idle idle.now) in MarksHold k.lang k.network.list budget screen.new }
-    ensures open { (t : List Answer) → let k = knowledge_of (Session.Idle idle.now) in Stands (Session.Idle idle.now) t → result ≡ Upcoming.Undecided → TellsOpen k.lang (terms_with k.plan budget) t screen.new }
+    ensures marks { let k = knowledge_of (Session.Idle idle.now) in
+        MarksHold k.lang k.network.list budget screen.new }
+    ensures open { (t : List Answer) → let k = knowledge_of (Session.Idle idle.now) in
+        Stands (Session.Idle idle.now) t → result ≡ Upcoming.Undecided →
+        TellsOpen k.lang (terms_with k.plan budget) t screen.new }
 {
     let query = next_query_forked(
         rt,
@@ -98,13 +104,18 @@ fn idle_next<R: Threads + Sync, G: Gate>(
 ) -> Upcoming
     requires places { AreMadeFor (knowledge_of (Session.Idle idle.now)).lang places.old }
     requires screen { AreMarksFor (knowledge_of (Session.Idle idle.now)).lang screen.old }
-    requires marks { let k = knowledge_of (Session.Idle idle.now) in MarksHold k.lang k.network.list budget screen.old }
+    requires marks { let k = knowledge_of (Session.Idle idle.now) in
+        MarksHold k.lang k.network.list budget screen.old }
     requires budget { IsBudget budget }
-    ensures next { (t : List Answer) → let k = knowledge_of (Session.Idle idle.now) in Stands (Session.Idle idle.now) t → NextIs k.lang (terms_with k.plan budget) t None result }
+    ensures next { (t : List Answer) → let k = knowledge_of (Session.Idle idle.now) in
+        Stands (Session.Idle idle.now) t → NextIs k.lang (terms_with k.plan budget) t None result }
     ensures places { AreMadeFor (knowledge_of (Session.Idle idle.now)).lang places.new }
     ensures screen { AreMarksFor (knowledge_of (Session.Idle idle.now)).lang screen.new }
-    ensures marks { let k = knowledge_of (Session.Idle idle.now) in MarksHold k.lang k.network.list budget screen.new }
-    ensures open { (t : List Answer) → let k = knowledge_of (Session.Idle idle.now) in Stands (Session.Idle idle.now) t → result ≡ Upcoming.Undecided → TellsOpen k.lang (terms_with k.plan budget) t screen.new }
+    ensures marks { let k = knowledge_of (Session.Idle idle.now) in
+        MarksHold k.lang k.network.list budget screen.new }
+    ensures open { (t : List Answer) → let k = knowledge_of (Session.Idle idle.now) in
+        Stands (Session.Idle idle.now) t → result ≡ Upcoming.Undecided →
+        TellsOpen k.lang (terms_with k.plan budget) t screen.new }
 {
     match idle.plan() {
         Plan::Scopes => scoped_next(idle),
@@ -122,12 +133,18 @@ pub fn next_of<R: Threads + Sync, D: Disk, P: Keep<D>, G: Gate>(
     gate: &G,
 ) -> Upcoming
     requires sound { P.sound keep.now }
-    requires ready { IsReadyToTurn (P.lang keep.now) (terms_with (P.plan keep.now) budget) (standing_on (P.lang keep.now) (P.record_of keep.now)) (P.question keep.now) places.old screen.old }
-    ensures next { NextIs (P.lang keep.now) (terms_with (P.plan keep.now) budget) (standing_on (P.lang keep.now) (P.record_of keep.now)) (P.question keep.now) result }
+    requires ready { IsReadyToTurn (P.lang keep.now) (terms_with (P.plan keep.now) budget)
+        (standing_on (P.lang keep.now) (P.record_of keep.now))
+        (P.question keep.now) places.old screen.old }
+    ensures next { NextIs (P.lang keep.now) (terms_with (P.plan keep.now) budget)
+        (standing_on (P.lang keep.now) (P.record_of keep.now)) (P.question keep.now) result }
     ensures places { AreMadeFor (P.lang keep.now) places.new }
     ensures screen { AreMarksFor (P.lang keep.now) screen.new }
-    ensures remembers { Remembers (P.lang keep.now) (terms_with (P.plan keep.now) budget) (standing_on (P.lang keep.now) (P.record_of keep.now)) screen.new }
-    ensures open { result ≡ Upcoming.Undecided → TellsOpen (P.lang keep.now) (terms_with (P.plan keep.now) budget) (standing_on (P.lang keep.now) (P.record_of keep.now)) screen.new }
+    ensures remembers { Remembers (P.lang keep.now) (terms_with (P.plan keep.now) budget)
+        (standing_on (P.lang keep.now) (P.record_of keep.now)) screen.new }
+    ensures open { result ≡ Upcoming.Undecided →
+        TellsOpen (P.lang keep.now) (terms_with (P.plan keep.now) budget)
+        (standing_on (P.lang keep.now) (P.record_of keep.now)) screen.new }
 {
     let session = keep.session();
     let _lang = session.lang();

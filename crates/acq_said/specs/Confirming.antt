@@ -1,6 +1,8 @@
 -- What `check` says of its input.
 use Rattle.std.specs.Prelude.{◌≡◌, ◌↔◌}
-use Rattle.acq_said.specs.Prelude.{ℕ, List, Result, Ok, Err, IfOk, Certificate, verdict, IsGood, IsRead, IsUnreadable, cert_fault_line, confirmed_text, flaw_line, CertFault, Verdict, Yes, No, IsConverged, Ending, MatchResult}
+use Rattle.acq_said.specs.Prelude.{ℕ, List, Result, Ok, Err, IfOk, Certificate, verdict, IsGood}
+use Rattle.acq_said.specs.Prelude.{IsRead, IsUnreadable, cert_fault_line, confirmed_text, flaw_line}
+use Rattle.acq_said.specs.Prelude.{CertFault, Verdict, Yes, No, IsConverged, Ending, MatchResult}
 use Rattle.acq_said.specs.Over.{EndsAsSaid}
 use Rattle.acq_said.specs.Saying.{Saying, saying}
 use Rattle.acq_loop.specs.declared.ending.Ending.TheVariants as ending
@@ -17,7 +19,8 @@ abbrev pub checked_said : Result Certificate CertFault → Saying
 checked_said (Ok cert) = verdict_said cert (verdict cert)
 checked_said (Err fault) = saying (cert_fault_line fault) (ending.CertUnread fault)
 
--- a certificate is confirmed exactly where it is good, and only where its answers converge on its network
+-- a certificate is confirmed exactly where it is good, and only where its answers converge on its
+-- network
 pub record IsJudged (cert : Certificate) : Type 0 where
   pub good : (verdict cert ≡ Yes) ↔ IsGood cert.language cert.network cert.answers cert.refutations
   pub converged : verdict cert ≡ Yes → IsConverged cert.language cert.network cert.answers
@@ -33,5 +36,6 @@ pub record IsCheck (bytes : List ℕ) (what : Saying) : Type 0 where
 
 -- it ends as is said of what the bytes are read as, which is judged rightly
 pub record ConfirmsExactly (bytes : List ℕ) (end : Ending) : Type 0 where
-  pub ends : EndsAsSaid (λ reading. MatchResult reading (IsRead bytes) (IsUnreadable bytes)) checked_said end
+  pub ends : EndsAsSaid
+      (λ reading. MatchResult reading (IsRead bytes) (IsUnreadable bytes)) checked_said end
   pub judged : IfOk ends.what IsJudged

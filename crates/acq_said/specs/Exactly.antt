@@ -5,4 +5,5 @@ use Rattle.acq_loop.specs.declared.ending.Ending.TheVariants as ending
 
 -- the input, the output or the disk failed, or memory was wanting
 abbrev pub IsBrokenOff : Ending → Type 0
-IsBrokenOff end = (end ≡ ending.ReadFault) ⊎ (end ≡ ending.WriteFault) ⊎ (end ≡ ending.DiskFault) ⊎ (end ≡ ending.Memory)
+IsBrokenOff end = (end ≡ ending.ReadFault) ⊎ (end ≡ ending.WriteFault) ⊎ (end ≡ ending.DiskFault)
+    ⊎ (end ≡ ending.Memory)

@@ -1,6 +1,7 @@
 -- What a command over a journal says of one that isn't made or opened.
 use Rattle.std.specs.Prelude.{◌≡◌, ◌∷◌, ◌++◌}
-use Rattle.acq_said.specs.Prelude.{ℕ, List, [], Option, Some, None, Result, Err, codes, decimal, SFault, fault_text, MatchOption}
+use Rattle.acq_said.specs.Prelude.{ℕ, List, [], Option, Some, None, Result, Err, codes, decimal}
+use Rattle.acq_said.specs.Prelude.{SFault, fault_text, MatchOption}
 use Rattle.acq_said.specs.Said.{IsSaid}
 use Rattle.acq_said.specs.Saying.{Saying, saying}
 use Rattle.acq_said.specs.declared.said.Unsaid.{Unsaid}
@@ -27,7 +28,8 @@ store_text store.Memory = codes "memory"
 
 -- what is said of it
 abbrev pub refused_said : SFault → Saying
-refused_said fault = saying (codes "refused journal " ++ (store_text fault ++ 10 ∷ [])) (ending.JournalRefused fault)
+refused_said fault =
+    saying (codes "refused journal " ++ (store_text fault ++ 10 ∷ [])) (ending.JournalRefused fault)
 
 -- ---- Refusals
 
@@ -40,4 +42,5 @@ untold fault = None
 
 -- what a command without a session says of its fault: which one it is, or nothing
 abbrev pub SaysRefusal : SFault → Result Saying Unsaid → Type 0
-SaysRefusal fault said = MatchOption (untold fault) (IsSaid (refused_said fault) said) (λ why. said ≡ Err why)
+SaysRefusal fault said =
+    MatchOption (untold fault) (IsSaid (refused_said fault) said) (λ why. said ≡ Err why)

@@ -1,7 +1,9 @@
 -- The names from outside that these definitions use, passed on from one place. Declares nothing.
 pub use Rattle.std.specs.Fmt.{decimal}
 pub use Rattle.std.specs.Option.{ForSome, option_map_or, option_or}
-pub use Rattle.std.specs.Prelude.{All, Bool, Err, IfOk, IsErr, IsSome, IsTrue, List, MatchOption, MatchResult, None, Ok, OnErr, Option, Result, Some, [], codes, false, filter, length, suc, true, zero, ℕ}
+pub use Rattle.std.specs.Prelude.{All, Bool, Err, IfOk, IsErr, IsSome, IsTrue, List, MatchOption}
+pub use Rattle.std.specs.Prelude.{MatchResult, None, Ok, OnErr, Option, Result, Some, [], codes}
+pub use Rattle.std.specs.Prelude.{false, filter, length, suc, true, zero, ℕ}
 pub use Rattle.acq_io.specs.Streams.{Adds, AddsFront}
 pub use Rattle.acq_io.specs.Whole.{Gathered, Gives, TakesOfLine, all_of, first_line_of}
 pub use Rattle.acq_io.specs.declared.streams.Put.{Put}
@@ -11,7 +13,8 @@ pub use Rattle.acq_loop.specs.Added.{IsAdded}
 pub use Rattle.acq_loop.specs.Closings.{closing_of, ending_of}
 pub use Rattle.acq_loop.specs.Driven.{Drives, IsRunCutShort, IsDone, IsWholeRun, Loses}
 pub use Rattle.acq_loop.specs.Points.{point_of, terms_with}
-pub use Rattle.acq_loop.specs.Run.{Closing, Converged, Ends, JournalFull, Next, Ran, Runs, is_full, next_after}
+pub use Rattle.acq_loop.specs.Run.{Closing, Converged, Ends, JournalFull, Next, Ran, Runs, is_full}
+pub use Rattle.acq_loop.specs.Run.{next_after}
 pub use Rattle.acq_loop.specs.Texts.{closing_text, ending_line, learned_in, refusal_text}
 pub use Rattle.acq_loop.specs.declared.driving.Drove.{Drove}
 pub use Rattle.acq_loop.specs.declared.ending.Ending.{Ending}
@@ -40,7 +43,8 @@ pub use Rattle.cert_check.specs.declared.verdict.Verdict.TheVariants.{No, Yes}
 pub use Rattle.disk_model.specs.Moments.{IsOnlyRead, LeavesOnly}
 pub use Rattle.disk_model.specs.declared.disk.Disk.{Ghosts as DiskOf}
 pub use Rattle.language.specs.Answers.{IsConverged, IsCovered, IsNetwork, agrees, standing_on}
-pub use Rattle.language.specs.Language.{HasSameSolutions, IsLanguage, IsQuestion, Language, candidates, variable_count}
+pub use Rattle.language.specs.Language.{HasSameSolutions, IsLanguage, IsQuestion, Language}
+pub use Rattle.language.specs.Language.{candidates, variable_count}
 pub use Rattle.language.specs.Texts.{question_text}
 pub use Rattle.language.specs.declared.candidates.Candidate.{Candidate}
 pub use Rattle.net_cnf.specs.Laws.{IsEncoded}
@@ -54,11 +58,14 @@ pub use Rattle.net_reduce.specs.Searched.{IsReducedBySearch, IsSpentAt, left_at,
 pub use Rattle.net_reduce.specs.Texts.{reduced_text, spent_text}
 pub use Rattle.network.specs.Texts.{network_text}
 pub use Rattle.session_laws.specs.Laws.{IsWalked, network_in}
-pub use Rattle.session_laws.specs.Session.{At, Idle, Over, Course, State, Stray, state_after, walk_end}
+pub use Rattle.session_laws.specs.Session.{At, Idle, Over, Course, State, Stray, state_after}
+pub use Rattle.session_laws.specs.Session.{walk_end}
 pub use Rattle.session_laws.specs.Walk.{Ended}
 pub use Rattle.session_store.specs.Keeping.{calls_for, all_calls}
-pub use Rattle.session_store.specs.Left.{IsRaisedOn, LeavesNow, OpensWith, OpensWithOrWithout, OpensWithin}
-pub use Rattle.session_store.specs.Opened.{SaysOpened, IsSession, Opened, Opens, RefusesOpening, is_of_bytes}
+pub use Rattle.session_store.specs.Left.{IsRaisedOn, LeavesNow, OpensWith, OpensWithOrWithout}
+pub use Rattle.session_store.specs.Left.{OpensWithin}
+pub use Rattle.session_store.specs.Opened.{SaysOpened, IsSession, Opened, Opens, RefusesOpening}
+pub use Rattle.session_store.specs.Opened.{is_of_bytes}
 pub use Rattle.session_store.specs.Opening.{NotMade, NotOpened}
 pub use Rattle.session_store.specs.Replay.{HavePlaces}
 pub use Rattle.session_store.specs.declared.fault.SFault.{SFault}

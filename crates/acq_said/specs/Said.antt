@@ -1,6 +1,7 @@
 -- What was said, or why nothing was, and what was written of it.
 use Rattle.std.specs.Prelude.{◌≡◌}
-use Rattle.acq_said.specs.Prelude.{ℕ, List, Option, Result, Ok, Err, Adds, AddsFront, Put, Ending, MatchResult}
+use Rattle.acq_said.specs.Prelude.{ℕ, List, Option, Result, Ok, Err, Adds, AddsFront, Put, Ending}
+use Rattle.acq_said.specs.Prelude.{MatchResult}
 use Rattle.acq_io.specs.declared.streams.Put.TheVariants as put
 use Rattle.acq_said.specs.Saying.{Saying}
 use Rattle.acq_loop.specs.declared.ending.Ending.TheVariants as ending
@@ -26,14 +27,18 @@ silent_end unsaid.Memory = Err put.Memory
 
 -- ---- What is written of it
 
--- What was said was written, and the command ended as it says. Or the output failed, and a front of it was written; or there was no memory
--- for it, and nothing was. Where nothing was said, nothing is.
-abbrev pub HasWritten : Result Saying Unsaid → (written written' : Option (List ℕ)) → Result Ending Put → Type 0
+-- What was said was written, and the command ended as it says. Or the output failed, and a front of
+-- it was written; or there was no memory for it, and nothing was. Where nothing was said, nothing
+-- is.
+abbrev pub HasWritten : Result Saying Unsaid → (written written' : Option (List ℕ)) →
+    Result Ending Put → Type 0
 HasWritten (Ok what) written written' (Ok e) = (e ≡ what.ending) × Adds written written' what.text
 HasWritten (Ok what) written written' (Err put.Failed) = AddsFront written written' what.text
 HasWritten (Ok what) written written' (Err put.Memory) = written' ≡ written
 HasWritten (Err why) written written' got = (got ≡ silent_end why) × (written' ≡ written)
 
 -- a command has said so, and written that
-abbrev pub SaysSo : (Result Saying Unsaid → Type 0) → (written written' : Option (List ℕ)) → Result Ending Put → Type 0
-SaysSo Spoke written written' got = (said : Result Saying Unsaid) × Spoke said × HasWritten said written written' got
+abbrev pub SaysSo : (Result Saying Unsaid → Type 0) → (written written' : Option (List ℕ)) →
+    Result Ending Put → Type 0
+SaysSo Spoke written written' got = (said : Result Saying Unsaid) × Spoke said
+    × HasWritten said written written' got

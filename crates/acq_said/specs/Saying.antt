@@ -9,7 +9,8 @@ pub record Saying : Type 0 where
 abbrev pub saying : List ℕ → Ending → Saying
 saying text end = record { text = text; ending = end }
 
--- whether an ending is told with a text: it is no fault of the input, the output or the disk, and no want of memory
+-- whether an ending is told with a text: it is no fault of the input, the output or the disk, and
+-- no want of memory
 abbrev pub is_told : Ending → Bool
 is_told ending.ReadFault = false
 is_told ending.WriteFault = false

@@ -1,6 +1,9 @@
 -- What is shown of a session.
 use Rattle.std.specs.Prelude.{◌∷◌, ◌++◌, if◌then◌else◌}
-use Rattle.acq_said.specs.Prelude.{ℕ, zero, suc, Bool, true, false, List, [], length, codes, decimal, Answer, Event, Plan, Scopes, Quacq, Multi, Candidate, Language, question_text, network_text, Idle, Over, Course, At, Stray, state_after}
+use Rattle.acq_said.specs.Prelude.{ℕ, zero, suc, Bool, true, false, List, [], length, codes}
+use Rattle.acq_said.specs.Prelude.{decimal, Answer, Event, Plan, Scopes, Quacq, Multi, Candidate}
+use Rattle.acq_said.specs.Prelude.{Language, question_text, network_text, Idle, Over, Course, At}
+use Rattle.acq_said.specs.Prelude.{Stray, state_after}
 use Rattle.assign.specs.declared.events.Event.TheVariants as event
 
 abbrev pub plan_words : Plan → List ℕ
@@ -10,7 +13,8 @@ plan_words Multi = codes "multi"
 
 -- a question with its number and its answer
 abbrev pub answer_line : Language → ℕ → Answer → List ℕ
-answer_line l k a = question_text l k a.question ++ (32 ∷ ((if a.yes then codes "yes" else codes "no") ++ 10 ∷ []))
+answer_line l k a =
+    question_text l k a.question ++ (32 ∷ ((if a.yes then codes "yes" else codes "no") ++ 10 ∷ []))
 
 -- the answers, numbered from k on
 abbrev pub answer_lines : Language → ℕ → List Answer → List ℕ
@@ -32,8 +36,11 @@ reading_text (At (Idle network end)) = codes "idle"
 reading_text (At (Over network)) = codes "collapsed"
 reading_text (At state) = codes "asking"
 
--- the plan, the answers that stand, and how many were taken back; and then what was learned, and where the session stands
+-- the plan, the answers that stand, and how many were taken back; and then what was learned, and
+-- where the session stands
 abbrev pub show_text : Language → Plan → List Answer → ℕ → List Candidate → List ℕ
 show_text l plan t backs network =
-    (codes "plan " ++ (plan_words plan ++ (10 ∷ (answer_lines l 1 t ++ (codes "answers " ++ (decimal (length t) ++ (10 ∷ back_line backs)))))))
-    ++ (codes "learned " ++ (decimal (length network) ++ (10 ∷ (network_text l network ++ (codes "state " ++ (reading_text (state_after l plan t) ++ 10 ∷ []))))))
+    (codes "plan " ++ (plan_words plan ++ (10 ∷ (answer_lines l 1 t
+    ++ (codes "answers " ++ (decimal (length t) ++ (10 ∷ back_line backs)))))))
+    ++ (codes "learned " ++ (decimal (length network) ++ (10 ∷ (network_text l network
+    ++ (codes "state " ++ (reading_text (state_after l plan t) ++ 10 ∷ []))))))

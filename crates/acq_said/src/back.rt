@@ -1,6 +1,7 @@
 //! The command that takes the last answer back.
 
-ghost use Rattle.std.specs.Prelude.{◌≡◌, ◌≢◌, ◌↔◌, ◌<◌, ◌+◌, ◌==◌, ◌||◌, [], true, false, length, IfOk, MatchResult, None, Some, Err, ◌⊎◌};
+ghost use Rattle.std.specs.Prelude.{◌≡◌, ◌≢◌, ◌↔◌, ◌<◌, ◌+◌, ◌==◌, ◌||◌, [], true, false, length};
+ghost use Rattle.std.specs.Prelude.{IfOk, MatchResult, None, Some, Err, ◌⊎◌};
 ghost use Rattle.assign.specs.Events.{standing};
 ghost use Rattle.assign.specs.declared.events.Event.{Event};
 ghost use Rattle.disk_model.specs.Disk.{Rose as DiskRose};
@@ -105,13 +106,16 @@ fn is_full<D: Disk, P: Keep<D>>(keep: &P) -> bool
     keep.is_full()
 }
 
-/// Opens a journal, and takes the last answer back, where one stands and a record is left. Where the disk fails or memory is wanting,
-/// not a word is said.
+/// Opens a journal, and takes the last answer back, where one stands and a record is left. Where
+/// the disk fails or memory is wanting, not a word is said.
 pub fn back_journal<D: Disk>(alloc: Global, disk: &mut D) -> Result<Said, Unsaid>
-    ensures backs { SaysOver D.Disk (λ opening told. MatchResult opening (λ o. IsSaid (back_said o) told × ((back_said o).ending ≢ Ending.Done)) (λ fault. SaysRefusal fault told)) (λ o. Unit {0}) disk.old disk.new result
+    ensures backs { SaysOver D.Disk (λ opening told.
+        MatchResult opening (λ o. IsSaid (back_said o) told × ((back_said o).ending ≢ Ending.Done))
+        (λ fault. SaysRefusal fault told)) (λ o. Unit {0}) disk.old disk.new result
         ⊎ HasTakenBack D.Disk disk.old disk.new result }
     ensures no_read { result ≢ Err Unsaid.ReadFault }
-    ensures lost { result ≡ Err Unsaid.DiskFault → DiskRose (D.faults disk.old) (D.faults disk.new) }
+    ensures lost { result ≡ Err Unsaid.DiskFault →
+        DiskRose (D.faults disk.old) (D.faults disk.new) }
 {
     let mut store = match Store::open(alloc, disk) {
         Ok(store) => store,

@@ -70,7 +70,8 @@ fn entries_of(
 /// The answers of a keeper's session that stand.
 fn standing_entries<D: Disk, P: Keep<D>>(alloc: Global, keep: &P) -> Result<Vec<Entry>, Memory>
     requires { P.sound keep.now }
-    ensures { IfOk result (λ entries. entries.items ≡ standing_on (P.lang keep.now) (P.record_of keep.now)) }
+    ensures { IfOk result
+        (λ entries. entries.items ≡ standing_on (P.lang keep.now) (P.record_of keep.now)) }
 {
     let events = keep.events();
     // each take-back has found an answer, so nothing but memory was wanting
@@ -80,7 +81,8 @@ fn standing_entries<D: Disk, P: Keep<D>>(alloc: Global, keep: &P) -> Result<Vec<
     entries_of(alloc, keep.session().lang(), events, &records)
 }
 
-/// Whether nothing is left to ask of a keeper's session. The candidates are searched anew, with no marks.
+/// Whether nothing is left to ask of a keeper's session. The candidates are searched anew, with no
+/// marks.
 fn has_converged<R: Threads + Sync, D: Disk, P: Keep<D>, G: Gate>(
     rt: &R,
     alloc: Global,
@@ -89,9 +91,11 @@ fn has_converged<R: Threads + Sync, D: Disk, P: Keep<D>, G: Gate>(
     gate: &G,
 ) -> Result<bool, Memory>
     requires sound { P.sound keep.now }
-    requires settled { IsSettled (P.lang keep.now) (P.plan keep.now) (standing_on (P.lang keep.now) (P.record_of keep.now)) (P.question keep.now) }
+    requires settled { IsSettled (P.lang keep.now) (P.plan keep.now)
+        (standing_on (P.lang keep.now) (P.record_of keep.now)) (P.question keep.now) }
     requires budget { IsBudget budget }
-    ensures { IfOk result (TellsEnd (P.lang keep.now) (terms_with (P.plan keep.now) budget) (standing_on (P.lang keep.now) (P.record_of keep.now))) }
+    ensures { IfOk result (TellsEnd (P.lang keep.now) (terms_with (P.plan keep.now) budget)
+        (standing_on (P.lang keep.now) (P.record_of keep.now))) }
 {
     let lang = keep.session().lang();
     let mut places = places_for(alloc, lang)?;
@@ -105,7 +109,8 @@ fn has_converged<R: Threads + Sync, D: Disk, P: Keep<D>, G: Gate>(
 
 /// Says that the answers haven't converged.
 fn unconverged(alloc: Global, m: u32) -> Result<Said, Memory>
-    ensures { IfOk result (λ said. said ≡ saying (codes "refused not converged " ++ (decimal m ++ 10 ∷ [])) (Ending.NotConverged m)) }
+    ensures { IfOk result (λ said. said ≡ saying (codes "refused not converged "
+        ++ (decimal m ++ 10 ∷ [])) (Ending.NotConverged m)) }
 {
     let text = format!(in alloc; "refused not converged {m}\n")?;
     Ok(Said::new(text, Ending::NotConverged(m)))
@@ -113,7 +118,8 @@ fn unconverged(alloc: Global, m: u32) -> Result<Said, Memory>
 
 /// Says why no certificate is made.
 fn uncertified(alloc: Global, fault: MakeFault) -> Result<Said, Memory>
-    ensures { IfOk result (λ said. said ≡ saying (make_fault_line fault) (Ending.CertRefused fault)) }
+    ensures { IfOk result
+        (λ said. said ≡ saying (make_fault_line fault) (Ending.CertRefused fault)) }
 {
     let text = make_fault_text(alloc, &fault)?;
     Ok(Said::new(text, Ending::CertRefused(fault)))
@@ -130,7 +136,8 @@ fn certificate(
 ) -> Result<Said, Memory>
     requires certifiable { IsCertifiable voc.now lang.now net.now answers.now }
     requires budget { IsBudget budget }
-    ensures { IfOk result (λ said. said ≡ certificate_said (certificate_made voc.now lang.now net.now answers.now budget)) }
+    ensures { IfOk result (λ said.
+        said ≡ certificate_said (certificate_made voc.now lang.now net.now answers.now budget)) }
 {
     match make_cert(alloc, lang, voc, answers, net, budget) {
         Ok(text) => Ok(Said::new(text, Ending::Done)),
@@ -147,11 +154,13 @@ fn certify_converged<D: Disk, P: Keep<D>>(
     keep: &P,
 ) -> Result<Said, Memory>
     requires sound { P.sound keep.now }
-    requires done { IsDone (P.lang keep.now) (terms_with (P.plan keep.now) budget) (standing_on (P.lang keep.now) (P.record_of keep.now)) }
+    requires done { IsDone (P.lang keep.now) (terms_with (P.plan keep.now) budget)
+        (standing_on (P.lang keep.now) (P.record_of keep.now)) }
     requires read { IsVocabulary voc.now (P.lang keep.now) }
     requires voc { voc.now ≡ P.voc keep.now }
     requires budget { IsBudget budget }
-    ensures { IfOk result (SaysAsked (Certify budget) (opened_as (P.plan keep.now) (P.voc keep.now) (P.record_of keep.now) (P.lang keep.now))) }
+    ensures { IfOk result (SaysAsked (Certify budget)
+        (opened_as (P.plan keep.now) (P.voc keep.now) (P.record_of keep.now) (P.lang keep.now))) }
 {
     let Ok(answers) = standing_entries::<D, P>(alloc, keep) else {
         return Err(Memory);
@@ -170,11 +179,13 @@ pub(crate) fn certified<R: Threads + Sync, D: Disk, P: Keep<D>, G: Gate>(
     gate: &G,
 ) -> Result<Said, Memory>
     requires sound { P.sound keep.now }
-    requires settled { IsSettled (P.lang keep.now) (P.plan keep.now) (standing_on (P.lang keep.now) (P.record_of keep.now)) (P.question keep.now) }
+    requires settled { IsSettled (P.lang keep.now) (P.plan keep.now)
+        (standing_on (P.lang keep.now) (P.record_of keep.now)) (P.question keep.now) }
     requires read { IsVocabulary voc.now (P.lang keep.now) }
     requires voc { voc.now ≡ P.voc keep.now }
     requires budget { IsBudget budget }
-    ensures { IfOk result (SaysAsked (Certify budget) (opened_as (P.plan keep.now) (P.voc keep.now) (P.record_of keep.now) (P.lang keep.now))) }
+    ensures { IfOk result (SaysAsked (Certify budget)
+        (opened_as (P.plan keep.now) (P.voc keep.now) (P.record_of keep.now) (P.lang keep.now))) }
 {
     match has_converged::<R, D, P, G>(rt, alloc, budget, keep, gate) {
         Ok(true) => certify_converged::<D, P>(alloc, budget, voc, keep),

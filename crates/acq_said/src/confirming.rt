@@ -38,7 +38,8 @@ fn flawed(alloc: Global, flaw: Flaw) -> Result<Said, Memory>
 
 /// Says why the input is no certificate.
 fn unread(alloc: Global, fault: CertFault) -> Result<Said, Memory>
-    ensures { IfOk result (λ said. said ≡ saying (cert_fault_line fault) (Ending.CertUnread fault)) }
+    ensures { IfOk result
+        (λ said. said ≡ saying (cert_fault_line fault) (Ending.CertUnread fault)) }
 {
     let text = cert_fault_text(alloc, &fault)?;
     Ok(Said::new(text, Ending::CertUnread(fault)))
@@ -69,15 +70,19 @@ fn checked<R: Threads + Sync>(rt: &R, alloc: Global, bytes: &[u8]) -> Result<Sai
     }
 }
 
-/// Reads a certificate to the end of the input, and says whether it shows that its answers converge on its network.
+/// Reads a certificate to the end of the input, and says whether it shows that its answers converge
+/// on its network.
 pub fn check_input<R: Threads + Sync, S: Source>(
     rt: &R,
     alloc: Global,
     input: &mut S,
 ) -> Result<Said, Unsaid>
-    ensures confirms { SaysOfInput 67108864 (λ read said. MatchResult said (λ what. MatchResult read (λ bytes. IsCheck bytes what) (λ e. what ≡ checked_said (Err CertFault.TooLong))) (λ why. why ≡ Unsaid.Memory)) (S.left input.old) (S.left input.new) result }
+    ensures confirms { SaysOfInput 67108864 (λ read said. MatchResult said (λ what. MatchResult read
+        (λ bytes. IsCheck bytes what) (λ e. what ≡ checked_said (Err CertFault.TooLong)))
+        (λ why. why ≡ Unsaid.Memory)) (S.left input.old) (S.left input.new) result }
     ensures takes { TakesSome (S.left input.old) (S.left input.new) }
-    ensures read { HasCalled (S.faults input.old) (S.faults input.new) (S.late input.old) (S.late input.new) (result ≡ Err Unsaid.ReadFault) }
+    ensures read { HasCalled (S.faults input.old) (S.faults input.new) (S.late input.old)
+        (S.late input.new) (result ≡ Err Unsaid.ReadFault) }
     ensures no_disk { result ≢ Err Unsaid.DiskFault }
 {
     match read_all(alloc, input, MOST_CERTIFICATE) {

@@ -27,7 +27,9 @@ use std::alloc::Global;
 /// Says that a session has converged, and on what.
 fn converged(alloc: Global, session: &Session, m: u32) -> Result<Said, Memory>
     requires { IsNetwork (knowledge_of session.now).lang (knowledge_of session.now).network.list }
-    ensures { IfOk result (λ said. said ≡ saying (ending_line Converged m ++ network_text (knowledge_of session.now).lang (knowledge_of session.now).network.list) (Ending.Converged m)) }
+    ensures { IfOk result (λ said.
+        said ≡ saying (ending_line Converged m ++ network_text (knowledge_of session.now).lang
+        (knowledge_of session.now).network.list) (Ending.Converged m)) }
 {
     let Ok(network) = network_text(alloc, session.lang(), session.network()) else {
         return Err(Memory);
@@ -46,12 +48,16 @@ fn collapsed(alloc: Global, m: u32) -> Result<Said, Memory>
     Ok(Said::new(text, Ending::Collapsed(m)))
 }
 
-/// Says that the budget was too small for a session: what was learned, and the candidates that are open.
+/// Says that the budget was too small for a session: what was learned, and the candidates that are
+/// open.
 fn undecided(alloc: Global, session: &Session, screen: &Screen, m: u32) -> Result<Said, Memory>
-    requires network { IsNetwork (knowledge_of session.now).lang (knowledge_of session.now).network.list }
+    requires network { IsNetwork (knowledge_of session.now).lang
+        (knowledge_of session.now).network.list }
     requires made { AreMarksFor (knowledge_of session.now).lang screen.now }
     ensures { let l = (knowledge_of session.now).lang in IfOk result (λ said. said ≡
-        saying (ending_line Undecided m ++ (network_text l (knowledge_of session.now).network.list ++ flat_map (open_line l) (filter (is_open l screen.now) (candidates l)))) (Ending.Undecided m)) }
+        saying (ending_line Undecided m ++ (network_text l (knowledge_of session.now).network.list
+        ++ flat_map (open_line l) (filter (is_open l screen.now) (candidates l))))
+        (Ending.Undecided m)) }
 {
     let Ok(network) = network_text(alloc, session.lang(), session.network()) else {
         return Err(Memory);
@@ -82,8 +88,10 @@ pub fn closing(
 ) -> Result<Said, Unsaid>
     requires made { AreMarksFor (knowledge_of session.now).lang screen.now }
     requires writes { drove ≢ Drove.WriteFault }
-    ensures { (budget : _) (t : List Answer) → Stands session.now t → let k = knowledge_of session.now in let terms = terms_with k.plan budget in
-        HasEnded k.lang terms t drove → ((m : _) → drove ≡ Drove.Undecided m → TellsOpen k.lang terms t screen.now)
+    ensures { (budget : _) (t : List Answer) → Stands session.now t →
+        let k = knowledge_of session.now in let terms = terms_with k.plan budget in
+        HasEnded k.lang terms t drove →
+        ((m : _) → drove ≡ Drove.Undecided m → TellsOpen k.lang terms t screen.now)
         → SaysEnd k.lang terms t drove result }
 {
     let _network = session.network();

@@ -11,7 +11,8 @@ use session_store::Keep;
 /// The language of a keeper's session, and the network that it has learned.
 pub(crate) fn learned_by<D: Disk, P: Keep<D>>(keep: &P) -> (&Language, &Network)
     requires { P.sound keep.now }
-    ensures { HasLearned (opened_as (P.plan keep.now) (P.voc keep.now) (P.record_of keep.now) (P.lang keep.now)) result.0.now result.1.now.list }
+    ensures { HasLearned (opened_as (P.plan keep.now) (P.voc keep.now) (P.record_of keep.now)
+        (P.lang keep.now)) result.0.now result.1.now.list }
 {
     let session = keep.session();
     (session.lang(), session.network())

@@ -1,8 +1,10 @@
-//! What each command says, from a session or from bytes: a text and an ending. Nothing here writes but `put`.
+//! What each command says, from a session or from bytes: a text and an ending. Nothing here writes
+//! but `put`.
 //!
 //! What is said is a function of what was opened (`asked_said`, `back_said`) or read
-//! (`solved_said`, `checked_said`, `made_said`), and each call says exactly that, or that memory was wanting, the input failed or
-//! the disk did (`Unsaid`). So the floor above needs one writer, and a command is one function and a row in its table.
+//! (`solved_said`, `checked_said`, `made_said`), and each call says exactly that, or that memory
+//! was wanting, the input failed or the disk did (`Unsaid`). So the floor above needs one writer,
+//! and a command is one function and a row in its table.
 //!
 //! | to | call |
 //! |---|---|

@@ -43,7 +43,8 @@ pub fn refused_voc(alloc: Global, fault: VocFault) -> Result<Said, Memory>
 
 /// Says why no journal is made.
 fn unmade(alloc: Global, fault: SFault) -> Result<Said, Unsaid>
-    ensures refuses { MatchOption (untold fault) (IsSaid (made_said (Err fault)) result) (λ why. result ≡ Err why) }
+    ensures refuses { MatchOption (untold fault) (IsSaid (made_said (Err fault)) result)
+        (λ why. result ≡ Err why) }
     ensures no_read { result ≢ Err Unsaid.ReadFault }
     ensures lost { result ≡ Err Unsaid.DiskFault → fault ≡ SFault.Journal JFault.DiskFault }
 {
@@ -62,9 +63,11 @@ fn make_journal<D: Disk>(
     voc: &[u8],
     disk: &mut D,
 ) -> Result<Said, Unsaid>
-    ensures makes { IsJournalMade D.Disk plan voc.now disk.old disk.new result ⊎ IsNotMade D.Disk plan voc.now disk.old disk.new result }
+    ensures makes { IsJournalMade D.Disk plan voc.now disk.old disk.new result
+        ⊎ IsNotMade D.Disk plan voc.now disk.old disk.new result }
     ensures no_read { result ≢ Err Unsaid.ReadFault }
-    ensures lost { result ≡ Err Unsaid.DiskFault → DiskRose (D.faults disk.old) (D.faults disk.new) }
+    ensures lost { result ≡ Err Unsaid.DiskFault →
+        DiskRose (D.faults disk.old) (D.faults disk.new) }
 {
     match Store::create(alloc, disk, plan, voc) {
         Ok(store) => or_silent(created(alloc, lang_of::<D, Store>(&store))),
@@ -81,8 +84,10 @@ pub fn new_journal<S: Source, D: Disk>(
 ) -> Result<Said, Unsaid>
     ensures news { News D.Disk plan (S.left input.old) (S.left input.new) disk.old disk.new result }
     ensures takes { TakesSome (S.left input.old) (S.left input.new) }
-    ensures read { HasCalled (S.faults input.old) (S.faults input.new) (S.late input.old) (S.late input.new) (result ≡ Err Unsaid.ReadFault) }
-    ensures lost { result ≡ Err Unsaid.DiskFault → DiskRose (D.faults disk.old) (D.faults disk.new) }
+    ensures read { HasCalled (S.faults input.old) (S.faults input.new) (S.late input.old)
+        (S.late input.new) (result ≡ Err Unsaid.ReadFault) }
+    ensures lost { result ≡ Err Unsaid.DiskFault →
+        DiskRose (D.faults disk.old) (D.faults disk.new) }
 {
     match read_all(alloc, input, MOST_VOCABULARY) {
         Ok(voc) => make_journal(alloc, plan, &voc, disk),

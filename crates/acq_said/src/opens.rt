@@ -21,7 +21,8 @@ fn push_open(
 ) -> Result<(), Memory>
     requires made { AreMarksFor lang.now screen.now }
     requires candidate { IsCandidate lang.now c }
-    ensures { OnOk result (string_bytes text.new ≡ string_bytes text.old ++ (if is_open lang.now screen.now c then open_line lang.now c else [])) }
+    ensures { OnOk result (string_bytes text.new ≡ string_bytes text.old
+        ++ (if is_open lang.now screen.now c then open_line lang.now c else [])) }
 {
     if !screen.is_open(c) {
         return Ok(());
@@ -43,7 +44,8 @@ fn push_open_on(
 ) -> Result<(), Memory>
     requires made { AreMarksFor lang.now screen.now }
     requires scope { scope < length lang.now.scopes }
-    ensures { OnOk result (string_bytes text.new ≡ string_bytes text.old ++ flat_map (open_line lang.now) (filter (is_open lang.now screen.now) (candidates_on lang.now scope))) }
+    ensures { OnOk result (string_bytes text.new ≡ string_bytes text.old ++ flat_map (open_line
+        lang.now) (filter (is_open lang.now screen.now) (candidates_on lang.now scope))) }
 {
     for rel in 0..lang.relations_on(scope) {
         push_open(alloc, text, lang, screen, Candidate { scope, rel })?;
@@ -54,7 +56,8 @@ fn push_open_on(
 /// The lines of the open candidates, in candidate order.
 pub(crate) fn open_lines(alloc: Global, lang: &Language, screen: &Screen) -> Result<String, Memory>
     requires made { AreMarksFor lang.now screen.now }
-    ensures { IfOk result (λ text. string_bytes text ≡ flat_map (open_line lang.now) (filter (is_open lang.now screen.now) (candidates lang.now))) }
+    ensures { IfOk result (λ text. string_bytes text ≡ flat_map (open_line lang.now)
+        (filter (is_open lang.now screen.now) (candidates lang.now))) }
 {
     let mut text = String::new(alloc);
     for s in 0..lang.scopes() {

@@ -35,11 +35,13 @@ fn asked<R: Threads + Sync, D: Disk, P: Keep<D>, G: Gate>(
     gate: &G,
 ) -> Result<Said, Memory>
     requires sound { P.sound keep.now }
-    requires settled { IsSettled (P.lang keep.now) (P.plan keep.now) (standing_on (P.lang keep.now) (P.record_of keep.now)) (P.question keep.now) }
+    requires settled { IsSettled (P.lang keep.now) (P.plan keep.now)
+        (standing_on (P.lang keep.now) (P.record_of keep.now)) (P.question keep.now) }
     requires read { IsVocabulary voc.now (P.lang keep.now) }
     requires voc { voc.now ≡ P.voc keep.now }
     requires budget { IsBudgeted ask }
-    ensures { IfOk result (SaysAsked ask (opened_as (P.plan keep.now) (P.voc keep.now) (P.record_of keep.now) (P.lang keep.now))) }
+    ensures { IfOk result (SaysAsked ask
+        (opened_as (P.plan keep.now) (P.voc keep.now) (P.record_of keep.now) (P.lang keep.now))) }
 {
     match ask {
         Ask::Show => shown::<D, P>(alloc, keep),
@@ -58,9 +60,12 @@ pub fn say_over<R: Threads + Sync, D: Disk, G: Gate>(
     gate: &G,
 ) -> Result<Said, Unsaid>
     requires { IsBudgeted ask }
-    ensures says { SaysOver D.Disk (λ opening said. MatchResult opening (λ o. IsSaid (asked_said ask o) said) (λ fault. SaysRefusal fault said)) (AsksTruly ask) disk.old disk.new result }
+    ensures says { SaysOver D.Disk (λ opening said.
+        MatchResult opening (λ o. IsSaid (asked_said ask o) said) (λ fault. SaysRefusal fault said))
+        (AsksTruly ask) disk.old disk.new result }
     ensures no_read { result ≢ Err Unsaid.ReadFault }
-    ensures lost { result ≡ Err Unsaid.DiskFault → DiskRose (D.faults disk.old) (D.faults disk.new) }
+    ensures lost { result ≡ Err Unsaid.DiskFault →
+        DiskRose (D.faults disk.old) (D.faults disk.new) }
 {
     match Store::open(alloc, disk) {
         Ok(store) => or_silent(asked::<R, D, Store, G>(

@@ -42,7 +42,8 @@ fn clauses(alloc: Global, lang: &Language, network: &Network) -> Result<Said, Me
 /// What `cnf` says of a keeper's session, in whatever state it is.
 pub(crate) fn printed<D: Disk, P: Keep<D>>(alloc: Global, keep: &P) -> Result<Said, Memory>
     requires { P.sound keep.now }
-    ensures { IfOk result (SaysAsked Ask.Cnf (opened_as (P.plan keep.now) (P.voc keep.now) (P.record_of keep.now) (P.lang keep.now))) }
+    ensures { IfOk result (SaysAsked Ask.Cnf
+        (opened_as (P.plan keep.now) (P.voc keep.now) (P.record_of keep.now) (P.lang keep.now))) }
 {
     // a law: the models of the clauses are the solutions
     clauses_encode();

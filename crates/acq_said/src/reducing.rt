@@ -44,7 +44,8 @@ pub(crate) fn reduced<D: Disk, P: Keep<D>>(
 ) -> Result<Said, Memory>
     requires sound { P.sound keep.now }
     requires budget { IsBudget budget }
-    ensures { IfOk result (SaysAsked (Reduce budget) (opened_as (P.plan keep.now) (P.voc keep.now) (P.record_of keep.now) (P.lang keep.now))) }
+    ensures { IfOk result (SaysAsked (Reduce budget)
+        (opened_as (P.plan keep.now) (P.voc keep.now) (P.record_of keep.now) (P.lang keep.now))) }
 {
     let (lang, network) = learned_by::<D, P>(keep);
     let Ok(mut work) = Work::new(alloc, lang) else {

@@ -12,7 +12,8 @@ use language::Memory;
 use std::alloc::Global;
 use std::marker::Model;
 
-/// A text, and how the command ends where the output takes it. The ending is no fault, and no want of memory.
+/// A text, and how the command ends where the output takes it. The ending is no fault, and no want
+/// of memory.
 #[derive(Drop)]
 pub struct Said {
     text: String,

@@ -1,6 +1,7 @@
 //! What is shown of a session.
 
-ghost use Rattle.std.specs.Prelude.{◌≡◌, ◌++◌, ◌<◌, List, All, codes, filter, if◌then◌else◌, length, IfOk, OnOk};
+ghost use Rattle.std.specs.Prelude.{◌≡◌, ◌++◌, ◌<◌, List, All, codes, filter, if◌then◌else◌};
+ghost use Rattle.std.specs.Prelude.{length, IfOk, OnOk};
 ghost use Rattle.std.specs.String.{string_bytes};
 ghost use Rattle.assign.specs.Events.{Answer};
 ghost use Rattle.language.specs.Language.{variable_count};
@@ -10,9 +11,11 @@ ghost use Rattle.session_core.specs.Standing.{Stands, knowledge_of, open_in};
 ghost use Rattle.session_laws.specs.Session.{state_after};
 ghost use Rattle.session_store.specs.Held.{IsWide};
 ghost use Rattle.session_store.specs.Opened.{opened_as};
-ghost use Rattle.session_store.specs.Replay.{IsAnswer, seen, answer_in, answer_to, standing_numbers};
+ghost use Rattle.session_store.specs.Replay.{IsAnswer, seen, answer_in, answer_to};
+ghost use Rattle.session_store.specs.Replay.{standing_numbers};
 ghost use Rattle.acq_said.specs.Asks.{SaysAsked};
-ghost use Rattle.acq_said.specs.Shows.{plan_words, answer_line, answer_lines, back_line, is_back, reading_text, show_text};
+ghost use Rattle.acq_said.specs.Shows.{plan_words, answer_line, answer_lines, back_line, is_back};
+ghost use Rattle.acq_said.specs.Shows.{reading_text, show_text};
 
 use crate::ask::Ask;
 use crate::said::Said;
@@ -43,7 +46,9 @@ fn said_word(yes: bool) -> &'static str
 
 /// Where a session stands. None of its questions is new.
 fn state_word(session: &Session) -> &'static str
-    ensures { (t : List Answer) → let k = knowledge_of session.now in Stands session.now t → IsSettled k.lang k.plan t (open_in session.now) → result.now ≡ reading_text (state_after k.lang k.plan t) }
+    ensures { (t : List Answer) → let k = knowledge_of session.now in
+        Stands session.now t → IsSettled k.lang k.plan t (open_in session.now) →
+        result.now ≡ reading_text (state_after k.lang k.plan t) }
 {
     match session {
         Session::Idle(_) => "idle",
@@ -65,7 +70,8 @@ fn push_answer(
     yes: bool,
 ) -> Result<(), Memory>
     requires { length question.now ≡ 128 }
-    ensures { OnOk result (string_bytes text.new ≡ string_bytes text.old ++ answer_line lang.now k (seen (variable_count lang.now) (answer_to question.now «yes»))) }
+    ensures { OnOk result (string_bytes text.new ≡ string_bytes text.old
+        ++ answer_line lang.now k (seen (variable_count lang.now) (answer_to question.now «yes»))) }
 {
     let cut = question.cut_to(lang.n());
     let line = lang.question_text(alloc, k, &cut)?;
@@ -86,7 +92,8 @@ fn push_event(
 ) -> Result<(), Memory>
     requires wide { IsWide event.now }
     requires answer { IsAnswer event.now }
-    ensures { OnOk result (string_bytes text.new ≡ string_bytes text.old ++ answer_line lang.now k (seen (variable_count lang.now) (answer_in event.now))) }
+    ensures { OnOk result (string_bytes text.new ≡ string_bytes text.old
+        ++ answer_line lang.now k (seen (variable_count lang.now) (answer_in event.now))) }
 {
     match event {
         Event::Answer { question, yes } => push_answer(alloc, text, lang, k, question, *yes),
@@ -104,7 +111,8 @@ fn event_lines(
     requires wide { All IsWide events.now }
     requires few { length events.now < 1000000 }
     requires records { records.now ≡ standing_numbers events.now }
-    ensures { IfOk result (λ text. string_bytes text ≡ answer_lines lang.now 1 (standing_on lang.now events.now)) }
+    ensures { IfOk result
+        (λ text. string_bytes text ≡ answer_lines lang.now 1 (standing_on lang.now events.now)) }
 {
     let mut text = String::new(alloc);
     for (i, record) in records.iter().enumerate() {
@@ -140,10 +148,13 @@ fn back_line(alloc: Global, backs: usize) -> Result<String, AllocError>
 /// What is shown of a session and the events that led to it.
 fn show_text(alloc: Global, session: &Session, events: &[Event]) -> Result<String, Memory>
     requires stands { Stands session.now (standing_on (knowledge_of session.now).lang events.now) }
-    requires settled { IsSettled (knowledge_of session.now).lang (knowledge_of session.now).plan (standing_on (knowledge_of session.now).lang events.now) (open_in session.now) }
+    requires settled { IsSettled (knowledge_of session.now).lang (knowledge_of session.now).plan
+        (standing_on (knowledge_of session.now).lang events.now) (open_in session.now) }
     requires wide { All IsWide events.now }
     requires few { length events.now < 1000000 }
-    ensures { let k = knowledge_of session.now in IfOk result (λ text. string_bytes text ≡ show_text k.lang k.plan (standing_on k.lang events.now) (length (filter is_back events.now)) k.network.list) }
+    ensures { let k = knowledge_of session.now in
+        IfOk result (λ text. string_bytes text ≡ show_text k.lang k.plan
+        (standing_on k.lang events.now) (length (filter is_back events.now)) k.network.list) }
 {
     let lang = session.lang();
     let plan = plan_word(session.plan());
@@ -179,8 +190,10 @@ fn show_text(alloc: Global, session: &Session, events: &[Event]) -> Result<Strin
 /// What `show` says of a keeper's session. None of its questions is new.
 pub(crate) fn shown<D: Disk, P: Keep<D>>(alloc: Global, keep: &P) -> Result<Said, Memory>
     requires sound { P.sound keep.now }
-    requires settled { IsSettled (P.lang keep.now) (P.plan keep.now) (standing_on (P.lang keep.now) (P.record_of keep.now)) (P.question keep.now) }
-    ensures { IfOk result (SaysAsked Ask.Show (opened_as (P.plan keep.now) (P.voc keep.now) (P.record_of keep.now) (P.lang keep.now))) }
+    requires settled { IsSettled (P.lang keep.now) (P.plan keep.now)
+        (standing_on (P.lang keep.now) (P.record_of keep.now)) (P.question keep.now) }
+    ensures { IfOk result (SaysAsked Ask.Show
+        (opened_as (P.plan keep.now) (P.voc keep.now) (P.record_of keep.now) (P.lang keep.now))) }
 {
     let session = keep.session();
     let events = keep.events();

@@ -36,7 +36,8 @@ fn solution(alloc: Global, lang: &Language, e: &Partial) -> Result<Said, Memory>
 
 /// Says why a model is refused.
 fn refused_model(alloc: Global, fault: ModelFault) -> Result<Said, Memory>
-    ensures { IfOk result (λ said. said ≡ saying (model_fault_line fault) (Ending.ModelRefused fault)) }
+    ensures { IfOk result
+        (λ said. said ≡ saying (model_fault_line fault) (Ending.ModelRefused fault)) }
 {
     let text = model_fault_text(alloc, &fault)?;
     Ok(Said::new(text, Ending::ModelRefused(fault)))
@@ -45,7 +46,8 @@ fn refused_model(alloc: Global, fault: ModelFault) -> Result<Said, Memory>
 /// Says the solution that a model's bytes give, or why they give none.
 fn modelled(alloc: Global, lang: &Language, net: &Network, bytes: &[u8]) -> Result<Said, Memory>
     requires { IsNetwork lang.now net.now.list }
-    ensures { IfOk result (λ said. said ≡ solution_said lang.now (model_of lang.now net.now.list bytes.now)) }
+    ensures { IfOk result
+        (λ said. said ≡ solution_said lang.now (model_of lang.now net.now.list bytes.now)) }
 {
     match read_model(alloc, lang, net, bytes) {
         Ok(e) => solution(alloc, lang, &e),
@@ -54,16 +56,20 @@ fn modelled(alloc: Global, lang: &Language, net: &Network, bytes: &[u8]) -> Resu
     }
 }
 
-/// Reads a model to the end of the input, and says what it gives for the network of a keeper's session.
+/// Reads a model to the end of the input, and says what it gives for the network of a keeper's
+/// session.
 fn solved<S: Source, D: Disk, P: Keep<D>>(
     alloc: Global,
     keep: &P,
     input: &mut S,
 ) -> Result<Said, Unsaid>
     requires { P.sound keep.now }
-    ensures says { SaysOfInput 4194304 (λ read. IsSaid (solved_said read (opened_as (P.plan keep.now) (P.voc keep.now) (P.record_of keep.now) (P.lang keep.now)))) (S.left input.old) (S.left input.new) result }
+    ensures says { SaysOfInput 4194304 (λ read. IsSaid (solved_said read
+        (opened_as (P.plan keep.now) (P.voc keep.now) (P.record_of keep.now) (P.lang keep.now))))
+        (S.left input.old) (S.left input.new) result }
     ensures takes { TakesSome (S.left input.old) (S.left input.new) }
-    ensures read { HasCalled (S.faults input.old) (S.faults input.new) (S.late input.old) (S.late input.new) (result ≡ Err Unsaid.ReadFault) }
+    ensures read { HasCalled (S.faults input.old) (S.faults input.new) (S.late input.old)
+        (S.late input.new) (result ≡ Err Unsaid.ReadFault) }
     ensures no_disk { result ≢ Err Unsaid.DiskFault }
 {
     let (lang, network) = learned_by::<D, P>(keep);
@@ -75,17 +81,20 @@ fn solved<S: Source, D: Disk, P: Keep<D>>(
     }
 }
 
-/// Opens a journal, reads a model to the end of the input, and says the solution of the journal's network that it gives. Nothing
-/// is written to the journal.
+/// Opens a journal, reads a model to the end of the input, and says the solution of the journal's
+/// network that it gives. Nothing is written to the journal.
 pub fn solve_journal<S: Source, D: Disk>(
     alloc: Global,
     input: &mut S,
     disk: &mut D,
 ) -> Result<Said, Unsaid>
-    ensures says { SaysOver D.Disk (Solves (S.left input.old) (S.left input.new)) (λ o. Unit {0}) disk.old disk.new result }
+    ensures says { SaysOver D.Disk (Solves (S.left input.old) (S.left input.new))
+        (λ o. Unit {0}) disk.old disk.new result }
     ensures takes { TakesSome (S.left input.old) (S.left input.new) }
-    ensures read { HasCalled (S.faults input.old) (S.faults input.new) (S.late input.old) (S.late input.new) (result ≡ Err Unsaid.ReadFault) }
-    ensures lost { result ≡ Err Unsaid.DiskFault → DiskRose (D.faults disk.old) (D.faults disk.new) }
+    ensures read { HasCalled (S.faults input.old) (S.faults input.new) (S.late input.old)
+        (S.late input.new) (result ≡ Err Unsaid.ReadFault) }
+    ensures lost { result ≡ Err Unsaid.DiskFault →
+        DiskRose (D.faults disk.old) (D.faults disk.new) }
 {
     match Store::open(alloc, disk) {
         Ok(store) => solved::<S, D, Store>(alloc, &store, input),

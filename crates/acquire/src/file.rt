@@ -1,7 +1,8 @@
 //! A named file of the system. It tells nothing: no contract can say what a file holds.
 //!
-//! What makes a disk of it stands in `file_disk`, over any file. The model of a disk speaks of the file alone. That a new file is
-//! found again after a power failure is this adapter's care: with a write at the file's beginning it has the folder written too.
+//! What makes a disk of it stands in `file_disk`, over any file. The model of a disk speaks of the
+//! file alone. That a new file is found again after a power failure is this adapter's care: with a
+//! write at the file's beginning it has the folder written too.
 
 ghost use Rattle.std.specs.Prelude.{None, IfOk, length, ◌≤◌};
 
@@ -13,7 +14,8 @@ use std::io::ErrorKind;
 use std::path::Path;
 use std::rt::Files;
 
-/// A file by its name. It is kept open from the first write or sync on that finds it, and made at the first write.
+/// A file by its name. It is kept open from the first write or sync on that finds it, and made at
+/// the first write.
 #[derive(Drop)]
 pub struct SystemFile<'a, R: Files<File = File>> {
     rt: &'a R,
@@ -39,7 +41,8 @@ impl<'a, R: Files<File = File>> SystemFile<'a, R> {
         Ok(())
     }
 
-    /// Writes all of these bytes. A session begins at the file's beginning, and its file may be new then, so its folder is written too.
+    /// Writes all of these bytes. A session begins at the file's beginning, and its file may be new
+    /// then, so its folder is written too.
     fn write_whole(&mut self, at: u64, bytes: &[u8]) -> Result<(), Failed> {
         self.find(true)?;
         let Some(file) = &self.file else {
@@ -52,8 +55,9 @@ impl<'a, R: Files<File = File>> SystemFile<'a, R> {
         Ok(())
     }
 
-    /// Has the file's entry in its folder written, where the system offers that. A folder that may be written in and not read
-    /// can't be synced, and on some file systems none can: that is no fault.
+    /// Has the file's entry in its folder written, where the system offers that. A folder that may
+    /// be written in and not read can't be synced, and on some file systems none can: that is no
+    /// fault.
     fn sync_folder(&self) -> Result<(), Failed> {
         let folder = match File::open(self.rt, folder_of(self.name)) {
             Ok(folder) => folder,

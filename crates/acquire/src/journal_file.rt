@@ -16,7 +16,8 @@ const INPUT: &str = "/proc/self/fd/0";
 
 const OUTPUT: &str = "/proc/self/fd/1";
 
-/// A regular file, open for reading and writing, that is no standard stream. A contract sees its descriptor.
+/// A regular file, open for reading and writing, that is no standard stream. A contract sees its
+/// descriptor.
 #[derive(Drop)]
 pub struct JournalFile {
     file: File,
@@ -38,9 +39,10 @@ impl Model for JournalFile {
 }
 
 impl JournalFile {
-    /// Opens the file of this name, or makes one, where there may be none yet. None says that there is none. Whatever isn't a
-    /// regular file is refused, and so is the file that standard input or standard output leads to: what the program prints
-    /// would be written over the journal, or the journal be read as its answers.
+    /// Opens the file of this name, or makes one, where there may be none yet. None says that there
+    /// is none. Whatever isn't a regular file is refused, and so is the file that standard input or
+    /// standard output leads to: what the program prints would be written over the journal, or the
+    /// journal be read as its answers.
     pub fn open<R: Files<File = File>>(
         rt: &R,
         name: &str,
@@ -67,8 +69,8 @@ impl JournalFile {
         }))
     }
 
-    /// How many bytes it has. It fails where its name leads to it no more, since whoever opens that name wouldn't find what is
-    /// written from then on.
+    /// How many bytes it has. It fails where its name leads to it no more, since whoever opens that
+    /// name wouldn't find what is written from then on.
     pub fn length<R: Files<File = File>>(&self, rt: &R, name: &str) -> Result<u64, Failed> {
         let Ok(about) = rt.metadata(name) else {
             return Err(Failed);
@@ -79,7 +81,8 @@ impl JournalFile {
         Ok(about.len())
     }
 
-    /// Reads some bytes from this place on, none at the end, and again where a signal interrupts the call.
+    /// Reads some bytes from this place on, none at the end, and again where a signal interrupts
+    /// the call.
     pub fn read_some(&self, at: u64, buf: &mut [u8]) -> Result<usize, Failed>
         ensures { IfOk result (λ n. n ≤ length buf.old) }
     {
@@ -110,8 +113,8 @@ impl JournalFile {
     }
 }
 
-/// The same file under a descriptor above 2. The system gives the least number that is free, which is that of a standard stream
-/// where the program was started with that one closed.
+/// The same file under a descriptor above 2. The system gives the least number that is free, which
+/// is that of a standard stream where the program was started with that one closed.
 fn above_streams(file: File) -> Result<File, Failed>
     ensures { IfOk result (λ file. pos 2 <ℤ file_raw_fd file) }
 {

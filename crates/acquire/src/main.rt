@@ -35,8 +35,8 @@ fn words_of(rt: &(impl Env + AllocGlobal)) -> Option<Vec<String>> {
     Some(words)
 }
 
-/// Where the journal is. In memory too where the words are refused, which `acquire` tells. None where there is no memory to
-/// read them.
+/// Where the journal is. In memory too where the words are refused, which `acquire` tells. None
+/// where there is no memory to read them.
 fn place_of(alloc: Global, words: &[String]) -> Option<JournalPlace> {
     match read_words(alloc, words) {
         Ok(request) => Some(request.journal),
@@ -45,8 +45,8 @@ fn place_of(alloc: Global, words: &[String]) -> Option<JournalPlace> {
     }
 }
 
-/// Says on standard error what failed, where the ending is a fault of the system, of which the output says nothing. Where that can't
-/// be written either, nobody is told.
+/// Says on standard error what failed, where the ending is a fault of the system, of which the
+/// output says nothing. Where that can't be written either, nobody is told.
 fn tell_fault(rt: &HostRuntime, ending: Ending, journal: &str) {
     let _ = match ending {
         Ending::ReadFault => rt.eprintln("acquire: the input can't be read"),

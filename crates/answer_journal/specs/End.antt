@@ -1,5 +1,6 @@
 -- Where a journal stands, and on which disk.
-use Rattle.std.specs.Prelude.{ℕ, ◌+◌, ◌<◌, ◌≡◌, ◌⊎◌, Bool, true, false, IsTrue, IsFalse, List, [], ◌∷◌, ◌++◌, length}
+use Rattle.std.specs.Prelude.{ℕ, ◌+◌, ◌<◌, ◌≡◌, ◌⊎◌, Bool, true, false, IsTrue, IsFalse, List, []}
+use Rattle.std.specs.Prelude.{◌∷◌, ◌++◌, length}
 use Rattle.std.specs.Option.{ForSome}
 use Rattle.assign.specs.declared.events.Plan.{Plan}
 use Rattle.assign.specs.declared.events.Event.{Event}
@@ -31,8 +32,8 @@ pub record Sits (place : End) (bytes : List ℕ) : Type 0 where
   pub count : place.records ≡ length (events_among records) + 1
   pub raised : place.raised ≡ is_raised_after false records
 
--- The journal may be written. Where the disk tells, the journal stands behind all records of what it tells, and a crash leaves
--- nothing else.
+-- The journal may be written. Where the disk tells, the journal stands behind all records of what
+-- it tells, and a crash leaves nothing else.
 pub record IsInPlace {D : Type 0} (disk : DiskOf D) (place : End) (now : D) : Type 0 where
   pub live : IsTrue place.live
   pub sits : ForSome (disk.content now) (Sits place)
@@ -69,20 +70,27 @@ pub record MayBeAdded (place : End) (r : Record) : Type 0 where
 
 -- with what a record adds
 abbrev pub HasAdded : List ℕ → Record → List ℕ → Type 0
-HasAdded old r new = (plan : Plan) (voc : List ℕ) (events : List Event) → Spells old plan voc events → Spells new plan voc (with_record events r)
+HasAdded old r new = (plan : Plan) (voc : List ℕ) (events : List Event) →
+    Spells old plan voc events → Spells new plan voc (with_record events r)
 
 -- with what a record adds, or without it
 abbrev pub IsOldOrAdded : List ℕ → Record → List ℕ → Type 0
-IsOldOrAdded old r new = (plan : Plan) (voc : List ℕ) (events : List Event) → Spells old plan voc events → Spells new plan voc events ⊎ Spells new plan voc (with_record events r)
+IsOldOrAdded old r new = (plan : Plan) (voc : List ℕ) (events : List Event) →
+    Spells old plan voc events →
+    Spells new plan voc events ⊎ Spells new plan voc (with_record events r)
 
 -- with the event as its last
 abbrev pub HasNew : List ℕ → Event → List ℕ → Type 0
-HasNew old event new = (plan : Plan) (voc : List ℕ) (events : List Event) → Spells old plan voc events → Spells new plan voc (events ++ event ∷ [])
+HasNew old event new = (plan : Plan) (voc : List ℕ) (events : List Event) →
+    Spells old plan voc events → Spells new plan voc (events ++ event ∷ [])
 
 -- with the event as its last or without it
 abbrev pub IsOldOrNew : List ℕ → Event → List ℕ → Type 0
-IsOldOrNew old event new = (plan : Plan) (voc : List ℕ) (events : List Event) → Spells old plan voc events → Spells new plan voc events ⊎ Spells new plan voc (events ++ event ∷ [])
+IsOldOrNew old event new = (plan : Plan) (voc : List ℕ) (events : List Event) →
+    Spells old plan voc events →
+    Spells new plan voc events ⊎ Spells new plan voc (events ++ event ∷ [])
 
 -- as it was
 abbrev pub IsSame : List ℕ → List ℕ → Type 0
-IsSame old new = (plan : Plan) (voc : List ℕ) (events : List Event) → Spells old plan voc events → Spells new plan voc events
+IsSame old new = (plan : Plan) (voc : List ℕ) (events : List Event) → Spells old plan voc events →
+    Spells new plan voc events

@@ -1,5 +1,6 @@
 -- The bytes of a journal's records.
-use Rattle.std.specs.Prelude.{ℕ, List, [], ◌∷◌, ◌++◌, Some, None, length, flat_map, if◌then◌else◌, Bool, suc, ◌+◌}
+use Rattle.std.specs.Prelude.{ℕ, List, [], ◌∷◌, ◌++◌, Some, None, length, flat_map, if◌then◌else◌}
+use Rattle.std.specs.Prelude.{Bool, suc, ◌+◌}
 use Rattle.std.specs.Int.{w32, to_be_bytes}
 use Rattle.assign.specs.declared.events.Plan.{Plan}
 use Rattle.assign.specs.declared.events.Plan.TheVariants.{Scopes, Quacq, Multi}

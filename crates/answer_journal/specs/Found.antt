@@ -1,5 +1,6 @@
 -- What is found in the bytes behind a session's record, and in a whole file.
-use Rattle.std.specs.Prelude.{ℕ, ◌+◌, ◌<◌, ◌≤◌, ◌≡◌, IsFalse, Bool, false, List, ◌∷◌, ◌++◌, length, flat_map}
+use Rattle.std.specs.Prelude.{ℕ, ◌+◌, ◌<◌, ◌≤◌, ◌≡◌, IsFalse, Bool, false, List, ◌∷◌, ◌++◌, length}
+use Rattle.std.specs.Prelude.{flat_map}
 use Rattle.assign.specs.declared.events.Event.{Event}
 use Rattle.answer_journal.specs.declared.fault.JFault.{JFault}
 use Rattle.answer_journal.specs.declared.fault.JFault.TheVariants as faults
@@ -8,11 +9,13 @@ use Rattle.answer_journal.specs.declared.pieces.Reached.TheVariants.{Closed, Fur
 use Rattle.answer_journal.specs.declared.record.Record.{Record}
 use Rattle.answer_journal.specs.Format.{MOST_RECORDS, record_bytes}
 use Rattle.answer_journal.specs.Records.{events_among, is_raised_after, AreInOrder}
-use Rattle.answer_journal.specs.Journal.{IsClosedAfter, HasGateBehind, ReadsAs, NoSession, NotAJournal, TooManyRecords, Damaged}
+use Rattle.answer_journal.specs.Journal.{IsClosedAfter, HasGateBehind, ReadsAs, NoSession}
+use Rattle.answer_journal.specs.Journal.{NotAJournal, TooManyRecords, Damaged}
 use Rattle.answer_journal.specs.Unique.{Stuck}
 
 -- The records that were read from a start up to a place, with these events.
-pub record AreRecordsRead (records : List Record) (start at : ℕ) (events : List Event) (raised : Bool) : Type 0 where
+pub record AreRecordsRead (records : List Record) (start at : ℕ) (events : List Event)
+    (raised : Bool) : Type 0 where
   pub in_order : AreInOrder false records
   pub few : length events < MOST_RECORDS
   pub are : events_among records ≡ events
@@ -21,7 +24,8 @@ pub record AreRecordsRead (records : List Record) (start at : ℕ) (events : Lis
 
 -- These events were read from a start up to a place.
 abbrev pub WereRead : ℕ → ℕ → List Event → Bool → Type 0
-WereRead start at events raised = (records : List Record) × AreRecordsRead records start at events raised
+WereRead start at events raised = (records : List Record)
+    × AreRecordsRead records start at events raised
 
 -- These records stand here, and then the rest, which begins with a gate.
 pub record BeginsWith (bytes : List ℕ) (records : List Record) (rest : List ℕ) : Type 0 where
@@ -29,13 +33,15 @@ pub record BeginsWith (bytes : List ℕ) (records : List Record) (rest : List �
   pub is : bytes ≡ flat_map record_bytes records ++ rest
 
 -- These events stand here up to a closed gate at this place.
-pub record HasEvents (start at : ℕ) (events : List Event) (raised : Bool) (bytes : List ℕ) : Type 0 where
+pub record HasEvents (start at : ℕ) (events : List Event) (raised : Bool) (bytes : List ℕ) :
+    Type 0 where
   pub records : List Record
   pub read : AreRecordsRead records start at events raised
   pub rest : IsClosedAfter (flat_map record_bytes records) bytes
 
 -- These events stand here up to a gate at this place.
-pub record ReachesGate (start at : ℕ) (events : List Event) (raised : Bool) (bytes : List ℕ) : Type 0 where
+pub record ReachesGate (start at : ℕ) (events : List Event) (raised : Bool) (bytes : List ℕ) :
+    Type 0 where
   pub records : List Record
   pub rest : List ℕ
   pub read : AreRecordsRead records start at events raised

@@ -14,9 +14,10 @@ pub record IsClosedAfter (front bytes : List ℕ) : Type 0 where
   pub closed : gate ≢ 1
   pub is : bytes ≡ front ++ gate ∷ behind
 
--- The bytes are those of a session and these records: with the session's, and without the one that raises the journal,
--- at most 1,000,000.
-pub record HoldsRecords (bytes : List ℕ) (plan : Plan) (voc : List ℕ) (records : List Record) : Type 0 where
+-- The bytes are those of a session and these records: with the session's, and without the one that
+-- raises the journal, at most 1,000,000.
+pub record HoldsRecords (bytes : List ℕ) (plan : Plan) (voc : List ℕ) (records : List Record) :
+    Type 0 where
   pub session : IsStorableSession plan voc
   pub in_order : AreInOrder false records
   pub few : length (events_among records) < MOST_RECORDS
@@ -48,12 +49,16 @@ front_bytes (Records plan voc records) = written plan voc records
 -- in order, and at most 1,000,000 of them without the one that raises the journal
 abbrev pub IsFront : Front → Type 0
 IsFront Bare = Unit {0}
-IsFront (Records plan voc records) = (IsStorableSession plan voc) × AreInOrder false records × (length (events_among records) < MOST_RECORDS)
+IsFront (Records plan voc records) = (IsStorableSession plan voc) × AreInOrder false records
+    × (length (events_among records) < MOST_RECORDS)
 
 -- one whole record more, and a gate behind it
 abbrev pub HasNextRecord : Front → List ℕ → Type 0
-HasNextRecord Bare bytes = (plan : Plan) × (voc : List ℕ) × (IsStorableSession plan voc) × HasGateBehind (written plan voc []) bytes
-HasNextRecord (Records plan voc records) bytes = (r : Record) × MayFollow (is_raised_after false records) r × HasGateBehind (written plan voc (records ++ r ∷ [])) bytes
+HasNextRecord Bare bytes = (plan : Plan) × (voc : List ℕ) × (IsStorableSession plan voc)
+    × HasGateBehind (written plan voc []) bytes
+HasNextRecord (Records plan voc records) bytes =
+    (r : Record) × MayFollow (is_raised_after false records) r
+    × HasGateBehind (written plan voc (records ++ r ∷ [])) bytes
 
 -- the open gate at this byte isn't followed by a whole record and a gate
 pub record IsDamagedAt (at : ℕ) (bytes : List ℕ) : Type 0 where
@@ -64,7 +69,8 @@ pub record IsDamagedAt (at : ℕ) (bytes : List ℕ) : Type 0 where
   pub is : bytes ≡ front_bytes front ++ 1 ∷ behind
   pub no_record : HasNextRecord front bytes → ⊥
 
--- more whole records than the greatest number, without the one that raises the journal, each with a gate behind it
+-- more whole records than the greatest number, without the one that raises the journal, each with a
+-- gate behind it
 pub record HasTooManyRecords (bytes : List ℕ) : Type 0 where
   pub plan : Plan
   pub voc : List ℕ

@@ -10,4 +10,5 @@ EachHasAReading = (bytes : List ℕ) → (r : Reading) × ReadsAs bytes r
 
 -- over each list of bytes a journal is made, or refused for what they are
 abbrev pub EachIsFreeOrRefused : Type 0
-EachIsFreeOrRefused = (bytes : List ℕ) → HasNoSession bytes ⊎ CreateRefused bytes SessionThere ⊎ CreateRefused bytes NotAJournal
+EachIsFreeOrRefused = (bytes : List ℕ) → HasNoSession bytes ⊎ CreateRefused bytes SessionThere
+    ⊎ CreateRefused bytes NotAJournal

@@ -16,7 +16,8 @@ IsCreating before plan voc bytes = before bytes ⊎ HasNoSession bytes ⊎ Start
 
 -- why no journal is made
 abbrev pub CreateRefused : List ℕ → JFault → Type 0
-CreateRefused bytes faults.SessionThere = (9 < length bytes) × (take 8 bytes ≡ MAGIC) × (slice_index bytes 8 ≡ 1)
+CreateRefused bytes faults.SessionThere = (9 < length bytes) × (take 8 bytes ≡ MAGIC)
+    × (slice_index bytes 8 ≡ 1)
 CreateRefused bytes faults.NotAJournal = (9 < length bytes) × (take 8 bytes ≢ MAGIC)
 CreateRefused bytes faults.Memory = HasNoSession bytes
 CreateRefused bytes faults.DiskFault = Unit {0}

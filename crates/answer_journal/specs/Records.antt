@@ -32,7 +32,8 @@ abbrev pub HasPlace : Bool → Event → Type 0
 HasPlace raised (Answer question said) = Unit {0}
 HasPlace raised Back = IsTrue raised
 
--- What may stand next: an event, a take-back only where the journal is raised, and what raises it only where it isn't.
+-- What may stand next: an event, a take-back only where the journal is raised, and what raises it
+-- only where it isn't.
 abbrev pub MayFollow : Bool → Record → Type 0
 MayFollow raised (Added event) = IsStorableEvent event × HasPlace raised event
 MayFollow raised Raising = IsFalse raised

@@ -1,6 +1,7 @@
 //! Making a journal.
 
-ghost use Rattle.std.specs.Prelude.{◌≡◌, ◌≤◌, ◌⊎◌, List, [], ◌∷◌, ◌++◌, ℕ, IsFalse, IfOk, IfErr, IsErrOf, OnOk, length};
+ghost use Rattle.std.specs.Prelude.{◌≡◌, ◌≤◌, ◌⊎◌, List, [], ◌∷◌, ◌++◌, ℕ, IsFalse, IfOk, IfErr};
+ghost use Rattle.std.specs.Prelude.{IsErrOf, OnOk, length};
 ghost use Rattle.std.specs.Option.{ForSome};
 ghost use Rattle.disk_model.specs.Disk.{Only, Rose, HasCause};
 ghost use Rattle.disk_model.specs.Moments.{LeavesBehind, IsOnlyRead};
@@ -17,11 +18,13 @@ use assign::Plan;
 use disk_model::{Disk, Failed};
 use std::alloc::{AllocError, Global};
 
-/// Makes a journal on a file that holds none: with this plan, these bytes of a vocabulary, and no event.
+/// Makes a journal on a file that holds none: with this plan, these bytes of a vocabulary, and no
+/// event.
 ///
-/// `NotAJournal` and `SessionThere` are told by the first nine bytes. All memory is taken before the first write. Where the
-/// file was longer, its old bytes stay behind the new end; nothing is cut off. After `DiskFault` a file that had no session
-/// may have none or the new one, and any other is as it was.
+/// `NotAJournal` and `SessionThere` are told by the first nine bytes. All memory is taken before
+/// the first write. Where the file was longer, its old bytes stay behind the new end; nothing is
+/// cut off. After `DiskFault` a file that had no session may have none or the new one, and any
+/// other is as it was.
 pub fn create<D: Disk>(
     alloc: Global,
     disk: &mut D,
@@ -29,9 +32,10 @@ pub fn create<D: Disk>(
     voc: &[u8],
 ) -> Result<Journal, JFault>
     requires short { length voc.now ≤ 4194304 }
-    // After `Ok` there is the new session. A crash at any moment leaves what it might have left before, or no session, or the
-    // new one with no event.
-    ensures leaves { LeavesBehind D.Disk 9 disk.old disk.new result (λ _. StartsWith plan voc.now) (λ _. IsCreating (D.may_leave disk.old) plan voc.now) }
+    // After `Ok` there is the new session. A crash at any moment leaves what it might have left
+    // before, or no session, or the new one with no event.
+    ensures leaves { LeavesBehind D.Disk 9 disk.old disk.new result (λ _. StartsWith plan voc.now)
+        (λ _. IsCreating (D.may_leave disk.old) plan voc.now) }
     ensures there { IfOk result (λ j. IsInPlace D.Disk j disk.new) }
     ensures records { IfOk result (λ j. j.records ≡ 1) }
     ensures not_raised { IfOk result (λ j. IsFalse j.raised) }
@@ -41,12 +45,15 @@ pub fn create<D: Disk>(
     ensures refused { ForSome (D.content disk.old) (λ bytes. IfErr result (CreateRefused bytes)) }
     // where the disk tells nothing, by what some bytes say
     ensures some_refusal { IfErr result (λ e. (bytes : List ℕ) × CreateRefused bytes e) }
-    ensures failed { IsErrOf result JFault.DiskFault → Rose (D.faults disk.old) (D.faults disk.new) }
+    ensures failed { IsErrOf result JFault.DiskFault →
+        Rose (D.faults disk.old) (D.faults disk.new) }
 
-    // Where the disk didn't fail, a refusal leaves the file and each content of a crash as they were. Where the file holds a
-    // session or is no journal, it leaves them so whatever failed.
-    ensures untouched { IfErr result (λ e. (e ≡ JFault.DiskFault) ⊎ IsOnlyRead D.Disk disk.old disk.new) }
-    ensures spared { ForSome (D.content disk.old) (λ bytes. HasNoSession bytes ⊎ IsOnlyRead D.Disk disk.old disk.new) }
+    // Where the disk didn't fail, a refusal leaves the file and each content of a crash as they
+    // were. Where the file holds a session or is no journal, it leaves them so whatever failed.
+    ensures untouched { IfErr result (λ e. (e ≡ JFault.DiskFault)
+        ⊎ IsOnlyRead D.Disk disk.old disk.new) }
+    ensures spared { ForSome (D.content disk.old) (λ bytes. HasNoSession bytes
+        ⊎ IsOnlyRead D.Disk disk.old disk.new) }
 {
     let (head, _) = head_of(disk)?;
     match head {
@@ -65,7 +72,8 @@ fn empty<D: Disk>(disk: &mut D, head: Head) -> Result<(), Failed>
     requires head { ForSome (D.content disk.old) (λ bytes. IsHead bytes head) }
     requires free { (head ≡ Head.Short) ⊎ (head ≡ Head.Closed) }
     requires durable { ForSome (D.content disk.old) (λ bytes. Only bytes (D.may_leave disk.old)) }
-    ensures leaves { LeavesBehind D.Disk 2 disk.old disk.new result (λ _. IsClosedAfter MAGIC) (λ _. HasNoSession) }
+    ensures leaves { LeavesBehind D.Disk 2 disk.old disk.new result (λ _. IsClosedAfter MAGIC)
+        (λ _. HasNoSession) }
     ensures cause { HasCause (D.faults disk.old) (D.faults disk.new) result }
 {
     match head {

@@ -1,9 +1,11 @@
 //! Records, read from the bytes behind their gate.
 
-ghost use Rattle.std.specs.Prelude.{◌≡◌, ◌≢◌, ◌<◌, ◌≤◌, ◌^◌, ℕ, Bool, List, Option, [], ◌∷◌, ◌++◌, IfSome, IfNone, IsTrue, IsFalse, length};
+ghost use Rattle.std.specs.Prelude.{◌≡◌, ◌≢◌, ◌<◌, ◌≤◌, ◌^◌, ℕ, Bool, List, Option, [], ◌∷◌, ◌++◌};
+ghost use Rattle.std.specs.Prelude.{IfSome, IfNone, IsTrue, IsFalse, length};
 ghost use Rattle.assign.specs.declared.events.Plan.{Plan};
 ghost use Rattle.answer_journal.specs.Storable.{IsStorableSession, IsStorable};
-ghost use Rattle.answer_journal.specs.Format.{tail_bytes, plan_byte, said_byte, answer_payload, session_tail, kind_byte, record_payload, record_tail};
+ghost use Rattle.answer_journal.specs.Format.{tail_bytes, plan_byte, said_byte, answer_payload};
+ghost use Rattle.answer_journal.specs.Format.{session_tail, kind_byte, record_payload, record_tail};
 ghost use Rattle.answer_journal.specs.Records.{MayFollow};
 ghost use Rattle.answer_journal.specs.Pairs.{options_at};
 
@@ -15,8 +17,10 @@ const MOST_VOCABULARY: usize = 4_194_304;
 
 /// The kind and the payload of a record, and what stands from the next gate on.
 fn parts_of(bytes: &[u8]) -> Option<(u8, &[u8], &[u8])>
-    ensures found { IfSome result (λ p. (length p.1.now < 2 ^ 32) × (bytes.now ≡ tail_bytes p.0 p.1.now ++ p.2.now) × (0 < length p.2.now)) }
-    ensures none { IfNone result ((kind : ℕ) (payload : List ℕ) (gate : ℕ) (behind : List ℕ) → length payload < 2 ^ 32 → bytes.now ≡ tail_bytes kind payload ++ gate ∷ behind → ⊥) }
+    ensures found { IfSome result (λ p. (length p.1.now < 2 ^ 32)
+        × (bytes.now ≡ tail_bytes p.0 p.1.now ++ p.2.now) × (0 < length p.2.now)) }
+    ensures none { IfNone result ((kind : ℕ) (payload : List ℕ) (gate : ℕ) (behind : List ℕ) →
+        length payload < 2 ^ 32 → bytes.now ≡ tail_bytes kind payload ++ gate ∷ behind → ⊥) }
 {
     let [kind, a, b, c, d, rest @ ..] = bytes else {
         return None;
@@ -56,7 +60,8 @@ fn question_of(pairs: &[u8]) -> Option<Partial>
 /// The question and the answer that a payload spells.
 fn answer_of(payload: &[u8]) -> Option<(Partial, bool)>
     ensures found { IfSome result (λ p. IsStorable p.0 × (payload.now ≡ answer_payload p.0 p.1)) }
-    ensures none { IfNone result ((q : List (Option ℕ)) (said : Bool) → IsStorable q → payload.now ≡ answer_payload q said → ⊥) }
+    ensures none { IfNone result ((q : List (Option ℕ)) (said : Bool) → IsStorable q →
+        payload.now ≡ answer_payload q said → ⊥) }
 {
     let [said, count, pairs @ ..] = payload else {
         return None;
@@ -85,7 +90,8 @@ fn said_of(byte: u8) -> Option<bool>
 
 /// A take-back, where the journal is raised and the payload is empty.
 fn back_of(payload: &[u8], raised: bool) -> Option<Record>
-    ensures found { IfSome result (λ r. (r ≡ Record.Added Event.Back) × IsTrue raised × (payload.now ≡ [])) }
+    ensures found { IfSome result (λ r. (r ≡ Record.Added Event.Back) × IsTrue raised
+        × (payload.now ≡ [])) }
     ensures none { IfNone result (IsTrue raised → payload.now ≡ [] → ⊥) }
 {
     if raised && payload.is_empty() {
@@ -97,7 +103,8 @@ fn back_of(payload: &[u8], raised: bool) -> Option<Record>
 
 /// What raises a journal, where it isn't raised and the payload is one byte 2.
 fn raising_of(payload: &[u8], raised: bool) -> Option<Record>
-    ensures found { IfSome result (λ r. (r ≡ Record.Raising) × IsFalse raised × (payload.now ≡ 2 ∷ [])) }
+    ensures found { IfSome result (λ r. (r ≡ Record.Raising) × IsFalse raised
+        × (payload.now ≡ 2 ∷ [])) }
     ensures none { IfNone result (IsFalse raised → payload.now ≡ 2 ∷ [] → ⊥) }
 {
     let [byte] = payload else {
@@ -112,8 +119,10 @@ fn raising_of(payload: &[u8], raised: bool) -> Option<Record>
 
 /// The record that a kind and a payload spell, where the journal is raised or where it isn't.
 fn record_in(kind: u8, payload: &[u8], raised: bool) -> Option<Record>
-    ensures found { IfSome result (λ r. MayFollow raised r × (kind ≡ kind_byte r) × (payload.now ≡ record_payload r)) }
-    ensures none { IfNone result ((r : Record) → MayFollow raised r → kind ≡ kind_byte r → payload.now ≡ record_payload r → ⊥) }
+    ensures found { IfSome result (λ r. MayFollow raised r × (kind ≡ kind_byte r)
+        × (payload.now ≡ record_payload r)) }
+    ensures none { IfNone result ((r : Record) → MayFollow raised r → kind ≡ kind_byte r →
+        payload.now ≡ record_payload r → ⊥) }
 {
     match kind {
         b'A' => {
@@ -126,21 +135,26 @@ fn record_in(kind: u8, payload: &[u8], raised: bool) -> Option<Record>
     }
 }
 
-/// The record that begins here behind its gate, where the journal is raised or where it isn't, and what stands from the next
-/// gate on.
+/// The record that begins here behind its gate, where the journal is raised or where it isn't, and
+/// what stands from the next gate on.
 pub(crate) fn record_of(bytes: &[u8], raised: bool) -> Option<(Record, &[u8])>
-    ensures found { IfSome result (λ p. MayFollow raised p.0 × (bytes.now ≡ record_tail p.0 ++ p.1.now) × (0 < length p.1.now)) }
-    ensures none { IfNone result ((r : Record) (gate : ℕ) (behind : List ℕ) → MayFollow raised r → bytes.now ≡ record_tail r ++ gate ∷ behind → ⊥) }
+    ensures found { IfSome result (λ p. MayFollow raised p.0
+        × (bytes.now ≡ record_tail p.0 ++ p.1.now) × (0 < length p.1.now)) }
+    ensures none { IfNone result ((r : Record) (gate : ℕ) (behind : List ℕ) → MayFollow raised r →
+        bytes.now ≡ record_tail r ++ gate ∷ behind → ⊥) }
 {
     let (kind, payload, rest) = parts_of(bytes)?;
     let record = record_in(kind, payload, raised)?;
     Some((record, rest))
 }
 
-/// The plan and the vocabulary that begin here behind their gate, and what stands from the next gate on.
+/// The plan and the vocabulary that begin here behind their gate, and what stands from the next
+/// gate on.
 pub(crate) fn session_of(bytes: &[u8]) -> Option<(Plan, &[u8], &[u8])>
-    ensures found { IfSome result (λ p. (IsStorableSession p.0 p.1.now) × (bytes.now ≡ session_tail p.0 p.1.now ++ p.2.now) × (0 < length p.2.now)) }
-    ensures none { IfNone result ((plan : Plan) (voc : List ℕ) (gate : ℕ) (behind : List ℕ) → IsStorableSession plan voc → bytes.now ≡ session_tail plan voc ++ gate ∷ behind → ⊥) }
+    ensures found { IfSome result (λ p. (IsStorableSession p.0 p.1.now)
+        × (bytes.now ≡ session_tail p.0 p.1.now ++ p.2.now) × (0 < length p.2.now)) }
+    ensures none { IfNone result ((plan : Plan) (voc : List ℕ) (gate : ℕ) (behind : List ℕ) →
+        IsStorableSession plan voc → bytes.now ≡ session_tail plan voc ++ gate ∷ behind → ⊥) }
 {
     let (kind, payload, rest) = parts_of(bytes)?;
     if kind != b'S' {

@@ -3,7 +3,8 @@
 ghost use Rattle.std.specs.Prelude.{◌≡◌, ◌≤◌, ◌+◌, ◌*◌, [], ◌∷◌, ◌++◌, Bool, length};
 ghost use Rattle.arrayvec.specs.ArrayVec.{array_vec_len};
 ghost use Rattle.answer_journal.specs.Storable.{IsStorable};
-ghost use Rattle.answer_journal.specs.Format.{valued_count, pairs_from, tail_bytes, answer_payload, record_tail};
+ghost use Rattle.answer_journal.specs.Format.{valued_count, pairs_from, tail_bytes, answer_payload};
+ghost use Rattle.answer_journal.specs.Format.{record_tail};
 ghost use Rattle.answer_journal.specs.Records.{MayFollow};
 
 use crate::record::Record;

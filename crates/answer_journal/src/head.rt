@@ -1,6 +1,7 @@
 //! The first bytes of a file on a disk, after a sync.
 
-ghost use Rattle.std.specs.Prelude.{◌≡◌, ◌<◌, ◌≤◌, ◌+◌, ◌^◌, ◌↔◌, length, take, List, ℕ, Some, None, IsTrue, IsErr, OnOk, IfOk};
+ghost use Rattle.std.specs.Prelude.{◌≡◌, ◌<◌, ◌≤◌, ◌+◌, ◌^◌, ◌↔◌, length, take, List, ℕ, Some};
+ghost use Rattle.std.specs.Prelude.{None, IsTrue, IsErr, OnOk, IfOk};
 ghost use Rattle.std.specs.Option.{ForSome, ForNone};
 ghost use Rattle.disk_model.specs.Disk.{Only, HasCause};
 ghost use Rattle.disk_model.specs.Moments.{IsOnlyRead};
@@ -27,10 +28,14 @@ pub(crate) enum Head {
 
 /// Syncs, and reads the length and the first bytes.
 pub(crate) fn head_of<D: Disk>(disk: &mut D) -> Result<(Head, u64), Failed>
-    ensures head { ForSome (D.content disk.old) (λ bytes. IfOk result (λ found. IsHead bytes found.0)) }
-    ensures size { ForSome (D.content disk.old) (λ bytes. IfOk result (λ found. found.1 ≡ length bytes)) }
-    ensures durable { ForSome (D.content disk.old) (λ bytes. OnOk result (Only bytes (D.may_leave disk.new))) }
-    ensures synced { ForSome (D.content disk.old) (λ bytes. IsSynced D.Disk (IsErr result) disk.old disk.new bytes) }
+    ensures head { ForSome (D.content disk.old)
+        (λ bytes. IfOk result (λ found. IsHead bytes found.0)) }
+    ensures size { ForSome (D.content disk.old)
+        (λ bytes. IfOk result (λ found. found.1 ≡ length bytes)) }
+    ensures durable { ForSome (D.content disk.old)
+        (λ bytes. OnOk result (Only bytes (D.may_leave disk.new))) }
+    ensures synced { ForSome (D.content disk.old)
+        (λ bytes. IsSynced D.Disk (IsErr result) disk.old disk.new bytes) }
     ensures only_read { IsOnlyRead D.Disk disk.old disk.new }
     ensures few_calls { D.calls disk.new ≤ D.calls disk.old + 3 }
     ensures cause { HasCause (D.faults disk.old) (D.faults disk.new) result }

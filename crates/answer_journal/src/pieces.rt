@@ -1,11 +1,15 @@
 //! The events of a journal, read from the disk in pieces.
 
-ghost use Rattle.std.specs.Prelude.{◌≡◌, ◌<◌, ◌≤◌, ◌+◌, ◌^◌, ◌++◌, ◌⊎◌, [], List, ℕ, Some, None, IsTrue, IsFalse, IsErrOf, length, drop, flat_map, All, IfOk, IfErr, OnOk, MatchResult};
+ghost use Rattle.std.specs.Prelude.{◌≡◌, ◌<◌, ◌≤◌, ◌+◌, ◌^◌, ◌++◌, ◌⊎◌, [], List, ℕ, Some, None};
+ghost use Rattle.std.specs.Prelude.{IsTrue, IsFalse, IsErrOf, length, drop, flat_map, All, IfOk};
+ghost use Rattle.std.specs.Prelude.{IfErr, OnOk, MatchResult};
 ghost use Rattle.std.specs.Option.{ForSome};
 ghost use Rattle.disk_model.specs.Disk.{Rose};
 ghost use Rattle.disk_model.specs.Moments.{IsOnlyRead};
 ghost use Rattle.answer_journal.specs.Records.{with_record, is_raised_by};
-ghost use Rattle.answer_journal.specs.Found.{AreRecordsRead, WereRead, HasEvents, BeginsWith, EventsRefused, gate_reached, IsReached, IsProgress, IsFar};
+ghost use Rattle.answer_journal.specs.Found.{AreRecordsRead, WereRead, HasEvents, BeginsWith};
+ghost use Rattle.answer_journal.specs.Found.{EventsRefused, gate_reached, IsReached, IsProgress};
+ghost use Rattle.answer_journal.specs.Found.{IsFar};
 ghost use Rattle.answer_journal.specs.Calls.{AreReadingCalls, TakesPieces};
 
 use crate::decode::record_of;
@@ -25,8 +29,8 @@ pub(crate) enum Reached {
     Further(u64),
 }
 
-/// The events that stand from the gate at `start` on, whether the journal is raised among them, and the place of the closed
-/// gate behind them. The buffer takes a piece at a time.
+/// The events that stand from the gate at `start` on, whether the journal is raised among them, and
+/// the place of the closed gate behind them. The buffer takes a piece at a time.
 pub(crate) fn events_of<D: Disk>(
     alloc: Global,
     disk: &mut D,
@@ -37,13 +41,18 @@ pub(crate) fn events_of<D: Disk>(
     requires behind { 0 < start }
     requires near { start < 2 ^ 62 }
     requires within { ForSome (D.content disk.old) (λ bytes. start < length bytes) }
-    ensures found { ForSome (D.content disk.old) (λ bytes. IfOk result (λ found. HasEvents start found.2 found.0.items found.1 (drop start bytes))) }
-    ensures refused { ForSome (D.content disk.old) (λ bytes. IfErr result (λ e. (e ≡ JFault.DiskFault) ⊎ EventsRefused start (drop start bytes) e)) }
-    ensures some_bytes { IfErr result (λ e. (e ≡ JFault.DiskFault) ⊎ ((bytes : List ℕ) × EventsRefused start bytes e)) }
+    ensures found { ForSome (D.content disk.old) (λ bytes.
+        IfOk result (λ found. HasEvents start found.2 found.0.items found.1 (drop start bytes))) }
+    ensures refused { ForSome (D.content disk.old) (λ bytes.
+        IfErr result (λ e. (e ≡ JFault.DiskFault) ⊎ EventsRefused start (drop start bytes) e)) }
+    ensures some_bytes { IfErr result (λ e. (e ≡ JFault.DiskFault)
+        ⊎ ((bytes : List ℕ) × EventsRefused start bytes e)) }
     ensures read { IfOk result (λ found. WereRead start found.2 found.0.items found.1) }
-    ensures failed { IsErrOf result JFault.DiskFault → Rose (D.faults disk.old) (D.faults disk.new) }
+    ensures failed { IsErrOf result JFault.DiskFault →
+        Rose (D.faults disk.old) (D.faults disk.new) }
     ensures only_read { IsOnlyRead D.Disk disk.old disk.new }
-    ensures few_calls { ForSome (D.content disk.old) (λ bytes. TakesPieces (length buffer.old) bytes → AreReadingCalls 1 (D.calls disk.old) (D.calls disk.new) bytes) }
+    ensures few_calls { ForSome (D.content disk.old) (λ bytes. TakesPieces (length buffer.old)
+        bytes → AreReadingCalls 1 (D.calls disk.old) (D.calls disk.new) bytes) }
 {
     let mut events = Vec::new(alloc);
     let mut raised = false;
@@ -58,8 +67,9 @@ pub(crate) fn events_of<D: Disk>(
     }
 }
 
-/// Adds the events of a piece that begins with the gate at `at`, up to a closed gate or to one whose record may not be
-/// whole in the piece, and notes whether the journal is raised among them. The last piece goes to the end of the file.
+/// Adds the events of a piece that begins with the gate at `at`, up to a closed gate or to one
+/// whose record may not be whole in the piece, and notes whether the journal is raised among them.
+/// The last piece goes to the end of the file.
 fn events_in(
     piece: &[u8],
     is_last: bool,
@@ -69,8 +79,14 @@ fn events_in(
 ) -> Result<Reached, JFault>
     requires near { at < 2 ^ 63 }
     requires few { length events.old.items < 1000000 }
-    ensures read { (bytes more : List ℕ) (start : ℕ) (records : List Record) → AreRecordsRead records start at events.old.items raised.old → BeginsWith bytes records (piece.now ++ more) → (IsTrue is_last → more ≡ []) → MatchResult result (IsReached start events.new.items raised.new bytes) (EventsRefused start bytes) }
-    ensures some_bytes { (start : ℕ) (records : List Record) → AreRecordsRead records start at events.old.items raised.old → MatchResult result (λ reached. WereRead start (gate_reached reached) events.new.items raised.new) (λ e. (bytes : List ℕ) × EventsRefused start bytes e) }
+    ensures read { (bytes more : List ℕ) (start : ℕ) (records : List Record) →
+        AreRecordsRead records start at events.old.items raised.old →
+        BeginsWith bytes records (piece.now ++ more) → (IsTrue is_last → more ≡ []) → MatchResult
+        result (IsReached start events.new.items raised.new bytes) (EventsRefused start bytes) }
+    ensures some_bytes { (start : ℕ) (records : List Record) →
+        AreRecordsRead records start at events.old.items raised.old → MatchResult result
+        (λ reached. WereRead start (gate_reached reached) events.new.items raised.new)
+        (λ e. (bytes : List ℕ) × EventsRefused start bytes e) }
     ensures few { OnOk result (length events.new.items < 1000000) }
     ensures progress { (IsFalse is_last → 264 < length piece.now) → IfOk result (IsProgress at) }
     ensures far { IfOk result (IsFar is_last at (length piece.now)) }
@@ -100,7 +116,8 @@ fn note(next: Record, events: &mut Vec<Event>, raised: &mut bool) -> Result<(), 
     ensures events { OnOk result (events.new.items ≡ with_record events.old.items next) }
     ensures raised { OnOk result (raised.new ≡ is_raised_by raised.old next) }
     ensures few { OnOk result (length events.new.items < 1000000) }
-    ensures refused { IfErr result (λ e. (e ≡ JFault.Memory) ⊎ ((e ≡ JFault.TooManyRecords) × (1000000 ≤ length (with_record events.old.items next)))) }
+    ensures refused { IfErr result (λ e. (e ≡ JFault.Memory)
+        ⊎ ((e ≡ JFault.TooManyRecords) × (1000000 ≤ length (with_record events.old.items next)))) }
 {
     match next {
         Record::Added(event) => {

@@ -25,8 +25,8 @@ fn first_half(set: u32) -> u32 {
     half
 }
 
-/// The halving of a set beside a base, with the replies from `at` on. So deep it goes at most. Where it asks, the base comes
-/// first.
+/// The halving of a set beside a base, with the replies from `at` on. So deep it goes at most.
+/// Where it asks, the base comes first.
 fn halve(depth: u8, base: u32, set: u32, asks: bool, replies: &[bool], at: usize) -> Halved {
     let reply = if asks { replies.get(at) } else { Some(&true) };
     let at = if asks { at.wrapping_add(1) } else { at };
@@ -73,7 +73,8 @@ pub(crate) struct Fold {
     replies: Vec<bool>,
     /// The variables that are asked about or halved.
     set: u32,
-    /// In plan Multi the example whose parts are asked about, and the sets that wait, the next last.
+    /// In plan Multi the example whose parts are asked about, and the sets that wait, the next
+    /// last.
     walked: Option<Values>,
     waiting: Vec<u32>,
     /// How many more sets may be taken.
@@ -237,7 +238,8 @@ impl Fold {
         }
     }
 
-    /// After a no to an example on a set, the set is halved. In plan Multi it waits again meanwhile.
+    /// After a no to an example on a set, the set is halved. In plan Multi it waits again
+    /// meanwhile.
     fn part_answered(
         &mut self,
         alloc: Global,

@@ -96,8 +96,8 @@ pub(crate) fn halves(alloc: Global, arguments: &str) -> Option<String> {
     Some(text)
 }
 
-/// What is found, where a set is answered no exactly where the violated one lies within it. None where the recursion stands
-/// elsewhere, or where there is no end.
+/// What is found, where a set is answered no exactly where the violated one lies within it. None
+/// where the recursion stands elsewhere, or where there is no end.
 fn found_by_both(alloc: Global, all: VarSet, violated: VarSet) -> Option<VarSet> {
     let mut replies: Vec<bool> = Vec::new(alloc);
     let mut next = start(all)?;

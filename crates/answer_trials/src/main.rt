@@ -1,14 +1,15 @@
 //! Trials of the next question and of what follows one answer. `stdin` is their table.
 //!
-//! Before a question: what is still possible, searches, and the next question. The candidates stand in plain lists (`possible`),
-//! and `outcomes` goes over all prefixes and all families of sets of values. Random searches (`searches`) and next questions
-//! (`questions`) are held against it.
+//! Before a question: what is still possible, searches, and the next question. The candidates stand
+//! in plain lists (`possible`), and `outcomes` goes over all prefixes and all families of sets of
+//! values. Random searches (`searches`) and next questions (`questions`) are held against it.
 //!
-//! After an answer: halvings beside the plain recursion, relations on a scope that are told apart, walks through the parts of an
-//! example, and sessions beside the plain fold of their answers, on small languages. `plain` is a language as lists, `fold` is
-//! the fold of the answers, written as plainly as it is said, and `playing` gives random answers, those of a network and untrue
-//! ones, to a session and to the fold. After each answer both have the same kind, network, kept candidates and open question, and
-//! the same questions may be put.
+//! After an answer: halvings beside the plain recursion, relations on a scope that are told apart,
+//! walks through the parts of an example, and sessions beside the plain fold of their answers, on
+//! small languages. `plain` is a language as lists, `fold` is the fold of the answers, written as
+//! plainly as it is said, and `playing` gives random answers, those of a network and untrue ones,
+//! to a session and to the fold. After each answer both have the same kind, network, kept
+//! candidates and open question, and the same questions may be put.
 //!
 //! Neither leans on the definitions of the proofs.
 #![tactic(auto)]

@@ -1,4 +1,5 @@
-//! The outcome of a search by plain lists of all prefixes, and of all families of sets of values or by taking values away in turn.
+//! The outcome of a search by plain lists of all prefixes, and of all families of sets of values or
+//! by taking values away in turn.
 
 ghost use Rattle.std.specs.Prelude.{◌≤◌};
 ghost use Rattle.language.specs.Language.{IsQuestion};
@@ -15,7 +16,8 @@ use std::alloc::Global;
 /// For each variable a set of values, as the bits of a byte.
 type Family = [u8; 5];
 
-/// The relation of two places that has the tuple of values x and y, of d values, where the bit d x + y is one.
+/// The relation of two places that has the tuple of values x and y, of d values, where the bit d x
+/// + y is one.
 fn relation(name: &str, accepted: u64) -> Relation<'_> {
     Relation {
         name,
@@ -24,7 +26,8 @@ fn relation(name: &str, accepted: u64) -> Relation<'_> {
     }
 }
 
-/// Some language of two or three variables and one to three values, with two relations and what they have in common.
+/// Some language of two or three variables and one to three values, with two relations and what
+/// they have in common.
 pub(crate) fn some_language(alloc: Global, numbers: &mut Numbers) -> Option<Language> {
     let n = 2 + numbers.byte_below(2);
     let d = 1 + numbers.byte_below(3);
@@ -39,7 +42,8 @@ pub(crate) fn some_language(alloc: Global, numbers: &mut Numbers) -> Option<Lang
     language_within(alloc, n, d, &ranges, &relations, None).ok()
 }
 
-/// The relation of so many places that has the tuple of values x, y and so on, of d values, where the bit of that number is one.
+/// The relation of so many places that has the tuple of values x, y and so on, of d values, where
+/// the bit of that number is one.
 fn wide_relation<'a>(numbers: &mut Numbers, name: &'a str, arity: u8) -> Relation<'a> {
     let high = u128::from(numbers.below(1 << 31)) << 31 | u128::from(numbers.below(1 << 31));
     let low = u128::from(numbers.below(1 << 31)) << 31 | u128::from(numbers.below(1 << 31));
@@ -52,7 +56,8 @@ fn wide_relation<'a>(numbers: &mut Numbers, name: &'a str, arity: u8) -> Relatio
     }
 }
 
-/// Some language of four variables and two or three values, or of five and two, with three relations of one to four places.
+/// Some language of four variables and two or three values, or of five and two, with three
+/// relations of one to four places.
 pub(crate) fn some_wide_language(alloc: Global, numbers: &mut Numbers) -> Option<Language> {
     let n = 4 + numbers.byte_below(2);
     let d = if n == 5 { 2 } else { 2 + numbers.byte_below(2) };
@@ -186,8 +191,8 @@ fn are_within(family: &Family, scope: &[u8], tuple: &[u8]) -> bool {
         .all(|(v, x)| has(set_of(family, *v), *x))
 }
 
-/// For each place of a candidate's scope the values of its variable's set that go with some of the other sets: the candidate holds for
-/// them together, or doesn't.
+/// For each place of a candidate's scope the values of its variable's set that go with some of the
+/// other sets: the candidate holds for them together, or doesn't.
 fn supports(lang: &Language, c: Candidate, holding: bool, family: &Family) -> [u8; 4] {
     let mut found = [0; 4];
     if !is_candidate(lang, c) {
@@ -258,7 +263,8 @@ fn left_by(lang: &Language, e: &Partial) -> Family {
     family
 }
 
-/// Whether something is left to each variable once all that nothing supports is taken away, again and again.
+/// Whether something is left to each variable once all that nothing supports is taken away, again
+/// and again.
 fn leaves_sets(cons: &Constraints, e: &Partial) -> bool {
     let mut family = left_by(cons.lang, e);
     // Each round but the last takes one of at most forty values away.
@@ -277,7 +283,8 @@ fn leaves_sets(cons: &Constraints, e: &Partial) -> bool {
     (0..cons.lang.n()).all(|v| set_of(&family, v) != 0)
 }
 
-/// Whether a family has values of the variables alone, and where a question gives a value that one alone.
+/// Whether a family has values of the variables alone, and where a question gives a value that one
+/// alone.
 fn is_left(lang: &Language, family: &Family, e: &Partial) -> bool {
     for v in 0..lang.n() {
         let set = set_of(family, v);
@@ -295,7 +302,8 @@ fn is_left(lang: &Language, family: &Family, e: &Partial) -> bool {
     true
 }
 
-/// Whether some arc-consistent family lies within what a question leaves, by the plain list of all families.
+/// Whether some arc-consistent family lies within what a question leaves, by the plain list of all
+/// families.
 fn leaves_family(cons: &Constraints, e: &Partial) -> bool {
     let d = cons.lang.d();
     for number in 0..families(cons.lang.n(), d) {
@@ -307,8 +315,9 @@ fn leaves_family(cons: &Constraints, e: &Partial) -> bool {
     false
 }
 
-/// Whether a question is alive. None where that can't be: the list of families says otherwise, an arc-consistent family leaves nothing that breaks the constraints, and a complete
-/// question that leaves none breaks them.
+/// Whether a question is alive. None where that can't be: the list of families says otherwise, an
+/// arc-consistent family leaves nothing that breaks the constraints, and a complete question that
+/// leaves none breaks them.
 fn is_alive(cons: &Constraints, e: &Partial) -> Option<bool>
     requires { IsQuestion cons.now.lang.now e.now }
 {

@@ -14,7 +14,8 @@ pub(crate) type Values = [Option<u8>; 5];
 /// Which of the relations on a scope are still possible, and last, whether none of them is.
 pub(crate) type Choices = [bool; 8];
 
-/// The variables of a scope, and for each relation on it the truth at each tuple, the last variable first to change.
+/// The variables of a scope, and for each relation on it the truth at each tuple, the last variable
+/// first to change.
 #[derive(Drop)]
 pub(crate) struct Scope {
     pub(crate) variables: Vec<u8>,
@@ -67,7 +68,8 @@ fn set_of(scope: &[u8]) -> u32 {
 }
 
 impl Scope {
-    /// Whether a choice accepts the tuple at a place: the relation of this number does, or none of them is chosen.
+    /// Whether a choice accepts the tuple at a place: the relation of this number does, or none of
+    /// them is chosen.
     fn allows(&self, choice: usize, place: usize) -> bool {
         if choice >= MOST_RELATIONS {
             return true;

@@ -144,8 +144,8 @@ fn is_as_lawful(idle: &Idle, lists: &Lists, fold: &Fold, values: &Values) -> boo
     idle.is_lawful(&q) == fold.is_lawful(lists, values) && !idle.is_lawful(&longer)
 }
 
-/// Whether the same may be put, where nothing is open: whole examples, parts of them, and such with a value too great for its
-/// variable.
+/// Whether the same may be put, where nothing is open: whole examples, parts of them, and such with
+/// a value too great for its variable.
 fn has_same_lawful(idle: &Idle, lists: &Lists, fold: &Fold, random: &mut Numbers) -> bool {
     for turn in 0..TRIED {
         let whole = example(lists, random.byte_below(examples(lists)));
@@ -401,7 +401,8 @@ fn is_true_in(word: &str) -> Option<bool> {
     }
 }
 
-/// A plan, which answers, and the first and the last seed: what came of a session of each seed's language.
+/// A plan, which answers, and the first and the last seed: what came of a session of each seed's
+/// language.
 pub(crate) fn sessions(alloc: Global, arguments: &str) -> Option<String> {
     let mut words = arguments.split_whitespace();
     let plan = plan_in(words.next()?)?;

@@ -39,8 +39,8 @@ pub(crate) fn strikes(alloc: Global, lang: &Language, arguments: &str) -> Option
     Some(text)
 }
 
-/// A candidate of the plain list, of two variables with two values: the bits of `accepted` are one for the tuples that it
-/// accepts of 22, 21, 12 and 11.
+/// A candidate of the plain list, of two variables with two values: the bits of `accepted` are one
+/// for the tuples that it accepts of 22, 21, 12 and 11.
 #[derive(Clone, Copy)]
 struct Plain {
     scope: u16,

@@ -1,4 +1,5 @@
-//! The next question, and random ones beside those of the plain lists of all prefixes and of all families of sets of values.
+//! The next question, and random ones beside those of the plain lists of all prefixes and of all
+//! families of sets of values.
 
 ghost use Rattle.std.specs.Prelude.{◌≡◌, ◌≤◌, length};
 ghost use Rattle.language.specs.Language.{IsQuestion};
@@ -105,7 +106,8 @@ fn is_open_as_listed(lang: &Language, screen: &Screen, listed: &[(Candidate, Out
     true
 }
 
-/// The next question, and whether it, and what is open where nothing is decided, are those of the plain list.
+/// The next question, and whether it, and what is open where nothing is decided, are those of the
+/// plain list.
 fn compare(
     alloc: Global,
     work: &mut Work,
@@ -173,8 +175,8 @@ fn take_back(screen: &mut Screen, lang: &Language, kept: &mut Kept, net: &mut Ne
     net.clear();
 }
 
-/// Strikes what some question violates, or learns some candidate, or takes all back, but for a chance that nothing
-/// changes.
+/// Strikes what some question violates, or learns some candidate, or takes all back, but for a
+/// chance that nothing changes.
 fn change(
     numbers: &mut Numbers,
     screen: &mut Screen,

@@ -1,4 +1,5 @@
-//! Searches, and random ones beside the plain lists of all prefixes and of all families of sets of values.
+//! Searches, and random ones beside the plain lists of all prefixes and of all families of sets of
+//! values.
 
 ghost use Rattle.std.specs.Prelude.{◌≡◌, ◌≢◌, true, AllPairs};
 ghost use Rattle.language.specs.Answers.{IsNetwork};

@@ -72,7 +72,8 @@ fn push_telling(
     }
 }
 
-/// `SCOPE free by REPLIES` or `SCOPE VALUES by REPLIES`: what is asked, and what the replies lead to.
+/// `SCOPE free by REPLIES` or `SCOPE VALUES by REPLIES`: what is asked, and what the replies lead
+/// to.
 pub(crate) fn tells(alloc: Global, lang: &Language, arguments: &str) -> Option<String> {
     let (begun, replies) = arguments.split_once("by")?;
     let (scope, example) = begun.split_once(' ')?;

@@ -94,8 +94,8 @@ fn sets(alloc: Global, random: &mut Numbers, shape: &Shape) -> Option<Vec<u128>>
     Some(sets)
 }
 
-/// A random language: two to five variables with one to three values, or some of these alone, one to three relations of one to four places, and
-/// their intersections.
+/// A random language: two to five variables with one to three values, or some of these alone, one
+/// to three relations of one to four places, and their intersections.
 pub(crate) fn language(alloc: Global, random: &mut Numbers) -> Option<Language> {
     let shape = random_shape(random);
     let sets = sets(alloc, random, &shape)?;

@@ -99,7 +99,8 @@ fn push_next(
     }
 }
 
-/// `SCOPES without OTHERS` or `SCOPES without OTHERS again`: what is learned, and on which scopes nothing is possible.
+/// `SCOPES without OTHERS` or `SCOPES without OTHERS again`: what is learned, and on which scopes
+/// nothing is possible.
 fn push_step(
     alloc: Global,
     text: &mut String,

@@ -1,5 +1,6 @@
 -- The items of a network by the variables of their scopes.
-use Rattle.std.specs.Prelude.{ℕ, zero, suc, Bool, false, IsTrue, List, length, map, Option, Some, None, Vec, slice_get, slice_index_or}
+use Rattle.std.specs.Prelude.{ℕ, zero, suc, Bool, false, IsTrue, List, length, map, Option, Some}
+use Rattle.std.specs.Prelude.{None, Vec, slice_get, slice_index_or}
 use Rattle.std.specs.Option.{option_map_or}
 use Rattle.std.specs.List.{filter}
 use Rattle.std.specs.declared.alloc.Global.{Global}
@@ -38,4 +39,5 @@ has_last l network (Some v) i = has_variable l network v i
 
 -- each item that is violated has that variable in its scope
 abbrev pub AreOnLast : Language → List Candidate → Option ℕ → Assignment → Type 0
-AreOnLast l network last e = (i : ℕ) → IsTrue (violates_item l network e i) → IsTrue (has_last l network last i)
+AreOnLast l network last e = (i : ℕ) → IsTrue (violates_item l network e i) →
+    IsTrue (has_last l network last i)

@@ -32,4 +32,5 @@ GoodIsConverged =
 abbrev pub MadeIsGood : Type 0
 MadeIsGood =
     (l : Language) (network : List Candidate) (t : List Answer) →
-    IsLanguage l → IsCovered l network t → IsGood l network t (certificate_of l network t).refutations
+    IsLanguage l → IsCovered l network t →
+    IsGood l network t (certificate_of l network t).refutations

@@ -8,15 +8,18 @@ use Rattle.cert_check.specs.Reading.{IsRead, IsUnreadable}
 
 -- no bytes are read and refused
 abbrev pub ReadCertificateIsNotRefused : Type 0
-ReadCertificateIsNotRefused = (bytes : List ℕ) (cert : Certificate) (fault : CertFault) → IsRead bytes cert → IsUnreadable bytes fault → ⊥
+ReadCertificateIsNotRefused = (bytes : List ℕ) (cert : Certificate) (fault : CertFault) →
+    IsRead bytes cert → IsUnreadable bytes fault → ⊥
 
 -- no bytes are read as two certificates
 abbrev pub NoTwoCertificates : Type 0
-NoTwoCertificates = (bytes : List ℕ) (cert other : Certificate) → IsRead bytes cert → IsRead bytes other → cert ≡ other
+NoTwoCertificates = (bytes : List ℕ) (cert other : Certificate) → IsRead bytes cert →
+    IsRead bytes other → cert ≡ other
 
 -- no bytes are refused for two faults
 abbrev pub NoTwoFaults : Type 0
-NoTwoFaults = (bytes : List ℕ) (fault other : CertFault) → IsUnreadable bytes fault → IsUnreadable bytes other → fault ≡ other
+NoTwoFaults = (bytes : List ℕ) (fault other : CertFault) → IsUnreadable bytes fault →
+    IsUnreadable bytes other → fault ≡ other
 
 -- want of memory, its own or its vocabulary's
 abbrev pub wants_memory : CertFault → Bool
@@ -26,4 +29,5 @@ wants_memory other = false
 
 -- each list of bytes is read, or refused, and not for want of memory
 abbrev pub EachCertificateIsReadOrRefused : Type 0
-EachCertificateIsReadOrRefused = (bytes : List ℕ) → ((cert : Certificate) × IsRead bytes cert) ⊎ ((fault : CertFault) × (wants_memory fault ≡ false) × IsUnreadable bytes fault)
+EachCertificateIsReadOrRefused = (bytes : List ℕ) → ((cert : Certificate) × IsRead bytes cert)
+    ⊎ ((fault : CertFault) × (wants_memory fault ≡ false) × IsUnreadable bytes fault)

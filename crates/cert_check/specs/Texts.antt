@@ -44,6 +44,8 @@ make_fault_line make.Memory = codes "refused certificate memory" ++ 10 ∷ []
 -- why a text is no certificate
 abbrev pub cert_fault_line : CertFault → List ℕ
 cert_fault_line form.TooLong = codes "refused certificate form too long" ++ 10 ∷ []
-cert_fault_line (form.BadLine i) = codes "refused certificate form bad line " ++ (decimal i ++ 10 ∷ [])
-cert_fault_line (form.Voc fault) = codes "refused certificate form vocabulary " ++ (fault_text fault ++ 10 ∷ [])
+cert_fault_line (form.BadLine i) =
+    codes "refused certificate form bad line " ++ (decimal i ++ 10 ∷ [])
+cert_fault_line (form.Voc fault) =
+    codes "refused certificate form vocabulary " ++ (fault_text fault ++ 10 ∷ [])
 cert_fault_line form.Memory = codes "refused certificate form memory" ++ 10 ∷ []

@@ -1,5 +1,6 @@
 -- The tree that is listed for a candidate which the network implies.
-use Rattle.std.specs.Prelude.{ℕ, zero, suc, List, [], ◌∷◌, length, Bool, true, false, Option, Some, None, position}
+use Rattle.std.specs.Prelude.{ℕ, zero, suc, List, [], ◌∷◌, length, Bool, true, false, Option, Some}
+use Rattle.std.specs.Prelude.{None, position}
 use Rattle.std.specs.List.{filter, flat_map}
 use Rattle.language.specs.declared.candidates.Candidate.{Candidate}
 use Rattle.language.specs.Language.{Language, variable_count, violates}
@@ -14,15 +15,19 @@ node_of (Some i) holds = Item i
 node_of None true = Holds
 node_of None false = Branch
 
--- the node at a prefix: the first item in learning order that the prefix violates; where there is none, that the prefix
--- satisfies the candidate; where it doesn't, a branch
+-- the node at a prefix: the first item in learning order that the prefix violates; where there is
+-- none, that the prefix satisfies the candidate; where it doesn't, a branch
 abbrev pub node_at : Language → List Candidate → Candidate → List ℕ → Token
-node_at l network c prefix = node_of (position (λ d. violates l d (assignment_of l c prefix)) network) (satisfies l c (assignment_of l c prefix))
+node_at l network c prefix =
+    node_of (position (λ d. violates l d (assignment_of l c prefix)) network)
+    (satisfies l c (assignment_of l c prefix))
 
--- the nodes, in preorder, of the tree that stands at a prefix behind which k variables have no value yet
+-- the nodes, in preorder, of the tree that stands at a prefix behind which k variables have no
+-- value yet
 unfoldable pub tree_from : Language → List Candidate → Candidate → ℕ → List ℕ → List Token
 tree_from l network c zero prefix = node_at l network c prefix ∷ []
-tree_from l network c (suc k) prefix = node_at l network c prefix ∷ flat_map (tree_from l network c k) (children l c prefix (node_at l network c prefix))
+tree_from l network c (suc k) prefix = node_at l network c prefix
+    ∷ flat_map (tree_from l network c k) (children l c prefix (node_at l network c prefix))
 
 -- the nodes of the whole tree
 abbrev pub tree_of : Language → List Candidate → Candidate → List Token

@@ -1,5 +1,6 @@
 -- The prefixes at which nodes are still to stand, by the first of them.
-use Rattle.std.specs.Prelude.{ℕ, ◌+◌, ◌-◌, ◌<◌, ◌≤◌, ◌≡◌, Bool, true, false, IsTrue, List, [], ◌∷◌, ◌++◌, length, map, slice_index_or, All}
+use Rattle.std.specs.Prelude.{ℕ, ◌+◌, ◌-◌, ◌<◌, ◌≤◌, ◌≡◌, Bool, true, false, IsTrue, List, [], ◌∷◌}
+use Rattle.std.specs.Prelude.{◌++◌, length, map, slice_index_or, All}
 use Rattle.std.specs.List.{range_with_len}
 use Rattle.assign.specs.Assignment.{Assignment}
 use Rattle.language.specs.declared.candidates.Candidate.{Candidate}
@@ -10,10 +11,12 @@ use Rattle.language.specs.Search.{order_of, assignment_of, are_ranged}
 abbrev pub last_behind : Language → Candidate → List ℕ → ℕ
 last_behind l c p = (range_of l (slice_index_or (order_of l c) (length p) 0)).last
 
--- those that come after p, where it follows a front: its greater siblings, and those of the prefixes before it
+-- those that come after p, where it follows a front: its greater siblings, and those of the
+-- prefixes before it
 unfoldable pub later_from : Language → Candidate → List ℕ → List ℕ → List (List ℕ)
 later_from l c front [] = []
-later_from l c front (x ∷ p) = later_from l c (front ++ x ∷ []) p ++ map (λ y. front ++ y ∷ []) (range_with_len (x + 1) (last_behind l c front - x))
+later_from l c front (x ∷ p) = later_from l c (front ++ x ∷ []) p
+    ++ map (λ y. front ++ y ∷ []) (range_with_len (x + 1) (last_behind l c front - x))
 
 abbrev pub later : Language → Candidate → List ℕ → List (List ℕ)
 later l c p = later_from l c [] p
@@ -23,8 +26,10 @@ abbrev pub ahead : Bool → Language → Candidate → List ℕ → List (List �
 ahead true l c p = p ∷ later l c p
 ahead false l c p = []
 
--- values for the first variables of a candidate's order, each one of its variable's, and the assignment that gives them
-pub record IsPrefixAt (l : Language) (c : Candidate) (values : List ℕ) (e : Assignment) : Type 0 where
+-- values for the first variables of a candidate's order, each one of its variable's, and the
+-- assignment that gives them
+pub record IsPrefixAt (l : Language) (c : Candidate) (values : List ℕ) (e : Assignment) :
+    Type 0 where
   pub short : length values ≤ variable_count l
   pub small : All (λ x. x < l.value_count) values
   pub ranged : IsTrue (are_ranged l (assignment_of l c values))

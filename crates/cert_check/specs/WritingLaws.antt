@@ -39,17 +39,21 @@ pub record IsWritable (voc : List ℕ) (cert : Certificate) : Type 0 where
 
 -- the text of a certificate is read as that certificate
 abbrev pub WrittenIsRead : Type 0
-WrittenIsRead = (voc : List ℕ) (cert : Certificate) → IsWritable voc cert → IsRead (certificate_text voc cert) cert
+WrittenIsRead = (voc : List ℕ) (cert : Certificate) → IsWritable voc cert →
+    IsRead (certificate_text voc cert) cert
 
 -- The bytes are read as this certificate, and a check of it says yes.
 pub record IsConfirmed (bytes : List ℕ) (cert : Certificate) : Type 0 where
   pub read : IsRead bytes cert
   pub yes : verdict cert ≡ Yes
 
--- the text that is made for a covered network is read as the certificate that was made, which a check confirms
+-- the text that is made for a covered network is read as the certificate that was made, which a
+-- check confirms
 abbrev pub MadeIsConfirmed : Type 0
 MadeIsConfirmed =
-    (voc : List ℕ) (l : Language) (network : List Candidate) (t : List Answer) (budget : ℕ) (text : List ℕ) →
+    (voc : List ℕ) (l : Language) (network : List Candidate) (t : List Answer) (budget : ℕ)
+    (text : List ℕ) →
     IsLanguage l → IsVocabulary voc l → IsNetwork l network → IsCovered l network t →
     All (λ a. IsQuestion l a.question) t → HaveValues t → length t ≤ MOST_ANSWERS →
-    certificate_made voc l network t budget ≡ Ok text → IsConfirmed text (certificate_of l network t)
+    certificate_made voc l network t budget ≡ Ok text →
+    IsConfirmed text (certificate_of l network t)

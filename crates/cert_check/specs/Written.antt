@@ -1,5 +1,6 @@
 -- The text of a certificate.
-use Rattle.std.specs.Prelude.{ℕ, Bool, true, false, List, [], ◌∷◌, ◌++◌, length, Option, Some, None, codes}
+use Rattle.std.specs.Prelude.{ℕ, Bool, true, false, List, [], ◌∷◌, ◌++◌, length, Option, Some, None}
+use Rattle.std.specs.Prelude.{codes}
 use Rattle.std.specs.List.{flat_map}
 use Rattle.std.specs.Fmt.{decimal}
 use Rattle.assign.specs.Sets.{numbers}
@@ -48,16 +49,19 @@ listed_line r = decimal r.candidate ++ (flat_map token_text r.tokens ++ 10 ∷ [
 
 -- the first line, and the vocabulary's bytes behind how many there are
 abbrev pub vocabulary_section : List ℕ → List ℕ
-vocabulary_section voc = codes "QUACQCERT1" ++ 10 ∷ (count_line (codes "vocabulary") (length voc) ++ (voc ++ 10 ∷ []))
+vocabulary_section voc =
+    codes "QUACQCERT1" ++ 10 ∷ (count_line (codes "vocabulary") (length voc) ++ (voc ++ 10 ∷ []))
 
 abbrev pub answers_section : List Answer → List ℕ
 answers_section t = count_line (codes "answers") (length t) ++ flat_map entry_line t
 
 abbrev pub network_section : List Candidate → List ℕ
-network_section network = count_line (codes "network") (length network) ++ flat_map item_line network
+network_section network =
+    count_line (codes "network") (length network) ++ flat_map item_line network
 
 abbrev pub implied_section : List Refutation → List ℕ
-implied_section refutations = count_line (codes "implied") (length refutations) ++ flat_map listed_line refutations
+implied_section refutations =
+    count_line (codes "implied") (length refutations) ++ flat_map listed_line refutations
 
 abbrev pub end_line : List ℕ
 end_line = codes "end" ++ 10 ∷ []
@@ -65,4 +69,5 @@ end_line = codes "end" ++ 10 ∷ []
 -- the text of a certificate over this vocabulary, each line with a newline
 abbrev pub certificate_text : List ℕ → Certificate → List ℕ
 certificate_text voc cert =
-    vocabulary_section voc ++ (answers_section cert.answers ++ (network_section cert.network ++ (implied_section cert.refutations ++ end_line)))
+    vocabulary_section voc ++ (answers_section cert.answers
+    ++ (network_section cert.network ++ (implied_section cert.refutations ++ end_line)))

@@ -73,8 +73,18 @@ impl Cert {
         network: Vec<Candidate>,
         items: Vec<Listed>,
     ) -> Cert
-        requires { IsSound (record { language = language; answers = answers.items; network = network.items; refutations = items.items }) }
-        ensures { result ≡ record { language = language; answers = answers.items; network = network.items; refutations = items.items } }
+        requires { IsSound (record {
+          language = language;
+          answers = answers.items;
+          network = network.items;
+          refutations = items.items;
+        }) }
+        ensures { result ≡ record {
+          language = language;
+          answers = answers.items;
+          network = network.items;
+          refutations = items.items;
+        } }
     {
         Cert {
             language,

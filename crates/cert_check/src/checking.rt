@@ -1,4 +1,5 @@
-ghost use Rattle.std.specs.Prelude.{◌≡◌, ◌≢◌, ◌<◌, ◌^◌, ◌↔◌, All, IfOk, Some, None, List, length, position};
+ghost use Rattle.std.specs.Prelude.{◌≡◌, ◌≢◌, ◌<◌, ◌^◌, ◌↔◌, All, IfOk, Some, None, List, length};
+ghost use Rattle.std.specs.Prelude.{position};
 ghost use Rattle.language.specs.Language.{IsLanguage, IsQuestion, candidates};
 ghost use Rattle.language.specs.Answers.{IsConverged, IsNetwork};
 ghost use Rattle.cert_check.specs.declared.verdict.Verdict.TheVariants.{Yes};
@@ -44,7 +45,8 @@ fn first_answer(
 fn flaw_told(lang: &Language, net: &[Candidate], told: &Told, items: &[Listed]) -> Option<Flaw>
     requires network { IsNetwork lang.now net.now }
     requires few_items { length net.now < 2 ^ 32 }
-    ensures { (t : List Answer) → IsToldBy lang.now t told.now → result ≡ flaw_told lang.now net.now t items.now }
+    ensures { (t : List Answer) → IsToldBy lang.now t told.now →
+        result ≡ flaw_told lang.now net.now t items.now }
 {
     if let Some(i) = first_without_no(lang, net, told) {
         return Some(Flaw::NoOwnNo(i));
@@ -125,7 +127,8 @@ fn first_unearned_forked<R: Threads + Sync>(
         items,
         size,
         &|_start, chunk: &[Listed]|
-            requires { IsNetwork lang.now net.now × All (λ r. r.candidate < length (candidates lang.now)) chunk.now }
+            requires { IsNetwork lang.now net.now
+                × All (λ r. r.candidate < length (candidates lang.now)) chunk.now }
             ensures { result ≡ position (is_unearned lang.entry.now net.entry.now) chunk.entry.now }
         { first_unearned(lang, net, chunk) },
     )?;
@@ -137,11 +140,14 @@ fn first_unearned_forked<R: Threads + Sync>(
     Ok(None)
 }
 
-/// Whether the certificate shows that the answers converge on the network, or the first flaw that it has.
+/// Whether the certificate shows that the answers converge on the network, or the first flaw that
+/// it has.
 pub fn check<R: Threads + Sync>(rt: &R, alloc: Global, cert: &Cert) -> Result<Verdict, Memory>
     ensures is { IfOk result (λ found. found ≡ verdict cert.now) }
-    ensures good { IfOk result (λ found. (found ≡ Yes) ↔ IsGood cert.now.language cert.now.network cert.now.answers cert.now.refutations) }
-    ensures converged { IfOk result (λ found. found ≡ Yes → IsConverged cert.now.language cert.now.network cert.now.answers) }
+    ensures good { IfOk result (λ found. (found ≡ Yes)
+        ↔ IsGood cert.now.language cert.now.network cert.now.answers cert.now.refutations) }
+    ensures converged { IfOk result (λ found. found ≡ Yes →
+        IsConverged cert.now.language cert.now.network cert.now.answers) }
 {
     let lang = cert.lang();
     let net = cert.net();

@@ -6,7 +6,8 @@ use voc_read::VocFault;
 /// Why no certificate is made.
 #[derive(Clone, Copy, Debug, PartialEq, Eq, Error)]
 pub enum MakeFault {
-    /// The candidate of this number has more plain prefixes than the budget, and no earlier one that is listed does.
+    /// The candidate of this number has more plain prefixes than the budget, and no earlier one
+    /// that is listed does.
     #[error("candidate {0} needs a tree of more branches than the budget")]
     Long(u32),
     /// The text has more than 67,108,864 bytes.

@@ -1,7 +1,9 @@
 //! Laws of the definitions, as contracts of functions that do nothing.
 
-ghost use Rattle.cert_check.specs.Laws.{GoodIsConverged, GoodIsCovered, MadeIsGood, RefutedIsImplied};
-ghost use Rattle.cert_check.specs.ReadingLaws.{EachCertificateIsReadOrRefused, NoTwoCertificates, NoTwoFaults, ReadCertificateIsNotRefused};
+ghost use Rattle.cert_check.specs.Laws.{GoodIsConverged, GoodIsCovered, MadeIsGood};
+ghost use Rattle.cert_check.specs.Laws.{RefutedIsImplied};
+ghost use Rattle.cert_check.specs.ReadingLaws.{EachCertificateIsReadOrRefused, NoTwoCertificates};
+ghost use Rattle.cert_check.specs.ReadingLaws.{NoTwoFaults, ReadCertificateIsNotRefused};
 ghost use Rattle.cert_check.specs.WritingLaws.{MadeIsConfirmed, WrittenIsRead};
 
 /// A candidate that tokens refute is implied by the network.
@@ -49,7 +51,8 @@ pub fn written_is_read()
     ensures { WrittenIsRead }
 {}
 
-/// The text that is made for a covered network is read as the certificate that was made, and a check confirms it.
+/// The text that is made for a covered network is read as the certificate that was made, and a
+/// check confirms it.
 pub fn made_is_confirmed()
     ensures { MadeIsConfirmed }
 {}

@@ -1,10 +1,11 @@
-//! A certificate of convergence that a stranger can check, with code that shares no search, no kept set and no session with the
-//! learner.
+//! A certificate of convergence that a stranger can check, with code that shares no search, no kept
+//! set and no session with the learner.
 //!
-//! A certificate has a language, answers, a network, and for each candidate that isn't excluded by an answer the tokens of a
-//! tree that refutes it. A certificate that is good (`IsGood`) shows that the answers converge on the network (`laws`).
-//! `check` says whether it is, or the first flaw that it has. `make_cert` writes the certificate of a network that the answers
-//! cover. `read_cert` makes a certificate of its text, or names the first line that is missing or wrong.
+//! A certificate has a language, answers, a network, and for each candidate that isn't excluded by
+//! an answer the tokens of a tree that refutes it. A certificate that is good (`IsGood`) shows that
+//! the answers converge on the network (`laws`). `check` says whether it is, or the first flaw that
+//! it has. `make_cert` writes the certificate of a network that the answers cover. `read_cert`
+//! makes a certificate of its text, or names the first line that is missing or wrong.
 #![tactic(auto)]
 
 mod by_variable;

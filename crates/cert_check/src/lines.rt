@@ -1,7 +1,8 @@
 //! Lines, one after the other, up to the first that is missing or wrong.
 
 ghost use Rattle.std.specs.Prelude.{◌≡◌, ◌<◌, IfOk};
-ghost use Rattle.cert_check.specs.Reading.{behind_line, block_in, count_in, count_up_to, line_in, next_line};
+ghost use Rattle.cert_check.specs.Reading.{behind_line, block_in, count_in, count_up_to, line_in};
+ghost use Rattle.cert_check.specs.Reading.{next_line};
 ghost use Rattle.cert_check.specs.Read.{AreFew, Reads, unread};
 
 use crate::fault::CertFault;
@@ -62,7 +63,8 @@ fn count_up_to(most: u32, word: &[u8], line: &[u8]) -> Option<u32>
 /// The number in the next line, which has a word and a number.
 pub(crate) fn next_count<'a>(word: &[u8], lines: Lines<'a>) -> Result<(u32, Lines<'a>), CertFault>
     requires few { AreFew lines }
-    ensures is { Reads (λ x. (x.0, unread x.1)) (next_line (count_in word.now) (unread lines.entry)) result }
+    ensures is { Reads (λ x. (x.0, unread x.1))
+        (next_line (count_in word.now) (unread lines.entry)) result }
     ensures few { IfOk result (λ x. AreFew x.1) }
 {
     let (line, behind) = line_in(lines)?;
@@ -79,7 +81,8 @@ pub(crate) fn next_count_up_to<'a>(
 ) -> Result<(u32, Lines<'a>), CertFault>
     requires low { most < 4294967295 }
     requires few { AreFew lines }
-    ensures is { Reads (λ x. (x.0, unread x.1)) (next_line (count_up_to most word.now) (unread lines.entry)) result }
+    ensures is { Reads (λ x. (x.0, unread x.1))
+        (next_line (count_up_to most word.now) (unread lines.entry)) result }
     ensures few { IfOk result (λ x. AreFew x.1) }
 {
     let (line, behind) = line_in(lines)?;

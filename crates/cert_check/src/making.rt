@@ -1,6 +1,7 @@
 //! Making the certificate of a network that the answers cover.
 
-ghost use Rattle.std.specs.Prelude.{◌≡◌, ◌≢◌, ◌≤◌, ◌<◌, ◌^◌, ◌&&◌, ◌++◌, [], ◌∷◌, false, not, None, List, All, length, map, find, string_bytes, IfErr, IfOk, OnOk};
+ghost use Rattle.std.specs.Prelude.{◌≡◌, ◌≢◌, ◌≤◌, ◌<◌, ◌^◌, ◌&&◌, ◌++◌, [], ◌∷◌, false, not, None};
+ghost use Rattle.std.specs.Prelude.{List, All, length, map, find, string_bytes, IfErr, IfOk, OnOk};
 ghost use Rattle.std.specs.Str.{IsUtf8};
 ghost use Rattle.assign.specs.Assignment.{value_of};
 ghost use Rattle.assign.specs.Events.{Answer};
@@ -8,11 +9,15 @@ ghost use Rattle.language.specs.Language.{IsCandidate, IsImplied, IsQuestion, La
 ghost use Rattle.language.specs.Answers.{IsCovered, IsNetwork, has_scope, is_struck, kept};
 ghost use Rattle.voc_read.specs.Vocabulary.{IsVocabulary};
 ghost use Rattle.cert_check.specs.ByVariable.{by_variable};
-ghost use Rattle.cert_check.specs.Making.{IsFirstLong, Makes, is_long, certificate_made, refutation_of};
+ghost use Rattle.cert_check.specs.Making.{IsFirstLong, Makes, is_long, certificate_made};
+ghost use Rattle.cert_check.specs.Making.{refutation_of};
 ghost use Rattle.cert_check.specs.Reading.{MOST_ANSWERS};
 ghost use Rattle.cert_check.specs.Sheets.{AddsPiece};
 ghost use Rattle.cert_check.specs.Told.{AreUnstruck};
-ghost use Rattle.cert_check.specs.Written.{answers_section, count_line, entry_line, implied_section, item_line, listed_line, network_section, numbered_value, numbered_values, reply_text, vocabulary_section};
+ghost use Rattle.cert_check.specs.Written.{answers_section, count_line, entry_line};
+ghost use Rattle.cert_check.specs.Written.{implied_section, item_line, listed_line};
+ghost use Rattle.cert_check.specs.Written.{network_section, numbered_value, numbered_values};
+ghost use Rattle.cert_check.specs.Written.{reply_text, vocabulary_section};
 
 use crate::by_variable::ByVariable;
 use crate::entry::Entry;
@@ -29,7 +34,8 @@ use std::alloc::{AllocError, Global};
 
 /// Whether no yes excludes the candidate and nothing is learned on its scope.
 fn is_kept(left: &[u64], net: &[Candidate], c: Candidate) -> bool
-    ensures { (l : Lang) (t : List Answer) → AreUnstruck l t left.now → IsCandidate l c → result ≡ (not (is_struck l t c) && not (has_scope net.now c.scope)) }
+    ensures { (l : Lang) (t : List Answer) → AreUnstruck l t left.now → IsCandidate l c →
+        result ≡ (not (is_struck l t c) && not (has_scope net.now c.scope)) }
 {
     is_unstruck(left, c) && !has_scope(net, c.scope)
 }
@@ -122,8 +128,8 @@ fn add_item(sheet: &mut Sheet, c: Candidate) -> Result<(), AllocError>
     sheet.add("\n")
 }
 
-/// Adds a candidate with its tree: `0 b b c c 0`. Says whether the tree has more branches than the budget; then the line isn't
-/// added whole.
+/// Adds a candidate with its tree: `0 b b c c 0`. Says whether the tree has more branches than the
+/// budget; then the line isn't added whole.
 fn add_listed(
     sheet: &mut Sheet,
     lang: &Language,
@@ -138,7 +144,8 @@ fn add_listed(
     requires implied { IsImplied lang.now net.now c }
     requires small_budget { budget ≤ 1000000000 }
     ensures long { IfOk result (λ long. long ≡ is_long lang.now net.now budget c) }
-    ensures added { IfOk result (λ long. long ≡ false → AddsPiece sheet.old (listed_line (refutation_of lang.now net.now c)) sheet.new) }
+    ensures added { IfOk result (λ long. long ≡ false →
+        AddsPiece sheet.old (listed_line (refutation_of lang.now net.now c)) sheet.new) }
 {
     sheet.add_number(u64::from(lang.number_of(c)))?;
     if add_tree(sheet, lang, net, by, c, budget)? {
@@ -184,7 +191,8 @@ fn add_network(sheet: &mut Sheet, net: &[Candidate]) -> Result<(), AllocError>
     Ok(())
 }
 
-/// Adds the listed candidates. `Long` where the tree of one has more branches than the budget, with the first one's number.
+/// Adds the listed candidates. `Long` where the tree of one has more branches than the budget, with
+/// the first one's number.
 fn add_implied(
     sheet: &mut Sheet,
     lang: &Language,
@@ -199,8 +207,10 @@ fn add_implied(
     requires implied { All (IsImplied lang.now net.now) listed.now }
     requires small_budget { budget ≤ 1000000000 }
     ensures within { OnOk result (find (is_long lang.now net.now budget) listed.now ≡ None) }
-    ensures added { OnOk result (AddsPiece sheet.old (implied_section (map (refutation_of lang.now net.now) listed.now)) sheet.new) }
-    ensures long { IfErr result (λ fault. fault ≢ MakeFault.Memory → IsFirstLong lang.now net.now listed.now budget fault) }
+    ensures added { OnOk result (AddsPiece sheet.old
+        (implied_section (map (refutation_of lang.now net.now) listed.now)) sheet.new) }
+    ensures long { IfErr result (λ fault. fault ≢ MakeFault.Memory →
+        IsFirstLong lang.now net.now listed.now budget fault) }
 {
     add_count(sheet, "implied", listed.len())?;
     for c in listed {
@@ -211,13 +221,14 @@ fn add_implied(
     Ok(())
 }
 
-/// The text of a certificate which shows that the answers converge on the network. It lists each candidate that no yes
-/// excludes and on whose scope the network has nothing, with the tree by which the network implies it. `Long` where such a
-/// tree has more branches than the budget, with the least number of such a candidate. Else `TooLarge` where the text has
-/// more than 67,108,864 bytes.
+/// The text of a certificate which shows that the answers converge on the network. It lists each
+/// candidate that no yes excludes and on whose scope the network has nothing, with the tree by
+/// which the network implies it. `Long` where such a tree has more branches than the budget, with
+/// the least number of such a candidate. Else `TooLarge` where the text has more than 67,108,864
+/// bytes.
 ///
-/// `voc` is the vocabulary's bytes, of which `lang` is the reading. The network is in learning order, and the answers are in
-/// the order in which they were given.
+/// `voc` is the vocabulary's bytes, of which `lang` is the reading. The network is in learning
+/// order, and the answers are in the order in which they were given.
 pub fn make_cert(
     alloc: Global,
     lang: &Language,
@@ -233,7 +244,8 @@ pub fn make_cert(
     requires read { IsVocabulary voc.now lang.now }
     requires some_budget { 1 ≤ budget }
     requires small_budget { budget ≤ 1000000000 }
-    ensures { Makes string_bytes (certificate_made voc.now lang.now net.now answers.now budget) result }
+    ensures { Makes string_bytes
+        (certificate_made voc.now lang.now net.now answers.now budget) result }
 {
     let listed = kept(alloc, lang, answers, net)?;
     let mut sheet = Sheet::new(alloc);

@@ -2,7 +2,8 @@
 
 ghost use Rattle.std.specs.Prelude.{◌≡◌, ◌≢◌, ◌≤◌, length, IfOk, IfErr};
 ghost use Rattle.language.specs.Language.{IsLanguage};
-ghost use Rattle.cert_check.specs.Reading.{IsRead, IsUnreadable, certificate_in, last_line_in, vocabulary_in};
+ghost use Rattle.cert_check.specs.Reading.{IsRead, IsUnreadable, certificate_in, last_line_in};
+ghost use Rattle.cert_check.specs.Reading.{vocabulary_in};
 ghost use Rattle.cert_check.specs.Read.{AreFew, Reads, unread};
 ghost use Rattle.cert_check.specs.Sound.{IsSound};
 
@@ -62,8 +63,18 @@ struct Lists {
 fn lists_in(alloc: Global, lang: &Language, lines: Lines<'_>) -> Result<Lists, CertFault>
     requires lawful { IsLanguage lang.now }
     requires few { AreFew lines }
-    ensures is { Reads (λ x. record { language = lang.now; answers = x.answers.items; network = x.network.items; refutations = x.items.items }) (certificate_in lang.now (unread lines.entry)) result }
-    ensures sound { IfOk result (λ x. IsSound (record { language = lang.now; answers = x.answers.items; network = x.network.items; refutations = x.items.items })) }
+    ensures is { Reads (λ x. record {
+      language = lang.now;
+      answers = x.answers.items;
+      network = x.network.items;
+      refutations = x.items.items;
+    }) (certificate_in lang.now (unread lines.entry)) result }
+    ensures sound { IfOk result (λ x. IsSound (record {
+      language = lang.now;
+      answers = x.answers.items;
+      network = x.network.items;
+      refutations = x.items.items;
+    })) }
 {
     let (m, rest) = next_count_up_to(MOST_ANSWERS, b"answers".as_slice(), lines)?;
     let (answers, rest) = answer_lines(alloc, lang, m, rest)?;
@@ -92,7 +103,8 @@ fn certificate_in(alloc: Global, lang: Language, lines: Lines<'_>) -> Result<Cer
 fn read_short(alloc: Global, bytes: &[u8]) -> Result<Cert, CertFault>
     requires { length bytes.now ≤ 67108864 }
     ensures read { IfOk result (λ cert. IsRead bytes.now cert) }
-    ensures refused { IfErr result (λ fault. fault ≢ CertFault.Memory → IsUnreadable bytes.now fault) }
+    ensures refused { IfErr result (λ fault. fault ≢ CertFault.Memory →
+        IsUnreadable bytes.now fault) }
 {
     let (voc, behind) = vocabulary_in(bytes)?;
     match read_vocabulary(alloc, voc) {
@@ -104,11 +116,13 @@ fn read_short(alloc: Global, bytes: &[u8]) -> Result<Cert, CertFault>
 
 /// The certificate that a text is, or why it is none.
 ///
-/// A text has at most 67,108,864 bytes. Its first line that is missing, isn't of its form or has a number out of its range
-/// refuses it. Where that is the vocabulary, and its bytes and their newline are there, its own fault is told.
+/// A text has at most 67,108,864 bytes. Its first line that is missing, isn't of its form or has a
+/// number out of its range refuses it. Where that is the vocabulary, and its bytes and their
+/// newline are there, its own fault is told.
 pub fn read_cert(alloc: Global, bytes: &[u8]) -> Result<Cert, CertFault>
     ensures read { IfOk result (λ cert. IsRead bytes.now cert) }
-    ensures refused { IfErr result (λ fault. fault ≢ CertFault.Memory → IsUnreadable bytes.now fault) }
+    ensures refused { IfErr result (λ fault. fault ≢ CertFault.Memory →
+        IsUnreadable bytes.now fault) }
 {
     if bytes.len() > MOST_CERTIFICATE {
         return Err(CertFault::TooLong);

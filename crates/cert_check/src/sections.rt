@@ -1,11 +1,14 @@
 //! The lines of answers, of a network's items and of listed candidates.
 
-ghost use Rattle.std.specs.Prelude.{◌≡◌, ◌<◌, ◌≤◌, All, IfOk, IfSome, IsTrue, Some, length, vec_len};
+ghost use Rattle.std.specs.Prelude.{◌≡◌, ◌<◌, ◌≤◌, All, IfOk, IfSome, IsTrue, Some, length};
+ghost use Rattle.std.specs.Prelude.{vec_len};
 ghost use Rattle.std.specs.Option.{ok_or, option_map};
 ghost use Rattle.language.specs.Language.{IsCandidate, IsQuestion, candidates, range_of};
 ghost use Rattle.language.specs.Ranges.{is_in};
 ghost use Rattle.language.specs.Answers.{IsNetwork};
-ghost use Rattle.cert_check.specs.Reading.{answer_line_in, answers_read, item_in, item_lines, item_listed_in, listed_lines, next_line, pair_in, question_in, reply_in, token_in, tokens_in, value_in};
+ghost use Rattle.cert_check.specs.Reading.{answer_line_in, answers_read, item_in, item_lines};
+ghost use Rattle.cert_check.specs.Reading.{item_listed_in, listed_lines, next_line, pair_in};
+ghost use Rattle.cert_check.specs.Reading.{question_in, reply_in, token_in, tokens_in, value_in};
 ghost use Rattle.line_text.specs.Left.{words_left};
 ghost use Rattle.cert_check.specs.Read.{AreFew, Reads, unread};
 
@@ -93,7 +96,8 @@ pub(crate) fn answer_lines<'a>(
     lines: Lines<'a>,
 ) -> Result<(Vec<Entry>, Lines<'a>), CertFault>
     requires few { AreFew lines }
-    ensures is { Reads (λ x. (x.0.items, unread x.1)) (answers_read lang.now count (unread lines.entry)) result }
+    ensures is { Reads (λ x. (x.0.items, unread x.1))
+        (answers_read lang.now count (unread lines.entry)) result }
     ensures few { IfOk result (λ x. AreFew x.1) }
     ensures questions { IfOk result (λ x. All (λ a. IsQuestion lang.now a.question) x.0.items) }
     ensures long { IfOk result (λ x. vec_len x.0 ≡ count) }
@@ -125,7 +129,8 @@ fn item_in(lang: &Language, line: &[u8]) -> Option<Candidate>
 #[tactic(auto, unfolding(crate::specs::Reading::next_line))]
 fn next_item<'a>(lang: &Language, lines: Lines<'a>) -> Result<(Candidate, Lines<'a>), CertFault>
     requires few { AreFew lines }
-    ensures is { Reads (λ x. (x.0, unread x.1)) (next_line (item_in lang.now) (unread lines.entry)) result }
+    ensures is { Reads (λ x. (x.0, unread x.1))
+        (next_line (item_in lang.now) (unread lines.entry)) result }
     ensures few { IfOk result (λ x. AreFew x.1) }
     ensures candidate { IfOk result (λ x. IsCandidate lang.now x.0) }
 {
@@ -142,7 +147,8 @@ pub(crate) fn item_lines<'a>(
     lines: Lines<'a>,
 ) -> Result<(Vec<Candidate>, Lines<'a>), CertFault>
     requires few { AreFew lines }
-    ensures is { Reads (λ x. (x.0.items, unread x.1)) (item_lines lang.now count (unread lines.entry)) result }
+    ensures is { Reads (λ x. (x.0.items, unread x.1))
+        (item_lines lang.now count (unread lines.entry)) result }
     ensures few { IfOk result (λ x. AreFew x.1) }
     ensures network { IfOk result (λ x. IsNetwork lang.now x.0.items) }
     ensures long { IfOk result (λ x. vec_len x.0 ≡ count) }
@@ -180,7 +186,8 @@ fn tokens_in(
     line: u32,
     words: Words<'_>,
 ) -> Result<Vec<Token>, CertFault>
-    ensures { Reads (λ tokens. tokens.items) (ok_or (tokens_in items (words_left words.entry)) (CertFault.BadLine line)) result }
+    ensures { Reads (λ tokens. tokens.items)
+        (ok_or (tokens_in items (words_left words.entry)) (CertFault.BadLine line)) result }
 {
     let mut tokens = Vec::new(alloc);
     for word in words {
@@ -199,7 +206,8 @@ fn listed_in(
     line: u32,
     text: &[u8],
 ) -> Result<Listed, CertFault>
-    ensures is { Reads (λ r. r) (ok_or (item_listed_in lang.now items least text.now) (CertFault.BadLine line)) result }
+    ensures is { Reads (λ r.
+        r) (ok_or (item_listed_in lang.now items least text.now) (CertFault.BadLine line)) result }
     ensures known { IfOk result (λ r. r.candidate < length (candidates lang.now)) }
     ensures low { IfOk result (λ r. r.candidate < 4294967295) }
 {
@@ -219,7 +227,8 @@ fn next_listed<'a>(
     lines: Lines<'a>,
 ) -> Result<(Listed, Lines<'a>), CertFault>
     requires few { AreFew lines }
-    ensures is { Reads (λ x. (x.0, unread x.1)) (next_line (item_listed_in lang.now items least) (unread lines.entry)) result }
+    ensures is { Reads (λ x. (x.0, unread x.1))
+        (next_line (item_listed_in lang.now items least) (unread lines.entry)) result }
     ensures few { IfOk result (λ x. AreFew x.1) }
     ensures known { IfOk result (λ x. x.0.candidate < length (candidates lang.now)) }
     ensures low { IfOk result (λ x. x.0.candidate < 4294967295) }
@@ -238,9 +247,11 @@ pub(crate) fn listed_lines<'a>(
     lines: Lines<'a>,
 ) -> Result<(Vec<Listed>, Lines<'a>), CertFault>
     requires few { AreFew lines }
-    ensures is { Reads (λ x. (x.0.items, unread x.1)) (listed_lines lang.now items count (unread lines.entry)) result }
+    ensures is { Reads (λ x. (x.0.items, unread x.1))
+        (listed_lines lang.now items count (unread lines.entry)) result }
     ensures few { IfOk result (λ x. AreFew x.1) }
-    ensures known { IfOk result (λ x. All (λ r. r.candidate < length (candidates lang.now)) x.0.items) }
+    ensures known { IfOk result
+        (λ x. All (λ r. r.candidate < length (candidates lang.now)) x.0.items) }
     ensures long { IfOk result (λ x. vec_len x.0 ≡ count) }
 {
     let mut listed = Vec::new(alloc);

@@ -11,7 +11,8 @@ use std::alloc::{AllocError, Global};
 /// The most bytes that the text of a certificate may have.
 const MOST_TEXT: usize = 67_108_864;
 
-/// The pieces that were added. Once they are too long, no more is written: the whole is too long, whatever follows.
+/// The pieces that were added. Once they are too long, no more is written: the whole is too long,
+/// whatever follows.
 #[derive(Drop)]
 pub(crate) struct Sheet {
     /// The pieces, where they aren't too long.
@@ -55,7 +56,8 @@ impl Sheet {
 
     /// The whole text. `TooLarge` where it is too long.
     pub(crate) fn finish(self) -> Result<String, MakeFault>
-        ensures { (whole : List ℕ) → IsSheetOf self whole → Makes string_bytes (fitting_text whole) result }
+        ensures { (whole : List ℕ) → IsSheetOf self whole →
+            Makes string_bytes (fitting_text whole) result }
     {
         if self.is_full {
             return Err(MakeFault::TooLarge);

@@ -4,9 +4,11 @@ ghost use Rattle.std.specs.Prelude.{◌≡◌, ◌<◌, ◌^◌, not, List, All,
 ghost use Rattle.assign.specs.Sets.{numbers};
 ghost use Rattle.assign.specs.Assignment.{variables_of};
 ghost use Rattle.assign.specs.Events.{Answer};
-ghost use Rattle.language.specs.Language.{IsCandidate, IsLanguage, IsQuestion, accepts, candidates, scope_of, violates, Language as Lang};
+ghost use Rattle.language.specs.Language.{IsCandidate, IsLanguage, IsQuestion, accepts, candidates};
+ghost use Rattle.language.specs.Language.{scope_of, violates, Language as Lang};
 ghost use Rattle.language.specs.Answers.{IsNetwork, has_scope};
-ghost use Rattle.cert_check.specs.Checking.{has_other, has_own_no, is_other, is_rival, is_uncovered, repeats_scope};
+ghost use Rattle.cert_check.specs.Checking.{has_other, has_own_no, is_other, is_rival};
+ghost use Rattle.cert_check.specs.Checking.{is_uncovered, repeats_scope};
 ghost use Rattle.cert_check.specs.Good.{has_refutation};
 ghost use Rattle.cert_check.specs.Told.{IsToldBy};
 
@@ -35,7 +37,8 @@ pub(crate) fn scopes_of(
     Ok(sets)
 }
 
-/// Whether the question violates an item whose scope is this. A set is looked at first, since most scopes aren't covered.
+/// Whether the question violates an item whose scope is this. A set is looked at first, since most
+/// scopes aren't covered.
 fn is_violated(lang: &Language, c: Candidate, scope: VarSet, q: &Partial, vars: VarSet) -> bool
     requires lawful { IsLanguage lang.now }
     requires candidate { IsCandidate lang.now c }
@@ -91,7 +94,8 @@ fn has_other(net: &[Candidate], c: Candidate) -> bool
 
 /// Whether the answers don't tell the candidate from another item on its scope.
 fn is_rival(net: &[Candidate], told: &Told, c: Candidate) -> bool
-    ensures { (l : Lang) (t : List Answer) → IsToldBy l t told.now → IsCandidate l c → result ≡ is_rival l net.now t c }
+    ensures { (l : Lang) (t : List Answer) → IsToldBy l t told.now → IsCandidate l c →
+        result ≡ is_rival l net.now t c }
 {
     !told.is_struck(c) && !told.is_spared(c) && has_other(net, c)
 }
@@ -117,7 +121,8 @@ fn is_uncovered(
     c: Candidate,
 ) -> bool
     requires { IsCandidate lang.now c }
-    ensures { (t : List Answer) → IsToldBy lang.now t told.now → result ≡ is_uncovered lang.now net.now t items.now c }
+    ensures { (t : List Answer) → IsToldBy lang.now t told.now →
+        result ≡ is_uncovered lang.now net.now t items.now c }
 {
     !told.is_struck(c) && !has_scope(net, c.scope) && !has_refutation(items, lang.number_of(c))
 }
@@ -163,7 +168,8 @@ pub(crate) fn first_repeated(net: &[Candidate]) -> Option<u32>
 pub(crate) fn first_without_no(lang: &Language, net: &[Candidate], told: &Told) -> Option<u32>
     requires network { IsNetwork lang.now net.now }
     requires few { length net.now < 2 ^ 32 }
-    ensures { (t : List Answer) → IsToldBy lang.now t told.now → result ≡ position (λ c. not (has_own_no lang.now t c)) net.now }
+    ensures { (t : List Answer) → IsToldBy lang.now t told.now →
+        result ≡ position (λ c. not (has_own_no lang.now t c)) net.now }
 {
     for i in 0..net.len() {
         if !told.has_own_no(net[i]) {
@@ -175,7 +181,8 @@ pub(crate) fn first_without_no(lang: &Language, net: &[Candidate], told: &Told) 
 
 /// The first candidate that the answers don't tell from the learned one on its scope.
 pub(crate) fn first_rival(lang: &Language, net: &[Candidate], told: &Told) -> Option<u32>
-    ensures { (t : List Answer) → IsToldBy lang.now t told.now → result ≡ position (is_rival lang.now net.now t) (candidates lang.now) }
+    ensures { (t : List Answer) → IsToldBy lang.now t told.now →
+        result ≡ position (is_rival lang.now net.now t) (candidates lang.now) }
 {
     for number in 0..lang.candidates() {
         if is_rival(net, told, lang.candidate(number)) {
@@ -192,7 +199,8 @@ pub(crate) fn first_uncovered(
     told: &Told,
     items: &[Listed],
 ) -> Option<u32>
-    ensures { (t : List Answer) → IsToldBy lang.now t told.now → result ≡ position (is_uncovered lang.now net.now t items.now) (candidates lang.now) }
+    ensures { (t : List Answer) → IsToldBy lang.now t told.now →
+        result ≡ position (is_uncovered lang.now net.now t items.now) (candidates lang.now) }
 {
     for number in 0..lang.candidates() {
         if is_uncovered(lang, net, told, items, lang.candidate(number)) {

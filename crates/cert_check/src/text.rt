@@ -1,7 +1,8 @@
 //! What is told of a certificate.
 
 ghost use Rattle.std.specs.Prelude.{◌≡◌, ◌++◌, ◌∷◌, [], IfOk, OnOk, string_bytes};
-ghost use Rattle.cert_check.specs.Texts.{cert_fault_line, confirmed_text, flaw_line, make_fault_line};
+ghost use Rattle.cert_check.specs.Texts.{cert_fault_line, confirmed_text, flaw_line};
+ghost use Rattle.cert_check.specs.Texts.{make_fault_line};
 
 use crate::cert::Cert;
 use crate::fault::{CertFault, MakeFault};
@@ -18,7 +19,8 @@ fn add_line(text: &mut String, line: &str) -> Result<(), AllocError>
     text.push('\n')
 }
 
-/// `confirmed 2`, where the certificate has so many answers, and a line for each item of the network.
+/// `confirmed 2`, where the certificate has so many answers, and a line for each item of the
+/// network.
 pub fn confirmed_text(alloc: Global, cert: &Cert) -> Result<String, Memory>
     ensures { IfOk result (λ text. string_bytes text ≡ confirmed_text cert.now) }
 {
@@ -48,8 +50,8 @@ pub fn flaw_text(alloc: Global, flaw: &Flaw) -> Result<String, Memory>
     Ok(text)
 }
 
-/// Why no certificate is made, a line: `refused certificate long 0`. Nothing that is given causes want of memory; it is told
-/// as `memory`.
+/// Why no certificate is made, a line: `refused certificate long 0`. Nothing that is given causes
+/// want of memory; it is told as `memory`.
 pub fn make_fault_text(alloc: Global, fault: &MakeFault) -> Result<String, Memory>
     ensures { IfOk result (λ text. string_bytes text ≡ make_fault_line fault.now) }
 {
@@ -69,8 +71,8 @@ fn voc_fault_text(alloc: Global, fault: VocFault) -> Result<String, AllocError>
     format!(in alloc; "refused certificate form vocabulary {told}\n")
 }
 
-/// Why a text is no certificate, a line: `refused certificate form bad line 4`. No bytes cause want of memory; it is told as
-/// `memory`.
+/// Why a text is no certificate, a line: `refused certificate form bad line 4`. No bytes cause want
+/// of memory; it is told as `memory`.
 pub fn cert_fault_text(alloc: Global, fault: &CertFault) -> Result<String, Memory>
     ensures { IfOk result (λ text. string_bytes text ≡ cert_fault_line fault.now) }
 {

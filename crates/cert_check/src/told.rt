@@ -3,7 +3,8 @@
 ghost use Rattle.std.specs.Prelude.{◌≡◌, ◌<◌, ℕ, true, List, All, IfOk, IfSome, Some, length, not};
 ghost use Rattle.assign.specs.SetLemmas.{is_one};
 ghost use Rattle.assign.specs.Events.{Answer};
-ghost use Rattle.language.specs.Language.{IsCandidate, IsLanguage, IsQuestion, relations_on, violates, Language as Lang};
+ghost use Rattle.language.specs.Language.{IsCandidate, IsLanguage, IsQuestion, relations_on};
+ghost use Rattle.language.specs.Language.{violates, Language as Lang};
 ghost use Rattle.language.specs.Answers.{is_struck};
 ghost use Rattle.cert_check.specs.Checking.{has_own_no, is_spared};
 ghost use Rattle.cert_check.specs.Told.{AreSpared, AreUnstruck, HaveLost, IsToldBy, is_no_about};
@@ -21,7 +22,8 @@ const MOST_IN_SCOPE: u8 = 4;
 pub(crate) struct Told {
     /// For each scope the relations whose candidates no yes violates: bit r is one for relation r.
     unstruck: Vec<u64>,
-    /// For each scope that a no is about exactly the relations that accept the tuple of such a no: bit r is one for relation r.
+    /// For each scope that a no is about exactly the relations that accept the tuple of such a no:
+    /// bit r is one for relation r.
     spared: Vec<Option<u64>>,
 }
 
@@ -30,7 +32,8 @@ fn unviolated(lang: &Language, s: ScopeId, q: &Partial) -> u64
     requires lawful { IsLanguage lang.now }
     requires scope { s < length lang.now.scopes }
     requires question { IsQuestion lang.now q.now }
-    ensures { (r : ℕ) → r < length (relations_on lang.now s) → is_one result r ≡ not (violates lang.now (record { scope = s; rel = r }) q.now) }
+    ensures { (r : ℕ) → r < length (relations_on lang.now s) →
+        is_one result r ≡ not (violates lang.now (record { scope = s; rel = r }) q.now) }
 {
     match lang.place_on(s, q) {
         None => u64::MAX,
@@ -72,7 +75,8 @@ pub(crate) fn unstruck(
 
 /// Whether no yes violates the candidate, by what is left on each scope.
 pub(crate) fn is_unstruck(left: &[u64], c: Candidate) -> bool
-    ensures { (l : Lang) (t : List Answer) → AreUnstruck l t left.now → IsCandidate l c → result ≡ not (is_struck l t c) }
+    ensures { (l : Lang) (t : List Answer) → AreUnstruck l t left.now → IsCandidate l c →
+        result ≡ not (is_struck l t c) }
 {
     match left.get(usize::from(c.scope)) {
         Some(relations) => c.rel < 64 && (*relations >> c.rel) & 1 == 1,
@@ -85,7 +89,8 @@ fn own_scope(lang: &Language, entry: &Entry) -> Option<ScopeId>
     requires { IsLanguage lang.now }
     ensures known { IfSome result (λ s. s < length lang.now.scopes) }
     ensures about { IfSome result (λ s. is_no_about lang.now s entry.now ≡ true) }
-    ensures only { (s : ℕ) → s < length lang.now.scopes → is_no_about lang.now s entry.now ≡ true → result ≡ Some s }
+    ensures only { (s : ℕ) → s < length lang.now.scopes → is_no_about lang.now s entry.now ≡ true →
+        result ≡ Some s }
 {
     if entry.yes {
         return None;
@@ -126,14 +131,16 @@ impl Told {
 
     /// Whether a yes violates the candidate.
     pub(crate) fn is_struck(&self, c: Candidate) -> bool
-        ensures { (l : Lang) (t : List Answer) → IsToldBy l t self.now → IsCandidate l c → result ≡ is_struck l t c }
+        ensures { (l : Lang) (t : List Answer) → IsToldBy l t self.now → IsCandidate l c →
+            result ≡ is_struck l t c }
     {
         !is_unstruck(&self.unstruck, c)
     }
 
     /// Whether a no is about exactly the candidate's scope.
     pub(crate) fn has_own_no(&self, c: Candidate) -> bool
-        ensures { (l : Lang) (t : List Answer) → IsToldBy l t self.now → IsCandidate l c → result ≡ has_own_no l t c }
+        ensures { (l : Lang) (t : List Answer) → IsToldBy l t self.now → IsCandidate l c →
+            result ≡ has_own_no l t c }
     {
         match self.spared.get(usize::from(c.scope)) {
             Some(Some(_)) => true,
@@ -143,7 +150,8 @@ impl Told {
 
     /// Whether a no about exactly its scope doesn't exclude the candidate.
     pub(crate) fn is_spared(&self, c: Candidate) -> bool
-        ensures { (l : Lang) (t : List Answer) → IsToldBy l t self.now → IsCandidate l c → result ≡ is_spared l t c }
+        ensures { (l : Lang) (t : List Answer) → IsToldBy l t self.now → IsCandidate l c →
+            result ≡ is_spared l t c }
     {
         match self.spared.get(usize::from(c.scope)) {
             Some(Some(relations)) => c.rel < 64 && (*relations >> c.rel) & 1 == 1,

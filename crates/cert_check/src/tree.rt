@@ -1,8 +1,10 @@
 //! Writing the tree by which the network implies a candidate.
 
-ghost use Rattle.std.specs.Prelude.{◌≡◌, ◌<◌, ◌≤◌, false, [], ◌∷◌, length, find, position, IfOk, IfSome, OnOk};
+ghost use Rattle.std.specs.Prelude.{◌≡◌, ◌<◌, ◌≤◌, false, [], ◌∷◌, length, find, position, IfOk};
+ghost use Rattle.std.specs.Prelude.{IfSome, OnOk};
 ghost use Rattle.std.specs.List.{flat_map};
-ghost use Rattle.language.specs.Language.{IsCandidate, IsImplied, IsQuestion, variable_count, violates};
+ghost use Rattle.language.specs.Language.{IsCandidate, IsImplied, IsQuestion, variable_count};
+ghost use Rattle.language.specs.Language.{violates};
 ghost use Rattle.language.specs.Answers.{IsNetwork};
 ghost use Rattle.language.specs.Search.{satisfies};
 ghost use Rattle.cert_check.specs.ByVariable.{AreOnLast, by_variable, last_of};
@@ -43,7 +45,8 @@ fn first_of(lang: &Language, net: &[Candidate], numbers: &[u32], e: &Partial) ->
         .find(|i| violates_item(lang, net, e, *i))
 }
 
-/// The first item that the assignment violates, where each that it violates has the last variable in its scope.
+/// The first item that the assignment violates, where each that it violates has the last variable
+/// in its scope.
 fn first_violated(
     lang: &Language,
     net: &[Candidate],
@@ -79,7 +82,8 @@ fn node(
     requires known { IfSome last (λ v. v < variable_count lang.now) }
     requires question { IsQuestion lang.now e.now }
     requires last { AreOnLast lang.now net.now last e.now }
-    ensures { result ≡ node_of (position (λ d. violates lang.now d e.now) net.now) (satisfies lang.now c e.now) }
+    ensures { result ≡ node_of (position (λ d. violates lang.now d e.now) net.now)
+        (satisfies lang.now c e.now) }
 {
     match first_violated(lang, net, by, last, e) {
         Some(i) => Token::Item(i),
@@ -113,7 +117,8 @@ fn branches_of(token: Token) -> u32
     }
 }
 
-/// Adds the tokens of the candidate's tree. Says whether the tree has more branches than the budget; then it isn't added whole.
+/// Adds the tokens of the candidate's tree. Says whether the tree has more branches than the
+/// budget; then it isn't added whole.
 pub(crate) fn add_tree(
     sheet: &mut Sheet,
     lang: &Language,
@@ -128,7 +133,8 @@ pub(crate) fn add_tree(
     requires implied { IsImplied lang.now net.now c }
     requires small_budget { budget ≤ 1000000000 }
     ensures long { IfOk result (λ long. long ≡ is_long lang.now net.now budget c) }
-    ensures added { IfOk result (λ long. long ≡ false → AddsPiece sheet.old (flat_map token_text (tree_of lang.now net.now c)) sheet.new) }
+    ensures added { IfOk result (λ long. long ≡ false →
+        AddsPiece sheet.old (flat_map token_text (tree_of lang.now net.now c)) sheet.new) }
 {
     let order = lang.order_of(c);
     let mut values = Values::new();

@@ -18,7 +18,8 @@ pub enum Flaw {
     NoOwnNo(u32),
     /// The answers don't tell the candidate of this number from the learned one on its scope.
     Rival(u32),
-    /// The candidate of this number is on a scope where nothing is learned, neither excluded by a yes nor listed.
+    /// The candidate of this number is on a scope where nothing is learned, neither excluded by a
+    /// yes nor listed.
     Uncovered(u32),
     /// The tokens at this place of the list don't refute.
     Refutation(u32),

@@ -1,4 +1,5 @@
-//! Going through the tokens of a tree. Only the first prefix at which a node is still to stand is kept: the others follow from it.
+//! Going through the tokens of a tree. Only the first prefix at which a node is still to stand is
+//! kept: the others follow from it.
 
 ghost use Rattle.std.specs.Prelude.{◌≡◌, ◌<◌, ◌++◌, length};
 ghost use Rattle.language.specs.Language.{IsCandidate, IsLanguage, IsQuestion, variable_count};
@@ -62,7 +63,8 @@ fn is_lawful(
     }
 }
 
-/// Goes on behind a prefix and those that begin with it. Says whether a node is still to stand anywhere.
+/// Goes on behind a prefix and those that begin with it. Says whether a node is still to stand
+/// anywhere.
 fn go_on(lang: &Language, c: Candidate, order: &[u8], values: &mut Values, e: &mut Partial) -> bool
     requires lawful { IsLanguage lang.now }
     requires candidate { IsCandidate lang.now c }
@@ -84,7 +86,8 @@ fn go_on(lang: &Language, c: Candidate, order: &[u8], values: &mut Values, e: &m
     false
 }
 
-/// Goes on from a node to the next one: below a branch, and behind a leaf. Says whether one is still to stand anywhere.
+/// Goes on from a node to the next one: below a branch, and behind a leaf. Says whether one is
+/// still to stand anywhere.
 pub(crate) fn step(
     lang: &Language,
     c: Candidate,
@@ -99,7 +102,8 @@ pub(crate) fn step(
     requires at { IsPrefixAt lang.now c values.old.items e.old }
     requires branch { token ≡ Branch → length values.old.items < variable_count lang.now }
     ensures at { IsPrefixAt lang.now c values.new.items e.new }
-    ensures next { children lang.now c values.old.items token ++ later lang.now c values.old.items ≡ ahead result lang.now c values.new.items }
+    ensures next { children lang.now c values.old.items token
+        ++ later lang.now c values.old.items ≡ ahead result lang.now c values.new.items }
 {
     match token {
         Token::Branch => {

@@ -112,7 +112,8 @@ fn push_pieces(alloc: Global, text: &mut String, writer: &mut Slow, pieces: &str
     Some(())
 }
 
-/// The flush that fails, from 0, and pieces: whether each is taken, and the bytes that were written.
+/// The flush that fails, from 0, and pieces: whether each is taken, and the bytes that were
+/// written.
 pub(crate) fn writer(alloc: Global, arguments: &str) -> Option<String> {
     let (fails, pieces) = arguments.split_once(" of ")?;
     let mut writer = Slow {

@@ -1,4 +1,5 @@
-//! Texts that were worked out by hand: of clauses, of models that a solver may print, and of what remains of a network.
+//! Texts that were worked out by hand: of clauses, of models that a solver may print, and of what
+//! remains of a network.
 
 ghost use Rattle.language.specs.Answers.{IsNetwork};
 

@@ -1,6 +1,7 @@
-//! Trials of what lies around a session: sources and sinks, lines as they are typed, teachers, which are lines, networks and
-//! generated targets; and what is done with a network that was learned: its clauses, models that are read back as solutions,
-//! and what remains of it. `stdin` is their table.
+//! Trials of what lies around a session: sources and sinks, lines as they are typed, teachers,
+//! which are lines, networks and generated targets; and what is done with a network that was
+//! learned: its clauses, models that are read back as solutions, and what remains of it. `stdin` is
+//! their table.
 #![tactic(auto)]
 
 mod faulty;

@@ -2,7 +2,8 @@
 
 use std::alloc::Global;
 
-/// A relation on two variables: the tuple of values x and y, counted from 0, is in it where its bit d x + y is one.
+/// A relation on two variables: the tuple of values x and y, counted from 0, is in it where its bit
+/// d x + y is one.
 #[derive(Clone, Copy)]
 pub(crate) struct Item {
     pub(crate) relation: &'static str,
@@ -28,7 +29,8 @@ fn is_violated(d: u64, item: &Item, assignment: u64) -> bool {
     (item.accepted >> place) & 1 == 0
 }
 
-/// Whether each of the first variables has a value of its range, from a first to a last value, counted from 1.
+/// Whether each of the first variables has a value of its range, from a first to a last value,
+/// counted from 1.
 fn is_within(d: u64, ranges: &[(u8, u8)], assignment: u64) -> bool {
     let base = d.max(1);
     let mut left = assignment;
@@ -42,7 +44,8 @@ fn is_within(d: u64, ranges: &[(u8, u8)], assignment: u64) -> bool {
     true
 }
 
-/// Whether each of so many assignments within the ranges that violates none of both lists doesn't violate the item.
+/// Whether each of so many assignments within the ranges that violates none of both lists doesn't
+/// violate the item.
 fn is_implied(
     d: u64,
     ranges: &[(u8, u8)],
@@ -63,8 +66,8 @@ fn is_implied(
     true
 }
 
-/// The places of the items that remain when those are dropped that the others imply, in order, over so many assignments of d
-/// values, of which those within the ranges count.
+/// The places of the items that remain when those are dropped that the others imply, in order, over
+/// so many assignments of d values, of which those within the ranges count.
 pub(crate) fn remaining(
     alloc: Global,
     d: u64,

@@ -193,8 +193,8 @@ impl Log {
     }
 }
 
-/// A row: a first number, how many languages there are of each shape, how many networks of each language, shapes, and budgets,
-/// of which the last one is never spent.
+/// A row: a first number, how many languages there are of each shape, how many networks of each
+/// language, shapes, and budgets, of which the last one is never spent.
 #[derive(Drop)]
 struct Row {
     seed: u64,

@@ -41,7 +41,8 @@ fn push_next<S: Source>(text: &mut String, word: &str, source: &mut S) -> Option
     push_byte(text, read_byte(source))
 }
 
-/// The call that fails, and bytes: the line that is read of them, what is left, and the two bytes that are read next.
+/// The call that fails, and bytes: the line that is read of them, what is left, and the two bytes
+/// that are read next.
 pub(crate) fn failing_line(alloc: Global, arguments: &str) -> Option<String> {
     let (call, written) = arguments.split_once(" of ")?;
     let bytes = text_in(alloc, written)?.into_bytes();
@@ -61,7 +62,8 @@ fn push_all(text: &mut String, word: &str, got: Result<Vec<u8>, AllFault>) -> Op
     }
 }
 
-/// The call that fails, the most bytes, and bytes: what is read of them, and what is read then; and the first line.
+/// The call that fails, the most bytes, and bytes: what is read of them, and what is read then; and
+/// the first line.
 pub(crate) fn whole(alloc: Global, arguments: &str) -> Option<String> {
     let (front, written) = arguments.split_once(" of ")?;
     let (call, most) = front.split_once(' ')?;
@@ -106,8 +108,8 @@ fn push_pieces<K: Sink>(
     Some(())
 }
 
-/// The call that fails, and pieces: whether a sink takes each of them, and what it holds then; and the same of a sink that doesn't
-/// fail.
+/// The call that fails, and pieces: whether a sink takes each of them, and what it holds then; and
+/// the same of a sink that doesn't fail.
 pub(crate) fn sinks(alloc: Global, arguments: &str) -> Option<String> {
     let (call, pieces) = arguments.split_once(" of ")?;
     let call = call_in(call)?;

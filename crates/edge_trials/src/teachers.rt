@@ -25,7 +25,8 @@ fn told_word(told: Told) -> &'static str {
     }
 }
 
-/// Puts question number `k`, where both variables have their first value: what is told, written and left.
+/// Puts question number `k`, where both variables have their first value: what is told, written and
+/// left.
 fn turn<T: Teacher<MemSource, MemSink>>(
     alloc: Global,
     lang: &Language,
@@ -60,7 +61,8 @@ fn next_call(words: &mut SplitWhitespace<'_>) -> Option<u32> {
     call_in(words.next()?)
 }
 
-/// The question's number, the calls of the source and of the sink that fail, and lines: what they say.
+/// The question's number, the calls of the source and of the sink that fail, and lines: what they
+/// say.
 pub(crate) fn lines(alloc: Global, lang: &Language, arguments: &str) -> Option<String> {
     let (front, written) = arguments.split_once(" of ")?;
     let mut words = front.split_whitespace();
@@ -73,8 +75,8 @@ pub(crate) fn lines(alloc: Global, lang: &Language, arguments: &str) -> Option<S
     turn(alloc, lang, k, &mut teacher, &mut source, &mut sink)
 }
 
-/// The question's number, the call of the sink that fails, whether the teacher writes or is quiet, and a network in JSON: what it says, where
-/// a line could be read.
+/// The question's number, the call of the sink that fails, whether the teacher writes or is quiet,
+/// and a network in JSON: what it says, where a line could be read.
 pub(crate) fn network(alloc: Global, lang: &Language, arguments: &str) -> Option<String> {
     let (front, json) = arguments.split_once(" of ")?;
     let mut words = front.split_whitespace();

@@ -1,15 +1,18 @@
 //! A named file as a disk.
 
-ghost use Rattle.std.specs.Prelude.{◌≡◌, ◌≤◌, ◌≢◌, ◌⊎◌, ◌+◌, ◌-◌, ◌^◌, ◌++◌, min, max, Some, None, IsSome, IsNone, IsErr, IsSomeAnd, IfOk, OnOk, OnErr, IfSome, length, take, drop};
+ghost use Rattle.std.specs.Prelude.{◌≡◌, ◌≤◌, ◌≢◌, ◌⊎◌, ◌+◌, ◌-◌, ◌^◌, ◌++◌, min, max, Some, None};
+ghost use Rattle.std.specs.Prelude.{IsSome, IsNone, IsErr, IsSomeAnd, IfOk, OnOk, OnErr, IfSome};
+ghost use Rattle.std.specs.Prelude.{length, take, drop};
 ghost use Rattle.std.specs.Option.{ForSome, ForNone};
-ghost use Rattle.disk_model.specs.Disk.{Torn, IsWritten, Follows, Only, AddsNothing, Elapses, AreCalls, Rose, HasCause};
+ghost use Rattle.disk_model.specs.Disk.{Torn, IsWritten, Follows, Only, AddsNothing, Elapses};
+ghost use Rattle.disk_model.specs.Disk.{AreCalls, Rose, HasCause};
 ghost use Rattle.file_disk.specs.Seen.{HasAnotherLength, IsLengthOf};
 
 use crate::NamedFile;
 use disk_model::{Disk, Failed};
 
-/// A file as a disk. A write fails, and writes nothing, where the file hasn't the length any more that was last seen: then another
-/// program has written to it, or cut it.
+/// A file as a disk. A write fails, and writes nothing, where the file hasn't the length any more
+/// that was last seen: then another program has written to it, or cut it.
 #[derive(Drop)]
 pub struct FileDisk<F> {
     file: F,
@@ -35,9 +38,12 @@ impl<F: NamedFile> FileDisk<F> {
 
     /// The file's length, where it tells one and none was seen before, or the same. Else None.
     fn length_as_seen(&self) -> Option<u64>
-        ensures told { ForSome (F.content self.now.file) (λ bytes. IfSome result (λ n. n ≡ length bytes)) }
-        ensures noticed { ForSome (F.content self.now.file) (λ bytes. IsSomeAnd self.now.seen (λ n. n ≢ length bytes) → IsNone result) }
-        ensures cause { IsNone result → F.reads_fail self.now.file ⊎ HasAnotherLength self.now.seen (F.content self.now.file) }
+        ensures told { ForSome (F.content self.now.file)
+            (λ bytes. IfSome result (λ n. n ≡ length bytes)) }
+        ensures noticed { ForSome (F.content self.now.file)
+            (λ bytes. IsSomeAnd self.now.seen (λ n. n ≢ length bytes) → IsNone result) }
+        ensures cause { IsNone result →
+            F.reads_fail self.now.file ⊎ HasAnotherLength self.now.seen (F.content self.now.file) }
     {
         let Ok(length) = self.file.length() else {
             return None;
@@ -81,16 +87,18 @@ impl<F: NamedFile> Disk for FileDisk<F> {
     ghost only_now = { λ d. F.only_now d.file };
 
     fn len(&mut self) -> Result<u64, Failed>
-        ensures told { ForSome (F.content self.old.file) (λ bytes. IfOk result (λ n. n ≡ length bytes)) }
+        ensures told { ForSome (F.content self.old.file)
+            (λ bytes. IfOk result (λ n. n ≡ length bytes)) }
         ensures same { F.content self.new.file ≡ F.content self.old.file }
         ensures crash { AddsNothing (F.may_leave self.old.file) (F.may_leave self.new.file) }
-        ensures time { Elapses (F.moment self.old.file) (F.moment self.new.file) (F.left_since self.old.file) (F.left_since self.new.file) (F.may_leave self.new.file) }
+        ensures time { Elapses (F.moment self.old.file) (F.moment self.new.file)
+            (F.left_since self.old.file) (F.left_since self.new.file) (F.may_leave self.new.file) }
         ensures one_call { AreCalls 1 (2 ^ 64 - 1) (2 ^ 64 - 1) }
         ensures cause { HasCause self.old.faults self.new.faults result }
         ensures kept { OnOk result (self.new.faults ≡ self.old.faults) }
 
-        // It fails only where the file does, and sees the length. What was seen stays where it fails,
-        // and the file in any case.
+        // It fails only where the file does, and sees the length. What was seen stays where it
+        // fails, and the file in any case.
         ensures failed { IsErr result → F.reads_fail self.old.file }
         ensures seen { OnOk result (IsLengthOf self.new.seen (F.content self.new.file)) }
         ensures still { OnErr result (self.new.seen ≡ self.old.seen) }
@@ -106,18 +114,22 @@ impl<F: NamedFile> Disk for FileDisk<F> {
     }
 
     fn read(&mut self, at: u64, buf: &mut [u8]) -> Result<usize, Failed>
-        ensures told { ForSome (F.content self.old.file) (λ bytes. IfOk result (λ n. (n ≡ min (length buf.old) (length bytes - at)) × (buf.new ≡ take n (drop at bytes) ++ drop n buf.old))) }
+        ensures told { ForSome (F.content self.old.file)
+            (λ bytes. IfOk result (λ n. (n ≡ min (length buf.old) (length bytes - at))
+            × (buf.new ≡ take n (drop at bytes) ++ drop n buf.old))) }
         ensures fits { IfOk result (λ n. n ≤ length buf.old) }
         ensures same { F.content self.new.file ≡ F.content self.old.file }
         ensures crash { AddsNothing (F.may_leave self.old.file) (F.may_leave self.new.file) }
-        ensures time { Elapses (F.moment self.old.file) (F.moment self.new.file) (F.left_since self.old.file) (F.left_since self.new.file) (F.may_leave self.new.file) }
+        ensures time { Elapses (F.moment self.old.file) (F.moment self.new.file)
+            (F.left_since self.old.file) (F.left_since self.new.file) (F.may_leave self.new.file) }
         ensures one_call { AreCalls 1 (2 ^ 64 - 1) (2 ^ 64 - 1) }
         ensures cause { HasCause self.old.faults self.new.faults result }
         ensures kept { OnOk result (self.new.faults ≡ self.old.faults) }
 
         // It fails only where the file does, or where a place behind the last number of 64 bits is
         // to be read. It changes nothing.
-        ensures failed { IsErr result → F.reads_fail self.old.file ⊎ (2 ^ 64 ≤ at + length buf.old) }
+        ensures failed { IsErr result →
+            F.reads_fail self.old.file ⊎ (2 ^ 64 ≤ at + length buf.old) }
         ensures seen { self.new.seen ≡ self.old.seen }
         ensures file { self.new.file ≡ self.old.file }
     {
@@ -129,19 +141,24 @@ impl<F: NamedFile> Disk for FileDisk<F> {
 
     fn write_at(&mut self, at: u64, bytes: &[u8]) -> Result<(), Failed>
         requires { ForSome (F.content self.old.file) (λ old. at ≤ length old) }
-        ensures written { ForSome (F.content self.old.file) (λ old. IsWritten at bytes.now old (F.content self.new.file) result) }
+        ensures written { ForSome (F.content self.old.file)
+            (λ old. IsWritten at bytes.now old (F.content self.new.file) result) }
         ensures silent { ForNone (F.content self.old.file) (F.content self.new.file ≡ None) }
-        ensures crash { Follows (Torn at (length bytes.now)) (F.may_leave self.old.file) (F.may_leave self.new.file) }
-        ensures time { Elapses (F.moment self.old.file) (F.moment self.new.file) (F.left_since self.old.file) (F.left_since self.new.file) (F.may_leave self.new.file) }
+        ensures crash { Follows (Torn at (length bytes.now)) (F.may_leave self.old.file)
+            (F.may_leave self.new.file) }
+        ensures time { Elapses (F.moment self.old.file) (F.moment self.new.file)
+            (F.left_since self.old.file) (F.left_since self.new.file) (F.may_leave self.new.file) }
         ensures one_call { AreCalls 1 (2 ^ 64 - 1) (2 ^ 64 - 1) }
         ensures cause { HasCause self.old.faults self.new.faults result }
         ensures kept { OnOk result (self.new.faults ≡ self.old.faults) }
 
-        // It fails where the file has another length than the one last seen, and else only where the
-        // file does. The length that was seen stays where it fails, so the next write doesn't pass
-        // over what this one noticed.
-        ensures noticed { ForSome (F.content self.old.file) (λ bytes. IsSomeAnd self.old.seen (λ n. n ≢ length bytes) → IsErr result × (self.new.file ≡ self.old.file)) }
-        ensures failed { IsErr result → F.reads_fail self.old.file ⊎ F.writes_fail self.old.file at (length bytes.now) ⊎ HasAnotherLength self.old.seen (F.content self.old.file) }
+        // It fails where the file has another length than the one last seen, and else only where
+        // the file does. The length that was seen stays where it fails, so the next write doesn't
+        // pass over what this one noticed.
+        ensures noticed { ForSome (F.content self.old.file) (λ bytes. IsSomeAnd self.old.seen
+            (λ n. n ≢ length bytes) → IsErr result × (self.new.file ≡ self.old.file)) }
+        ensures failed { IsErr result → F.reads_fail self.old.file ⊎ F.writes_fail self.old.file at
+            (length bytes.now) ⊎ HasAnotherLength self.old.seen (F.content self.old.file) }
         ensures seen { OnOk result (IsLengthOf self.new.seen (F.content self.new.file)) }
         ensures still { OnErr result (self.new.seen ≡ self.old.seen) }
     {
@@ -158,10 +175,12 @@ impl<F: NamedFile> Disk for FileDisk<F> {
     }
 
     fn sync(&mut self) -> Result<(), Failed>
-        ensures durable { ForSome (F.content self.old.file) (λ bytes. OnOk result (Only bytes (F.may_leave self.new.file))) }
+        ensures durable { ForSome (F.content self.old.file)
+            (λ bytes. OnOk result (Only bytes (F.may_leave self.new.file))) }
         ensures same { F.content self.new.file ≡ F.content self.old.file }
         ensures crash { AddsNothing (F.may_leave self.old.file) (F.may_leave self.new.file) }
-        ensures time { Elapses (F.moment self.old.file) (F.moment self.new.file) (F.left_since self.old.file) (F.left_since self.new.file) (F.may_leave self.new.file) }
+        ensures time { Elapses (F.moment self.old.file) (F.moment self.new.file)
+            (F.left_since self.old.file) (F.left_since self.new.file) (F.may_leave self.new.file) }
         ensures one_call { AreCalls 1 (2 ^ 64 - 1) (2 ^ 64 - 1) }
         ensures cause { HasCause self.old.faults self.new.faults result }
         ensures kept { OnOk result (self.new.faults ≡ self.old.faults) }
@@ -179,7 +198,9 @@ impl<F: NamedFile> Disk for FileDisk<F> {
 
 /// Reads until the buffer is full or the file ends.
 fn read_whole<F: NamedFile>(file: &F, at: u64, buf: &mut [u8]) -> Result<usize, Failed>
-    ensures told { ForSome (F.content file.now) (λ bytes. IfOk result (λ n. (n ≡ min (length buf.old) (length bytes - at)) × (buf.new ≡ take n (drop at bytes) ++ drop n buf.old))) }
+    ensures told { ForSome (F.content file.now)
+        (λ bytes. IfOk result (λ n. (n ≡ min (length buf.old) (length bytes - at))
+        × (buf.new ≡ take n (drop at bytes) ++ drop n buf.old))) }
     ensures fits { IfOk result (λ n. n ≤ length buf.old) }
     ensures cause { IsErr result → F.reads_fail file.now ⊎ (2 ^ 64 ≤ at + length buf.old) }
 {

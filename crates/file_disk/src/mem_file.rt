@@ -1,9 +1,11 @@
 //! A file in memory, which tells everything.
 
-ghost use Rattle.std.specs.Prelude.{◌≡◌, ◌≤◌, ◌⊎◌, ◌-◌, ◌++◌, Some, None, length, take, drop, max, IsErr, IfOk, OnOk};
+ghost use Rattle.std.specs.Prelude.{◌≡◌, ◌≤◌, ◌⊎◌, ◌-◌, ◌++◌, Some, None, length, take, drop, max};
+ghost use Rattle.std.specs.Prelude.{IsErr, IfOk, OnOk};
 ghost use Rattle.std.specs.Option.{ForSome, ForNone};
 ghost use Rattle.disk_model.specs.Disk.{Torn, IsWritten, Follows, Only, AddsNothing, Elapses};
-ghost use Rattle.disk_model.specs.MemDisk.{content_of, images_of, moment_of, left_of, FailsNext, Outgrows, IsWornOut, tells_truth, counts, only};
+ghost use Rattle.disk_model.specs.MemDisk.{content_of, images_of, moment_of, left_of, FailsNext};
+ghost use Rattle.disk_model.specs.MemDisk.{Outgrows, IsWornOut, tells_truth, counts, only};
 
 use crate::NamedFile;
 use disk_model::{Disk, Failed, MemDisk};
@@ -49,7 +51,8 @@ impl NamedFile for MemFile {
 
     ghost reads_fail = { λ file. ⊥ };
 
-    ghost writes_fail = { λ file at n. FailsNext file.disk ⊎ Outgrows file.disk at n ⊎ IsWornOut file.disk };
+    ghost writes_fail = { λ file at n. FailsNext file.disk ⊎ Outgrows file.disk at n
+        ⊎ IsWornOut file.disk };
 
     ghost syncs_fail = { λ file. FailsNext file.disk ⊎ IsWornOut file.disk };
 

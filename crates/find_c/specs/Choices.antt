@@ -1,5 +1,6 @@
 -- Choices as the relations of a mask, with the choice of none or without it.
-use Rattle.std.specs.Prelude.{ℕ, ◌==◌, Bool, true, false, not, ◌&&◌, List, [], ◌∷◌, ◌++◌, map, Option, Some, None, slice_index_or, if◌then◌else◌}
+use Rattle.std.specs.Prelude.{ℕ, ◌==◌, Bool, true, false, not, ◌&&◌, List, [], ◌∷◌, ◌++◌, map}
+use Rattle.std.specs.Prelude.{Option, Some, None, slice_index_or, if◌then◌else◌}
 use Rattle.std.specs.List.{list_any}
 use Rattle.std.specs.Int.{bit_at}
 use Rattle.language.specs.TellingApart.{Choice, Scene}
@@ -7,7 +8,8 @@ use Rattle.assign.specs.Sets.{ones_of}
 
 -- the relations of a mask as choices, and none where it is one
 abbrev pub choices_of : ℕ → Bool → List Choice
-choices_of relations free = map (λ r. Some r) (ones_of relations) ++ (if free then None ∷ [] else [])
+choices_of relations free =
+    map (λ r. Some r) (ones_of relations) ++ (if free then None ∷ [] else [])
 
 -- the relation that is told apart from none, where there are no other choices
 abbrev pub beside_none : List Choice → Option ℕ
@@ -30,4 +32,5 @@ allows_at scene place (Some r) = slice_index_or (slice_index_or scene.relations 
 
 -- whether some choice accepts the tuple at a place and some rejects it
 abbrev pub differ_at : Scene → List Choice → ℕ → Bool
-differ_at scene choices place = list_any (allows_at scene place) choices && list_any (λ c. not (allows_at scene place c)) choices
+differ_at scene choices place = list_any (allows_at scene place) choices && list_any
+    (λ c. not (allows_at scene place c)) choices

@@ -7,7 +7,8 @@ abbrev pub pairs : Scene
 pairs = record {
   value_count = 2;
   arity = 2;
-  relations = (true ∷ false ∷ false ∷ true ∷ []) ∷ (false ∷ true ∷ true ∷ false ∷ []) ∷ (false ∷ false ∷ false ∷ false ∷ []) ∷ [];
+  relations = (true ∷ false ∷ false ∷ true ∷ []) ∷ (false ∷ true ∷ true ∷ false ∷ [])
+      ∷ (false ∷ false ∷ false ∷ false ∷ []) ∷ [];
 }
 
 -- all of them, and none

@@ -15,7 +15,8 @@ pub record TellingRun : Type 0 where
 abbrev pub IsChoiceOn : Language → ℕ → Choice → Type 0
 IsChoiceOn l s c = ForSome c (λ r. r < length (relations_on l s))
 
--- The scope and the choices are of this language, and the tuple is the least on which two of them differ.
+-- The scope and the choices are of this language, and the tuple is the least on which two of them
+-- differ.
 pub record IsRun (l : Language) (run : TellingRun) : Type 0 where
   pub scope : run.scope < length l.scopes
   pub choices : All (IsChoiceOn l run.scope) run.choices

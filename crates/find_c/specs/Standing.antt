@@ -18,7 +18,8 @@ chosen_after l Free replies = Got None
 
 -- it makes of further replies what the choices on a scope make of all of them
 abbrev pub RelStandsFor : RelNext → Language → ℕ → List Choice → List Bool → Type 0
-RelStandsFor next l s choices replies = (more : List Bool) → chosen_after l next more ≡ choose (scene_of l s) choices (replies ++ more)
+RelStandsFor next l s choices replies = (more : List Bool) →
+    chosen_after l next more ≡ choose (scene_of l s) choices (replies ++ more)
 
 -- a run on the scope, with just these choices left
 pub record IsRunOn (l : Language) (s : ℕ) (left : List Choice) (run : TellingRun) : Type 0 where
@@ -50,7 +51,8 @@ LeavesChoices l s choices Free = IsFree l s choices
 pub record IsTold (s : ℕ) (told : Chosen) (next : RelNext) : Type 0 where
   -- the tuple of a run is the one that is wanted
   pub waits : (run : TellingRun) → next ≡ Wants run → told ≡ WantsReply run.tuple
-  pub wanted : (tuple : List ℕ) → told ≡ WantsReply tuple → (run : TellingRun) × (next ≡ Wants run) × (run.tuple ≡ tuple)
+  pub wanted : (tuple : List ℕ) → told ≡ WantsReply tuple →
+      (run : TellingRun) × (next ≡ Wants run) × (run.tuple ≡ tuple)
   -- the candidate that was found is the one that is got
   pub found : (c : Candidate) → next ≡ Found c → told ≡ Got (Some c.rel)
   pub got : (r : ℕ) → told ≡ Got (Some r) → next ≡ Found (record { scope = s; rel = r })
@@ -60,5 +62,7 @@ pub record IsTold (s : ℕ) (told : Chosen) (next : RelNext) : Type 0 where
 
 -- so of each answer of a call, where it stands after replies
 abbrev pub RelStandingTells : Type 0
-RelStandingTells = (l : Language) (s : ℕ) (choices left : List Choice) (replies : List Bool) (next : RelNext) →
-    RelStandsFor next l s choices replies → LeavesChoices l s left next → IsTold s (choose (scene_of l s) choices replies) next
+RelStandingTells =
+    (l : Language) (s : ℕ) (choices left : List Choice) (replies : List Bool) (next : RelNext) →
+    RelStandsFor next l s choices replies → LeavesChoices l s left next →
+    IsTold s (choose (scene_of l s) choices replies) next

@@ -1,10 +1,12 @@
 //! The choices that are left on a scope.
 
-ghost use Rattle.std.specs.Prelude.{ℕ, ◌≡◌, ◌+◌, ◌^◌, ◌<◌, ◌≤◌, ◌==◌, ◌↔◌, [], false, true, not, nat_lt, length, slice_index_or, All, IsTrue};
+ghost use Rattle.std.specs.Prelude.{ℕ, ◌≡◌, ◌+◌, ◌^◌, ◌<◌, ◌≤◌, ◌==◌, ◌↔◌, [], false, true, not};
+ghost use Rattle.std.specs.Prelude.{nat_lt, length, slice_index_or, All, IsTrue};
 ghost use Rattle.std.specs.List.{filter, list_any};
 ghost use Rattle.std.specs.Bool.{beq};
 ghost use Rattle.std.specs.Int.{bit_at};
-ghost use Rattle.language.specs.Language.{IsLanguage, variable_count, range_of, scope_at, relations_on};
+ghost use Rattle.language.specs.Language.{IsLanguage, variable_count, range_of, scope_at};
+ghost use Rattle.language.specs.Language.{relations_on};
 ghost use Rattle.language.specs.Ranges.{is_in, are_in};
 ghost use Rattle.language.specs.Scenes.{scene_of};
 ghost use Rattle.language.specs.TellingApart.{remaining};
@@ -76,7 +78,8 @@ fn first_values(count: u8) -> u64
 /// The values of a variable's range: bit y is 1 where y is one of them.
 fn range_mask(lang: &Language, v: u8) -> u64
     requires { v < variable_count lang.now }
-    ensures { (y : ℕ) → y < lang.now.value_count → (bit_at result y == 1) ≡ is_in (range_of lang.now v) y }
+    ensures { (y : ℕ) → y < lang.now.value_count →
+        (bit_at result y == 1) ≡ is_in (range_of lang.now v) y }
 {
     // for its clauses alone: there are 64 values at most
     let _values = lang.d();
@@ -84,14 +87,17 @@ fn range_mask(lang: &Language, v: u8) -> u64
     first_values(last + 1) & !first_values(first)
 }
 
-/// Which places of a row are outside the ranges: bit y is 1 where the tuple y places further has a value that isn't one of its
-/// variable's. The values before the last are the same in the whole row.
+/// Which places of a row are outside the ranges: bit y is 1 where the tuple y places further has a
+/// value that isn't one of its variable's. The values before the last are the same in the whole
+/// row.
 fn outside_row(lang: &Language, s: ScopeId, place: u32) -> u64
     requires lawful { IsLanguage lang.now }
     requires scope { s < length lang.now.scopes }
-    requires row { IsAtRow lang.now.value_count (lang.now.value_count ^ length (scope_at lang.now s)) place }
+    requires row { IsAtRow lang.now.value_count
+        (lang.now.value_count ^ length (scope_at lang.now s)) place }
     requires below { place < lang.now.value_count ^ length (scope_at lang.now s) }
-    ensures { (y : ℕ) → y < lang.now.value_count → (bit_at result y == 1) ≡ is_outside lang.now s (place + y) }
+    ensures { (y : ℕ) → y < lang.now.value_count →
+        (bit_at result y == 1) ≡ is_outside lang.now s (place + y) }
 {
     if lang.is_whole(s) {
         return 0;
@@ -106,25 +112,31 @@ fn outside_row(lang: &Language, s: ScopeId, place: u32) -> u64
     }
 }
 
-/// The truth values of relation r on a scope from a place on, one for each value of the last variable, given which of the tuples are
-/// outside the ranges: there it holds, and within them as its table does.
+/// The truth values of relation r on a scope from a place on, one for each value of the last
+/// variable, given which of the tuples are outside the ranges: there it holds, and within them as
+/// its table does.
 #[inline]
 fn row_of(lang: &Language, s: ScopeId, r: u8, outside: u64, place: u32) -> u64
     requires scope { s < length lang.now.scopes }
     requires rel { r < length (relations_on lang.now s) }
-    requires row { place + lang.now.value_count ≤ lang.now.value_count ^ length (scope_at lang.now s) }
-    requires outside { (y : ℕ) → y < lang.now.value_count → (bit_at outside y == 1) ≡ is_outside lang.now s (place + y) }
-    ensures { (y : ℕ) → y < lang.now.value_count → (bit_at result y == 1) ≡ slice_index_or (slice_index_or (relations_on lang.now s) r []) (place + y) false }
+    requires row { place + lang.now.value_count
+        ≤ lang.now.value_count ^ length (scope_at lang.now s) }
+    requires outside { (y : ℕ) → y < lang.now.value_count →
+        (bit_at outside y == 1) ≡ is_outside lang.now s (place + y) }
+    ensures { (y : ℕ) → y < lang.now.value_count → (bit_at result y == 1)
+        ≡ slice_index_or (slice_index_or (relations_on lang.now s) r []) (place + y) false }
 {
     lang.table_on(s, r).row(place) | outside
 }
 
-/// Whether one of these relations rejects the first tuple. They are looked at up to the first such one.
+/// Whether one of these relations rejects the first tuple. They are looked at up to the first such
+/// one.
 fn some_rejects(lang: &Language, s: ScopeId, relations: u64) -> bool
     requires lawful { IsLanguage lang.now }
     requires scope { s < length lang.now.scopes }
     requires known { All (λ r. r < length (relations_on lang.now s)) (ones_of relations) }
-    ensures { result ≡ true → list_any (λ c. not (allows_at (scene_of lang.now s) 0 c)) (choices_of relations false) ≡ true }
+    ensures { result ≡ true → list_any (λ c. not (allows_at (scene_of lang.now s) 0 c))
+        (choices_of relations false) ≡ true }
 {
     let outside = outside_row(lang, s, 0);
     let mut left = relations;
@@ -178,15 +190,18 @@ impl Choices {
         if others == 0 { Some(r) } else { None }
     }
 
-    /// Where two choices differ among the places from one on, one for each value of the last variable: bit y is 1 exactly
-    /// where they do y places further. The bits past the values mean nothing.
+    /// Where two choices differ among the places from one on, one for each value of the last
+    /// variable: bit y is 1 exactly where they do y places further. The bits past the values mean
+    /// nothing.
     pub fn differences(&self, lang: &Language, s: ScopeId, place: u32) -> u64
         requires lawful { IsLanguage lang.now }
         requires scope { s < length lang.now.scopes }
         requires known { All (IsChoiceOn lang.now s) self.now }
-        requires row { IsAtRow lang.now.value_count (lang.now.value_count ^ length (scope_at lang.now s)) place }
+        requires row { IsAtRow lang.now.value_count
+            (lang.now.value_count ^ length (scope_at lang.now s)) place }
         requires below { place < lang.now.value_count ^ length (scope_at lang.now s) }
-        ensures { (y : ℕ) → y < lang.now.value_count → (bit_at result y == 1) ≡ differ_at (scene_of lang.now s) self.now (place + y) }
+        ensures { (y : ℕ) → y < lang.now.value_count →
+            (bit_at result y == 1) ≡ differ_at (scene_of lang.now s) self.now (place + y) }
     {
         let outside = outside_row(lang, s, place);
         if outside == u64::MAX {
@@ -210,7 +225,8 @@ impl Choices {
         }
     }
 
-    /// Whether none is a choice and some relation rejects the first tuple: then two choices differ there.
+    /// Whether none is a choice and some relation rejects the first tuple: then two choices differ
+    /// there.
     pub fn rejects_first(&self, lang: &Language, s: ScopeId) -> bool
         requires lawful { IsLanguage lang.now }
         requires scope { s < length lang.now.scopes }
@@ -224,7 +240,8 @@ impl Choices {
         }
     }
 
-    /// The choices that accept a tuple, or those that reject it, given the relations that accept it.
+    /// The choices that accept a tuple, or those that reject it, given the relations that accept
+    /// it.
     pub fn agreeing(&self, accepting: u64, yes: bool) -> Choices
         ensures { result ≡ filter (λ c. beq (is_accepting accepting c) «yes») self.now }
     {

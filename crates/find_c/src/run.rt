@@ -1,6 +1,7 @@
 //! Telling the choices on a scope apart, a reply at a time.
 
-ghost use Rattle.std.specs.Prelude.{ℕ, ◌≡◌, ◌≢◌, ◌↔◌, ◌⊎◌, ◌^◌, ◌<◌, Bool, true, false, List, [], ◌∷◌, ◌++◌, length, Some, None, slice_index_or, All};
+ghost use Rattle.std.specs.Prelude.{ℕ, ◌≡◌, ◌≢◌, ◌↔◌, ◌⊎◌, ◌^◌, ◌<◌, Bool, true, false, List, []};
+ghost use Rattle.std.specs.Prelude.{◌∷◌, ◌++◌, length, Some, None, slice_index_or, All};
 ghost use Rattle.rel_table.specs.Relation.{place, tuples};
 ghost use Rattle.language.specs.Language.{is_whole, scope_at, IsQuestion};
 ghost use Rattle.bias_store.specs.KeptSet.{IsMadeFor};
@@ -63,9 +64,12 @@ impl RelRun {
         requires made { IsMadeFor lang.now kept.now }
         requires scope { s < length lang.now.scopes }
         requires question { IsQuestion lang.now e.now }
-        ensures settled { LeavesChoices lang.now s (violated_choices lang.now kept.now.members e.now s) result }
-        ensures stands { RelStandsFor result lang.now s (violated_choices lang.now kept.now.members e.now s) [] }
-        ensures nothing { (result ≡ RelNext.Nothing) ↔ (violated_choices lang.now kept.now.members e.now s ≡ []) }
+        ensures settled { LeavesChoices lang.now s
+            (violated_choices lang.now kept.now.members e.now s) result }
+        ensures stands { RelStandsFor result lang.now s
+            (violated_choices lang.now kept.now.members e.now s) [] }
+        ensures nothing { (result ≡ RelNext.Nothing)
+            ↔ (violated_choices lang.now kept.now.members e.now s ≡ []) }
         ensures no_free { result ≢ RelNext.Free }
     {
         settle(lang, s, violated_choices(lang, kept, s, e), false)
@@ -82,14 +86,16 @@ impl RelRun {
         settle(lang, s, Choices::new(kept.on_scope(s), true), true)
     }
 
-    /// The run on all kept candidates on a scope, and none of them, where the place of its question is known: it isn't looked for.
+    /// The run on all kept candidates on a scope, and none of them, where the place of its question
+    /// is known: it isn't looked for.
     pub fn asking(lang: &Language, kept: &Kept, s: ScopeId, place: u32) -> RelRun
         requires made { IsMadeFor lang.now kept.now }
         requires scope { s < length lang.now.scopes }
         requires place { place < lang.now.value_count ^ length (scope_at lang.now s) }
         ensures scope { result.scope ≡ s }
         ensures choices { result.choices ≡ free_choices kept.now.members s }
-        ensures tuple { result.tuple ≡ slice_index_or (tuples lang.now.value_count (length (scope_at lang.now s))) place [] }
+        ensures tuple { result.tuple
+            ≡ slice_index_or (tuples lang.now.value_count (length (scope_at lang.now s))) place [] }
     {
         let relations = kept.on_scope(s);
         RelRun {
@@ -123,7 +129,8 @@ impl RelRun {
     /// Takes the reply: whether the question is a solution.
     pub fn reply(self, lang: &Language, yes: bool) -> RelNext
         requires { IsRun lang.now self }
-        ensures settled { LeavesChoices lang.now self.scope (after_reply (scene_of lang.now self.scope) self.tuple «yes» self.choices) result }
+        ensures settled { LeavesChoices lang.now self.scope
+            (after_reply (scene_of lang.now self.scope) self.tuple «yes» self.choices) result }
         ensures stands { (choices : List Choice) (replies : List Bool) →
             RelStandsFor (RelNext.Wants self) lang.now self.scope choices replies →
             RelStandsFor result lang.now self.scope choices (replies ++ yes ∷ []) }
@@ -134,11 +141,13 @@ impl RelRun {
         self.told(lang, mask, yes)
     }
 
-    /// `reply`, for which the tables beside the kept candidates tell at once which relations accept the tuple.
+    /// `reply`, for which the tables beside the kept candidates tell at once which relations accept
+    /// the tuple.
     pub fn reply_beside(self, lang: &Language, kept: &Kept, yes: bool) -> RelNext
         requires made { IsMadeFor lang.now kept.now }
         requires run { IsRun lang.now self }
-        ensures settled { LeavesChoices lang.now self.scope (after_reply (scene_of lang.now self.scope) self.tuple «yes» self.choices) result }
+        ensures settled { LeavesChoices lang.now self.scope
+            (after_reply (scene_of lang.now self.scope) self.tuple «yes» self.choices) result }
         ensures stands { (choices : List Choice) (replies : List Bool) →
             RelStandsFor (RelNext.Wants self) lang.now self.scope choices replies →
             RelStandsFor result lang.now self.scope choices (replies ++ yes ∷ []) }
@@ -161,8 +170,10 @@ impl RelRun {
     /// Where the reply leads, given the relations that accept the tuple.
     fn told(self, lang: &Language, accepting: u64, yes: bool) -> RelNext
         requires run { IsRun lang.now self }
-        requires accepting { (c : Choice) → is_accepting accepting c ≡ allows_at (scene_of lang.now self.scope) (place lang.now.value_count self.tuple) c }
-        ensures settled { LeavesChoices lang.now self.scope (after_reply (scene_of lang.now self.scope) self.tuple «yes» self.choices) result }
+        requires accepting { (c : Choice) → is_accepting accepting c
+            ≡ allows_at (scene_of lang.now self.scope) (place lang.now.value_count self.tuple) c }
+        ensures settled { LeavesChoices lang.now self.scope
+            (after_reply (scene_of lang.now self.scope) self.tuple «yes» self.choices) result }
         ensures stands { (choices : List Choice) (replies : List Bool) →
             RelStandsFor (RelNext.Wants self) lang.now self.scope choices replies →
             RelStandsFor result lang.now self.scope choices (replies ++ yes ∷ []) }
@@ -188,7 +199,8 @@ fn violated_choices(lang: &Language, kept: &Kept, s: ScopeId, e: &Partial) -> Ch
     }
 }
 
-/// Where choices on a scope stand. `new` says whether the first tuple may tell them apart: behind a reply it doesn't any more.
+/// Where choices on a scope stand. `new` says whether the first tuple may tell them apart: behind a
+/// reply it doesn't any more.
 fn settle(lang: &Language, scope: ScopeId, choices: Choices, new: bool) -> RelNext
     requires scope { scope < length lang.now.scopes }
     requires known { All (IsChoiceOn lang.now scope) choices }
@@ -212,8 +224,8 @@ fn settle(lang: &Language, scope: ScopeId, choices: Choices, new: bool) -> RelNe
     }
 }
 
-/// The least tuple on which two choices differ. Where nothing is answered yet and none of the relations is a choice too, mostly it is
-/// the first one, which one relation tells.
+/// The least tuple on which two choices differ. Where nothing is answered yet and none of the
+/// relations is a choice too, mostly it is the first one, which one relation tells.
 fn splitting_tuple(lang: &Language, s: ScopeId, choices: &Choices, new: bool) -> Option<Tuple>
     requires scope { s < length lang.now.scopes }
     requires known { All (IsChoiceOn lang.now s) choices.now }
@@ -256,15 +268,16 @@ fn tuple_searched(lang: &Language, s: ScopeId, choices: &Choices) -> Option<Tupl
     None
 }
 
-/// A row such that no two choices differ before it. Where one relation alone is told apart from none, on a scope whose variables
-/// have all values, it is the first on which the relation rejects a tuple, or the end: there may be thousands before it. Else it
-/// is the first row.
+/// A row such that no two choices differ before it. Where one relation alone is told apart from
+/// none, on a scope whose variables have all values, it is the first on which the relation rejects
+/// a tuple, or the end: there may be thousands before it. Else it is the first row.
 fn first_row(lang: &Language, s: ScopeId, choices: &Choices, places: u32) -> u32
     requires scope { s < length lang.now.scopes }
     requires known { All (IsChoiceOn lang.now s) choices.now }
     requires places { places ≡ lang.now.value_count ^ length (scope_at lang.now s) }
     ensures found { IsFoundFrom lang.now s choices.now result }
-    ensures furthest { (r : ℕ) → beside_none choices.now ≡ Some r → is_whole lang.now s ≡ true → IsFurthest lang.now s choices.now result }
+    ensures furthest { (r : ℕ) → beside_none choices.now ≡ Some r → is_whole lang.now s ≡ true →
+        IsFurthest lang.now s choices.now result }
     ensures first { (beside_none choices.now ≡ None) ⊎ (is_whole lang.now s ≡ false) → result ≡ 0 }
 {
     let row = u32::from(lang.d());

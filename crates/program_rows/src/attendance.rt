@@ -19,7 +19,8 @@ pub(crate) struct Attendance {
     calls: AtomicU32,
     /// How often any has since something is learned.
     later: AtomicU32,
-    /// Whether a part waited in vain, came twice to a question or not at all, or with other candidates than its own.
+    /// Whether a part waited in vain, came twice to a question or not at all, or with other
+    /// candidates than its own.
     is_broken: AtomicBool,
 }
 
@@ -42,16 +43,17 @@ impl Attendance {
         }
     }
 
-    /// Whether each part has come once to each of so many questions, with its candidates, and neither of the first two waited in
-    /// vain. To so many of the questions they came since something is learned.
+    /// Whether each part has come once to each of so many questions, with its candidates, and
+    /// neither of the first two waited in vain. To so many of the questions they came since
+    /// something is learned.
     pub(crate) fn was_whole(&self, questions: u32, later: u32) -> bool {
         !self.is_broken.load(Ordering::SeqCst)
             && self.calls.load(Ordering::SeqCst) == questions.saturating_mul(PARTS)
             && self.later.load(Ordering::SeqCst) == later.saturating_mul(PARTS)
     }
 
-    /// Notes that a part comes with the candidates from `first` to below `end`. It is to come once where eight calls are a
-    /// question's, and with the candidates of its eighth.
+    /// Notes that a part comes with the candidates from `first` to below `end`. It is to come once
+    /// where eight calls are a question's, and with the candidates of its eighth.
     fn note(&self, job: u32, first: u32, end: u32, all: u32, learned: u32)
         requires { job < 8 }
     {
@@ -82,7 +84,8 @@ impl Attendance {
         self.is_broken.store(true, Ordering::SeqCst);
     }
 
-    /// Notes a part, and holds part 0 until part 1 has come to the same question, and part 1 until part 0 has.
+    /// Notes a part, and holds part 0 until part 1 has come to the same question, and part 1 until
+    /// part 0 has.
     pub(crate) fn come(&self, job: u32, first: u32, end: u32, all: u32, learned: u32)
         requires { job < 8 }
     {

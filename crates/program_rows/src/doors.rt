@@ -1,4 +1,5 @@
-//! The gate of a command: each part of a search goes through it at once, or two parts wait for each other.
+//! The gate of a command: each part of a search goes through it at once, or two parts wait for each
+//! other.
 
 ghost use Rattle.std.specs.Prelude.{◌≡◌, ◌<◌, ◌≤◌, ◌-◌, length, vec_len};
 ghost use Rattle.language.specs.Language.{candidates};

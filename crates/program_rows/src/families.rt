@@ -1,4 +1,5 @@
-//! The program over every vocabulary of a small family, with every list of answers: each end is what plain enumeration says.
+//! The program over every vocabulary of a small family, with every list of answers: each end is
+//! what plain enumeration says.
 
 use crate::running::printed;
 use crate::small::{
@@ -145,8 +146,9 @@ impl Small<'_> {
         !(0..self.networks()).any(|number| self.agrees(&network(self.relations, number), told))
     }
 
-    /// How many questions fewer were asked than the bound says: one for each candidate, and for each learned constraint one and twice
-    /// the halvings that leave one of the variables, which are one of two and two of three. None where more were asked.
+    /// How many questions fewer were asked than the bound says: one for each candidate, and for
+    /// each learned constraint one and twice the halvings that leave one of the variables, which
+    /// are one of two and two of three. None where more were asked.
     fn spare(&self, run: &Run) -> Option<usize> {
         let cost = if self.family.n == 2 { 3usize } else { 5 };
         let mut bound = self.scopes().len().saturating_mul(self.relations.len());
@@ -175,8 +177,8 @@ impl Small<'_> {
                 .any(|(q, yes)| *yes && violates(scope, pairs, q))
     }
 
-    /// Whether a candidate is open as it should be: an open one is kept and takes more steps than the budget has, and one that is kept
-    /// and not open is implied.
+    /// Whether a candidate is open as it should be: an open one is kept and takes more steps than
+    /// the budget has, and one that is kept and not open is implied.
     fn is_rightly_open(&self, run: &Run, s: usize, scope: (u8, u8), pairs: &Pairs) -> bool {
         let Family {
             n,
@@ -401,7 +403,8 @@ impl Counts {
         self.odd = self.odd.saturating_add(u32::from(!is_well));
     }
 
-    /// Which ends there were, by how many questions the bound wasn't reached, and how many runs were odd.
+    /// Which ends there were, by how many questions the bound wasn't reached, and how many runs
+    /// were odd.
     fn text(&self, alloc: Global) -> Result<String, AllocError> {
         let mut text = String::new(alloc);
         let ends = [
@@ -419,7 +422,8 @@ impl Counts {
     }
 }
 
-/// Runs the program with the answers of the path, and goes on to the next one. False after the last path.
+/// Runs the program with the answers of the path, and goes on to the next one. False after the last
+/// path.
 fn try_path(
     rt: &(impl Threads + Sync),
     alloc: Global,

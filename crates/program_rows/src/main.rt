@@ -1,6 +1,7 @@
-//! Rows of the program's words, input, failing calls and journals, of every list of answers, and of searches whose parts wait for
-//! each other. They are read from standard input; a line is printed about each. The table is the file `stdin` beside this folder,
-//! and its head says how a row is written.
+//! Rows of the program's words, input, failing calls and journals, of every list of answers, and of
+//! searches whose parts wait for each other. They are read from standard input; a line is printed
+//! about each. The table is the file `stdin` beside this folder, and its head says how a row is
+//! written.
 #![tactic(auto)]
 
 mod attendance;

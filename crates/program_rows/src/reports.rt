@@ -124,7 +124,8 @@ fn add_tally(report: &mut String, tally: &Tally, kind: &str) -> Result<bool, All
     }
 }
 
-/// Runs a row with each call of one part failing in turn, if it wants that, and tells of it. False where something was wrong.
+/// Runs a row with each call of one part failing in turn, if it wants that, and tells of it. False
+/// where something was wrong.
 fn add_calls(
     rt: &(impl Threads + Sync),
     alloc: Global,
@@ -192,7 +193,8 @@ fn tell_row(
     Ok(report)
 }
 
-/// Runs the program with every list of answers, and tells in a line what comes of that: `FAMILY: WANTED`.
+/// Runs the program with every list of answers, and tells in a line what comes of that: `FAMILY:
+/// WANTED`.
 fn tell_family(
     rt: &(impl Threads + Sync),
     alloc: Global,

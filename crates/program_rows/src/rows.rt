@@ -40,7 +40,8 @@ pub(crate) struct Step {
     /// How long the journal is afterwards, and how it ends.
     pub(crate) size: Option<usize>,
     pub(crate) end: Option<Vec<u8>>,
-    /// What `show` prints over the contents that a crash may leave afterwards: each of these, and nothing else.
+    /// What `show` prints over the contents that a crash may leave afterwards: each of these, and
+    /// nothing else.
     pub(crate) images: Vec<Vec<u8>>,
 }
 
@@ -247,7 +248,8 @@ fn looks_in(rest: &str) -> Option<Looks> {
     })
 }
 
-/// Adds a line: with its newline, without it where `-` stands before, or so often as the number says that stands before.
+/// Adds a line: with its newline, without it where `-` stands before, or so often as the number
+/// says that stands before.
 fn add_lines(
     alloc: Global,
     texts: &Texts,

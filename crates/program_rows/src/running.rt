@@ -175,8 +175,9 @@ pub(crate) struct Shows {
     pub(crate) contents: u32,
 }
 
-/// What `show` prints over each content that a crash may leave of the disk now. Where a write wasn't made whole, there is once 0
-/// and once 1 in the place of its bytes, the closed and the open gate of a record.
+/// What `show` prints over each content that a crash may leave of the disk now. Where a write
+/// wasn't made whole, there is once 0 and once 1 in the place of its bytes, the closed and the open
+/// gate of a record.
 pub(crate) fn shows_of(
     rt: &(impl Threads + Sync),
     alloc: Global,

@@ -1,6 +1,7 @@
 //! Small vocabularies, and what can be said of them by enumeration.
 //!
-//! Nothing here leans on the definitions of the proofs. A network is a list of relations, one for each pair of variables.
+//! Nothing here leans on the definitions of the proofs. A network is a list of relations, one for
+//! each pair of variables.
 
 use std::alloc::{AllocError, Global};
 
@@ -148,7 +149,8 @@ pub(crate) fn network(relations: &[Pairs], number: usize) -> Network {
     network
 }
 
-/// The assignment of this number, below 8, that gives each of n variables a value, the first one of so many.
+/// The assignment of this number, below 8, that gives each of n variables a value, the first one of
+/// so many.
 pub(crate) fn assignment(n: u8, firsts: u8, number: u8) -> Option<Values> {
     if (n > 2 || number < 4) && number & 1 < firsts {
         Some([
@@ -161,8 +163,9 @@ pub(crate) fn assignment(n: u8, firsts: u8, number: u8) -> Option<Values> {
     }
 }
 
-/// How many lists of values for the first variables of an order violate nothing of the network and don't satisfy the
-/// relation on the scope. Where there are two variables the first has so many values.
+/// How many lists of values for the first variables of an order violate nothing of the network and
+/// don't satisfy the relation on the scope. Where there are two variables the first has so many
+/// values.
 pub(crate) fn plain_size(
     n: u8,
     firsts: u8,

@@ -51,7 +51,8 @@ impl Texts {
         Ok(())
     }
 
-    /// Adds a piece at the end of the last text. False where there is none, or what the piece stands for isn't told.
+    /// Adds a piece at the end of the last text. False where there is none, or what the piece
+    /// stands for isn't told.
     pub(crate) fn lengthen(&mut self, alloc: Global, written: &str) -> Result<bool, AllocError> {
         let mut bytes = Vec::new(alloc);
         let is_read = add_written(self, written, &mut bytes)?;

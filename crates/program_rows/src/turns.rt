@@ -1,8 +1,9 @@
-//! A row's commands with each call of the input, of the output and of the disk failing in turn, and with a disk that stops at each
-//! of its calls.
+//! A row's commands with each call of the input, of the output and of the disk failing in turn, and
+//! with a disk that stops at each of its calls.
 //!
-//! After a call that failed the status names what failed, what was printed is a front of the whole text, and each content that a
-//! crash may leave of the journal holds every answer that was acknowledged: one after which something was printed.
+//! After a call that failed the status names what failed, what was printed is a front of the whole
+//! text, and each content that a crash may leave of the journal holds every answer that was
+//! acknowledged: one after which something was printed.
 
 use crate::rows::Row;
 use crate::running::{Came, Shows, come_of, disk_of, is_met, shows_of, told};
@@ -45,8 +46,8 @@ pub(crate) enum Turn {
     Broken(String),
 }
 
-/// What `show` prints over the journal where a command of this place has printed so much: by what was acknowledged, and with the
-/// event about whose line nothing was printed yet.
+/// What `show` prints over the journal where a command of this place has printed so much: by what
+/// was acknowledged, and with the event about whose line nothing was printed yet.
 fn held(row: &Row, at: usize, len: usize) -> (&[u8], &[u8]) {
     let mut sure = NO_SESSION;
     let mut latest = NO_SESSION;
@@ -83,7 +84,8 @@ fn judge(
 ) -> Result<Turn, AllocError> {
     let shows = shows_of(rt, alloc, disk)?;
     let (sure, latest) = held(row, at, came.text.len());
-    // before an answer is read nothing is kept of it, and it is kept before the next line is printed
+    // before an answer is read nothing is kept of it, and it is kept before the next line is
+    // printed
     let holds = match part {
         Part::Read => are_among(&shows, sure, sure),
         Part::Write => are_among(&shows, latest, latest),
@@ -166,7 +168,8 @@ impl Tally {
     }
 }
 
-/// Each command of a row, each call failing in turn, over the journal that it found in the run without a failure.
+/// Each command of a row, each call failing in turn, over the journal that it found in the run
+/// without a failure.
 pub(crate) fn fail_each_call(
     rt: &(impl Threads + Sync),
     alloc: Global,

@@ -76,7 +76,8 @@ fn add_option(
     Ok(())
 }
 
-/// The words with the options behind them in an order. Bit i of `joined` says that the i-th of them is one word.
+/// The words with the options behind them in an order. Bit i of `joined` says that the i-th of them
+/// is one word.
 fn words_with(
     alloc: Global,
     words: &[String],
@@ -98,7 +99,8 @@ fn words_with(
     Ok(all)
 }
 
-/// What the words ask for where that is something else than what is wanted, with the options in some order and writing.
+/// What the words ask for where that is something else than what is wanted, with the options in
+/// some order and writing.
 pub(crate) fn other_request(
     alloc: Global,
     words: &[String],

@@ -14,7 +14,15 @@ use Rattle.session_store.specs.declared.held.Held.{Held}
 
 -- the language, the plan and the question of a session that is there
 abbrev pub lang_in : Option Session → Language
-lang_in None = record { names = []; least_value = pos 0; value_count = 0; ranges = []; given = []; scopes = []; relations = [] }
+lang_in None = record {
+  names = [];
+  least_value = pos 0;
+  value_count = 0;
+  ranges = [];
+  given = [];
+  scopes = [];
+  relations = [];
+}
 lang_in (Some session) = (knowledge_of session).lang
 
 abbrev pub plan_in : Option Session → Plan
@@ -47,7 +55,8 @@ abbrev pub IsWide : Event → Type 0
 IsWide (events.Answer q reply) = length q ≡ 128
 IsWide events.Back = Unit {0}
 
--- The session stands where the events lead. These have their places, and are no more than a journal takes.
+-- The session stands where the events lead. These have their places, and are no more than a journal
+-- takes.
 pub record IsHeld (held : Held) : Type 0 where
   pub stands : StandsIn held.session held.events.items
   pub few : length held.events.items < 1000000

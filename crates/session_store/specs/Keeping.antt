@@ -1,5 +1,6 @@
 -- What the calls of a keeper, one after another, have done to it and to its disk.
-use Rattle.std.specs.Prelude.{◌≡◌, ◌⊎◌, ◌≤◌, ◌+◌, ℕ, Bool, true, false, IsTrue, IsFalse, List, ◌∷◌, [], ◌++◌, Option, All, Result, OnOk}
+use Rattle.std.specs.Prelude.{◌≡◌, ◌⊎◌, ◌≤◌, ◌+◌, ℕ, Bool, true, false, IsTrue, IsFalse, List, ◌∷◌}
+use Rattle.std.specs.Prelude.{[], ◌++◌, Option, All, Result, OnOk}
 use Rattle.std.specs.Option.{ForSome}
 use Rattle.assign.specs.Assignment.{Assignment}
 use Rattle.assign.specs.declared.events.Event.{Event}
@@ -18,8 +19,10 @@ use Rattle.session_store.specs.declared.fault.SFault.TheVariants as store
 
 -- ---- one call that adds an event
 
--- The event is the last, and another one may be added. Where the answers lead to where nothing is open, no question is put.
-pub record HasKept (l : Language) (plan : Plan) (before after : List Event) (event : Event) (put : Option Assignment) (live : Bool) : Type 0 where
+-- The event is the last, and another one may be added. Where the answers lead to where nothing is
+-- open, no question is put.
+pub record HasKept (l : Language) (plan : Plan) (before after : List Event) (event : Event)
+    (put : Option Assignment) (live : Bool) : Type 0 where
   pub added : after ≡ before ++ event ∷ []
   pub settled : IsSettled l plan (standing_on l after) put
   pub is_live : IsTrue live
@@ -44,7 +47,8 @@ abbrev pub raised_after : Bool → List Event → Bool
 raised_after raised [] = raised
 raised_after raised (e ∷ events) = raised_after (raised_by raised e) events
 
--- how many calls of a disk the raising of a journal takes at most, and an event, where it is raised already or isn't
+-- how many calls of a disk the raising of a journal takes at most, and an event, where it is raised
+-- already or isn't
 abbrev pub calls_to_raise : Bool → ℕ
 calls_to_raise true = 0
 calls_to_raise false = 4
@@ -59,7 +63,8 @@ all_calls raised [] = 0
 all_calls raised (e ∷ events) = calls_for raised e + all_calls (raised_by raised e) events
 
 -- What no call changes.
-pub record HasSameTerms {K : Type 0} (lang : K → Language) (plan : K → Plan) (voc : K → List ℕ) (writes : K → Bool) (old new : K) : Type 0 where
+pub record HasSameTerms {K : Type 0} (lang : K → Language) (plan : K → Plan) (voc : K →
+    List ℕ) (writes : K → Bool) (old new : K) : Type 0 where
   pub same_lang : lang new ≡ lang old
   pub same_plan : plan new ≡ plan old
   pub same_voc : voc new ≡ voc old
@@ -75,33 +80,46 @@ pub record IsGrown (before after : List Event) : Type 0 where
 
 -- the meanings of a disk
 module _ {D : Type 0} (disk : DiskOf D) where
-  -- What a call that adds an event leaves of the disk. Where nothing is written, the disk isn't touched. Else after `Ok` the
-  -- file opens with the event as its last, and a crash at any moment leaves the events from before, with it or without. An event
-  -- that was added leaves the journal raised or not as it does, and one that wasn't may have left it so or hasn't changed it.
-  pub record LeavesEvent {T E : Type 0} (writes was_raised is_raised : Bool) (plan : Plan) (voc : List ℕ) (before : List Event) (event : Event) (old new : D) (result : Result T E) : Type 0 where
+  -- What a call that adds an event leaves of the disk. Where nothing is written, the disk isn't
+  -- touched. Else after `Ok` the file opens with the event as its last, and a crash at any moment
+  -- leaves the events from before, with it or without. An event that was added leaves the journal
+  -- raised or not as it does, and one that wasn't may have left it so or hasn't changed it.
+  pub record LeavesEvent {T E : Type 0} (writes was_raised is_raised : Bool) (plan : Plan)
+      (voc : List ℕ) (before : List Event) (event : Event) (old new : D) (result : Result T E) :
+      Type 0 where
     pub raised : OnOk result (is_raised ≡ raised_by was_raised event)
     pub stays_raised : (is_raised ≡ was_raised) ⊎ (is_raised ≡ raised_by was_raised event)
     pub unwritten : IsFalse writes → new ≡ old
-    pub written : IsTrue writes → LeavesBehind disk (calls_for was_raised event) old new result (λ _. OpensWith plan voc (before ++ event ∷ [])) (λ _. OpensWithOrWithout plan voc before event)
+    pub written : IsTrue writes →
+        LeavesBehind disk (calls_for was_raised event) old new result (λ _.
+        OpensWith plan voc (before ++ event ∷ [])) (λ _. OpensWithOrWithout plan voc before event)
 
-  -- Since the disk was the old one, some events were added. A crash at any moment since then leaves those from before and a
-  -- front of the new ones, and a crash now leaves all of them.
-  pub record Persists (plan : Plan) (voc : List ℕ) (before after : List Event) (old new : D) : Type 0 where
+  -- Since the disk was the old one, some events were added. A crash at any moment since then leaves
+  -- those from before and a front of the new ones, and a crash now leaves all of them.
+  pub record Persists (plan : Plan) (voc : List ℕ) (before after : List Event) (old new : D) :
+      Type 0 where
     pub now : LeavesNow disk (OpensWith plan voc after) new
     pub any_moment : LeavesOnly disk old new (OpensWithin plan voc before after)
 
-  -- No more calls were made than these events take, which were added, and the journal is raised or not as they leave it.
-  pub record AreEventCalls (was_raised is_raised : Bool) (added : List Event) (old new : D) : Type 0 where
+  -- No more calls were made than these events take, which were added, and the journal is raised or
+  -- not as they leave it.
+  pub record AreEventCalls (was_raised is_raised : Bool) (added : List Event) (old new : D) :
+      Type 0 where
     pub raised : is_raised ≡ raised_after was_raised added
     pub few : disk.calls new ≤ disk.calls old + all_calls was_raised added
 
-  -- These events were added, and then the disk failed while one more was, of which this is known: that of an answer to the question
-  -- that is put, or a take-back. No more calls were made than they take with it. Where the disk told what it held, a crash leaves
-  -- it as the last event, or leaves it out.
-  pub record FailsWith (was_raised : Bool) (added : List Event) (plan : Plan) (voc : List ℕ) (before after : List Event) (put : Option Assignment) (is_lost : Event → Type 0) (old new : D) : Type 0 where
+  -- These events were added, and then the disk failed while one more was, of which this is known:
+  -- that of an answer to the question that is put, or a take-back. No more calls were made than
+  -- they take with it. Where the disk told what it held, a crash leaves it as the last event, or
+  -- leaves it out.
+  pub record FailsWith (was_raised : Bool) (added : List Event) (plan : Plan) (voc : List ℕ)
+      (before after : List Event) (put : Option Assignment) (is_lost : Event →
+      Type 0) (old new : D) : Type 0 where
     pub event : Event
     pub tried : IsTried put event
     pub lost : is_lost event
     pub few : disk.calls new ≤ disk.calls old + all_calls was_raised (added ++ event ∷ [])
-    pub now : ForSome (disk.content old) (λ _. (c : List ℕ) → disk.may_leave new c → OpensWithOrWithout plan voc after event c)
-    pub any_moment : ForSome (disk.content old) (λ _. LeavesOnly disk old new (OpensWithin plan voc before (after ++ event ∷ [])))
+    pub now : ForSome (disk.content old) (λ _. (c : List ℕ) → disk.may_leave new c →
+        OpensWithOrWithout plan voc after event c)
+    pub any_moment : ForSome (disk.content old)
+        (λ _. LeavesOnly disk old new (OpensWithin plan voc before (after ++ event ∷ [])))

@@ -24,10 +24,12 @@ IsAddable e = ((a : Answer) × (e ≡ event_for a)) ⊎ (e ≡ events.Back)
 
 -- that of an answer to the question that is put, or a take-back
 abbrev pub IsTried : Option Assignment → Event → Type 0
-IsTried put e = ((q : Assignment) × (reply : Bool) × (put ≡ Some q) × (e ≡ answer_event q reply)) ⊎ (e ≡ events.Back)
+IsTried put e = ((q : Assignment) × (reply : Bool) × (put ≡ Some q) × (e ≡ answer_event q reply))
+    ⊎ (e ≡ events.Back)
 
 -- after these answers nothing is open, and the question may be put
-pub record IsLawfulAfter (l : Language) (plan : Plan) (t : List Answer) (q : Assignment) : Type 0 where
+pub record IsLawfulAfter (l : Language) (plan : Plan) (t : List Answer) (q : Assignment) :
+    Type 0 where
   pub network : List Candidate
   pub end : Option WalkEnd
   pub idle : state_after l plan t ≡ At (Idle network end)

@@ -57,7 +57,8 @@ Opens bytes (Err fault) = RefusesOpening bytes fault
 
 -- no bytes open in two ways
 abbrev pub OpensOnce : Type 0
-OpensOnce = (bytes : List ℕ) (one other : Result Opened SFault) → Opens bytes one → Opens bytes other → one ≡ other
+OpensOnce = (bytes : List ℕ) (one other : Result Opened SFault) → Opens bytes one →
+    Opens bytes other → one ≡ other
 
 -- want of memory, its own or its vocabulary's
 abbrev pub wants_memory : SFault → Bool
@@ -68,4 +69,5 @@ wants_memory other = false
 
 -- each list of bytes opens with a session, or is refused, and not for want of memory
 abbrev pub OpensAlways : Type 0
-OpensAlways = (bytes : List ℕ) → (answer : Result Opened SFault) × Opens bytes answer × IfErr answer (λ fault. wants_memory fault ≡ false)
+OpensAlways = (bytes : List ℕ) → (answer : Result Opened SFault) × Opens bytes answer
+    × IfErr answer (λ fault. wants_memory fault ≡ false)

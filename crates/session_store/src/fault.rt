@@ -16,8 +16,9 @@ pub enum SFault {
     Journal(JFault),
     #[error("vocabulary: {0}")]
     Voc(VocFault),
-    /// This record is a take-back at which no answer stands. Or its answer stands, and the question isn't the open one and
-    /// isn't lawful, or has a value that the vocabulary lacks. The record of the vocabulary is record 0.
+    /// This record is a take-back at which no answer stands. Or its answer stands, and the question
+    /// isn't the open one and isn't lawful, or has a value that the vocabulary lacks. The record of
+    /// the vocabulary is record 0.
     #[error("record {0} has no place")]
     Stray(u32),
     #[error("out of memory")]

@@ -1,6 +1,7 @@
 //! A session beside the events that led to it.
 
-ghost use Rattle.std.specs.Prelude.{◌≡◌, ◌≢◌, ◌↔◌, ◌<◌, ◌+◌, ◌++◌, ◌∷◌, [], None, Some, IsSome, IsTrue, IfOk, OnOk, All, length, vec_len, vec_capacity};
+ghost use Rattle.std.specs.Prelude.{◌≡◌, ◌≢◌, ◌↔◌, ◌<◌, ◌+◌, ◌++◌, ◌∷◌, [], None, Some, IsSome};
+ghost use Rattle.std.specs.Prelude.{IsTrue, IfOk, OnOk, All, length, vec_len, vec_capacity};
 ghost use Rattle.std.specs.Option.{ForSome};
 ghost use Rattle.assign.specs.Events.{standing};
 ghost use Rattle.assign.specs.Assignment.{widened};
@@ -11,7 +12,8 @@ ghost use Rattle.session_core.specs.Settled.{IsSettled};
 ghost use Rattle.session_core.specs.Standing.{Stands, knowledge_of, open_in};
 ghost use Rattle.session_store.specs.Kept.{IsLawfulAfter, answer_event};
 ghost use Rattle.session_store.specs.Replay.{HavePlaces, standing_numbers};
-ghost use Rattle.session_store.specs.Held.{lang_held, plan_held, question_held, events_held, IsHeld};
+ghost use Rattle.session_store.specs.Held.{lang_held, plan_held, question_held, events_held};
+ghost use Rattle.session_store.specs.Held.{IsHeld};
 
 use crate::replay::{replay_records, standing_records};
 use answer_journal::MOST_RECORDS;
@@ -28,7 +30,8 @@ pub(crate) struct Held {
     pub(crate) events: Vec<Event>,
 }
 
-/// Adds an event in a place that was taken. `push` hands a refused one back, and copies it four times for that.
+/// Adds an event in a place that was taken. `push` hands a refused one back, and copies it four
+/// times for that.
 fn push_event(events: &mut Vec<Event>, event: &Event)
     requires { vec_len events.old < vec_capacity events.old }
     ensures { events.new.items ≡ events.old.items ++ event.now ∷ [] }
@@ -41,7 +44,8 @@ impl Held {
         requires stands { Stands session (standing_on (knowledge_of session).lang events.items) }
         requires few { length events.items < 1000000 }
         requires storable { All IsStorableEvent events.items }
-        requires places { HavePlaces (knowledge_of session).lang (knowledge_of session).plan events.items }
+        requires places { HavePlaces (knowledge_of session).lang
+            (knowledge_of session).plan events.items }
         ensures sound { IsHeld result }
         ensures session { result.session ≡ Some session }
         ensures events { events_held result ≡ events.items }
@@ -54,7 +58,8 @@ impl Held {
 
     pub(crate) fn session(&self) -> &Session
         requires { IsHeld self.now }
-        ensures stands { Stands result.now (standing_on (lang_held self.now) (events_held self.now)) }
+        ensures stands { Stands result.now
+            (standing_on (lang_held self.now) (events_held self.now)) }
         ensures lang { (knowledge_of result.now).lang ≡ lang_held self.now }
         ensures plan { (knowledge_of result.now).plan ≡ plan_held self.now }
         ensures question { open_in result.now ≡ question_held self.now }
@@ -74,7 +79,8 @@ impl Held {
     pub(crate) fn ask(&mut self, q: Partial)
         requires sound { IsHeld self.old }
         requires idle { question_held self.old ≡ None }
-        requires lawful { IsLawfulAfter (lang_held self.old) (plan_held self.old) (standing_on (lang_held self.old) (events_held self.old)) q }
+        requires lawful { IsLawfulAfter (lang_held self.old) (plan_held self.old)
+            (standing_on (lang_held self.old) (events_held self.old)) q }
         ensures put { question_held self.new ≡ Some q }
         ensures events { events_held self.new ≡ events_held self.old }
         ensures lang { lang_held self.new ≡ lang_held self.old }
@@ -127,7 +133,8 @@ impl Held {
         }
     }
 
-    /// Adds the event of an answer to the question that is put, in a place that was taken, and moves the session.
+    /// Adds the event of an answer to the question that is put, in a place that was taken, and
+    /// moves the session.
     pub(crate) fn add(&mut self, event: &Event, question: &Partial, yes: bool)
         requires sound { IsHeld self.old }
         requires put { question_held self.old ≡ Some question.now }
@@ -137,7 +144,8 @@ impl Held {
         requires few { length (events_held self.old) + 1 < 1000000 }
         requires room { vec_len self.old.events < vec_capacity self.old.events }
         ensures events { events_held self.new ≡ events_held self.old ++ event.now ∷ [] }
-        ensures settled { IsSettled (lang_held self.new) (plan_held self.new) (standing_on (lang_held self.new) (events_held self.new)) (question_held self.new) }
+        ensures settled { IsSettled (lang_held self.new) (plan_held self.new)
+            (standing_on (lang_held self.new) (events_held self.new)) (question_held self.new) }
         ensures lang { lang_held self.new ≡ lang_held self.old }
         ensures plan { plan_held self.new ≡ plan_held self.old }
         ensures sound { IsHeld self.new }
@@ -152,13 +160,15 @@ impl Held {
         }
     }
 
-    /// Takes all memory for a take-back: the place of its event, and the records of the answers that it leaves.
+    /// Takes all memory for a take-back: the place of its event, and the records of the answers
+    /// that it leaves.
     pub(crate) fn ready_back(&mut self) -> Result<Vec<u32>, Memory>
         requires sound { IsHeld self.old }
         ensures session { self.new.session ≡ self.old.session }
         ensures events { events_held self.new ≡ events_held self.old }
         ensures room { OnOk result (vec_len self.new.events < vec_capacity self.new.events) }
-        ensures records { IfOk result (λ records. records.items ≡ standing_numbers (events_held self.old ++ Event.Back ∷ [])) }
+        ensures records { IfOk result (λ records.
+            records.items ≡ standing_numbers (events_held self.old ++ Event.Back ∷ [])) }
     {
         self.make_room()?;
         match standing_records(*self.events.allocator(), &self.events) {
@@ -170,16 +180,18 @@ impl Held {
         }
     }
 
-    /// Adds a take-back, in a place that was taken, and leads the session from its beginning through the answers that it
-    /// leaves.
+    /// Adds a take-back, in a place that was taken, and leads the session from its beginning
+    /// through the answers that it leaves.
     pub(crate) fn add_back(&mut self, records: &[u32])
         requires sound { IsHeld self.old }
         requires stands { standing (events_held self.old) ≢ [] }
-        requires records { records.now ≡ standing_numbers (events_held self.old ++ Event.Back ∷ []) }
+        requires records { records.now
+            ≡ standing_numbers (events_held self.old ++ Event.Back ∷ []) }
         requires few { length (events_held self.old) + 1 < 1000000 }
         requires room { vec_len self.old.events < vec_capacity self.old.events }
         ensures events { events_held self.new ≡ events_held self.old ++ Event.Back ∷ [] }
-        ensures settled { IsSettled (lang_held self.new) (plan_held self.new) (standing_on (lang_held self.new) (events_held self.new)) (question_held self.new) }
+        ensures settled { IsSettled (lang_held self.new) (plan_held self.new)
+            (standing_on (lang_held self.new) (events_held self.new)) (question_held self.new) }
         ensures lang { lang_held self.new ≡ lang_held self.old }
         ensures plan { plan_held self.new ≡ plan_held self.old }
         ensures sound { IsHeld self.new }

@@ -1,6 +1,7 @@
 //! What holds of every list of events and of every file. These functions do nothing.
 
-ghost use Rattle.session_store.specs.Laws.{RecordsAreAnswers, ReplayIsState, FrontsHavePlaces, StrayIsFirst};
+ghost use Rattle.session_store.specs.Laws.{RecordsAreAnswers, ReplayIsState, FrontsHavePlaces};
+ghost use Rattle.session_store.specs.Laws.{StrayIsFirst};
 ghost use Rattle.session_store.specs.Opened.{OpensAlways, OpensOnce};
 
 use answer_journal::{each_has_a_reading, no_two_readings};
@@ -15,13 +16,14 @@ pub fn replay_is_state()
     ensures { ReplayIsState }
 {}
 
-/// Where events have their places, so have others after which the first of their answers stand: those with a take-back more.
+/// Where events have their places, so have others after which the first of their answers stand:
+/// those with a take-back more.
 pub fn fronts_have_places()
     ensures { FrontsHavePlaces }
 {}
 
-/// The record that a replay names is the first take-back at which no answer stands. Without one it is that of the first answer
-/// that stands and has no place.
+/// The record that a replay names is the first take-back at which no answer stands. Without one it
+/// is that of the first answer that stands and has no place.
 pub fn stray_is_first()
     ensures { StrayIsFirst }
 {}
@@ -34,7 +36,8 @@ pub fn no_two_openings()
     no_two_readings();
 }
 
-/// Each list of bytes opens with a session, or is refused for what it says, and not for want of memory.
+/// Each list of bytes opens with a session, or is refused for what it says, and not for want of
+/// memory.
 pub fn each_opens_or_is_refused()
     ensures { OpensAlways }
 {

@@ -1,12 +1,16 @@
 //! Where events lead.
 
-ghost use Rattle.std.specs.Prelude.{◌≡◌, ◌≤◌, [], None, IfOk, IfErr, IfSome, IfNone, OnOk, All, length};
+ghost use Rattle.std.specs.Prelude.{◌≡◌, ◌≤◌, [], None, IfOk, IfErr, IfSome, IfNone, OnOk, All};
+ghost use Rattle.std.specs.Prelude.{length};
 ghost use Rattle.language.specs.Answers.{standing_on};
 ghost use Rattle.answer_journal.specs.Storable.{IsStorableEvent};
 ghost use Rattle.session_core.specs.Standing.{Stands, knowledge_of, open_in};
 ghost use Rattle.session_core.specs.Settled.{IsSettled};
 ghost use Rattle.session_store.specs.Held.{IsWide};
-ghost use Rattle.session_store.specs.Replay.{answer_to, IsAnswer, answer_in, is_past, MovesTo, StaysAt, MovesBy, HasNoPlace, standing_numbers, empty_back, NamesEmptyBack, AnswersHavePlaces, IsStrayIn, HavePlaces, NamesStray};
+ghost use Rattle.session_store.specs.Replay.{answer_to, IsAnswer, answer_in, is_past, MovesTo};
+ghost use Rattle.session_store.specs.Replay.{StaysAt, MovesBy, HasNoPlace, standing_numbers};
+ghost use Rattle.session_store.specs.Replay.{empty_back, NamesEmptyBack, AnswersHavePlaces};
+ghost use Rattle.session_store.specs.Replay.{IsStrayIn, HavePlaces, NamesStray};
 
 use crate::SFault;
 use assign::{Event, MOST_VARIABLES, Partial};
@@ -83,7 +87,8 @@ fn with_event(session: Session, event: &Event) -> Option<Session>
     }
 }
 
-/// The numbers of the records of the answers that stand after these events, in order. The first event is record 1.
+/// The numbers of the records of the answers that stand after these events, in order. The first
+/// event is record 1.
 ///
 /// `Stray` names the first take-back at which no answer stands.
 pub fn standing_records(alloc: Global, events: &[Event]) -> Result<Vec<u32>, SFault>
@@ -106,7 +111,8 @@ pub fn standing_records(alloc: Global, events: &[Event]) -> Result<Vec<u32>, SFa
     Ok(records)
 }
 
-/// The session after the answers that stand, whose records these are, or the first record whose answer has no place.
+/// The session after the answers that stand, whose records these are, or the first record whose
+/// answer has no place.
 pub(crate) fn replay_records(
     session: Session,
     events: &[Event],
@@ -119,10 +125,14 @@ pub(crate) fn replay_records(
     requires idle { open_in session ≡ None }
     ensures lang { IfOk result (λ next. (knowledge_of next).lang ≡ (knowledge_of session).lang) }
     ensures plan { IfOk result (λ next. (knowledge_of next).plan ≡ (knowledge_of session).plan) }
-    ensures stands { IfOk result (λ next. Stands next (standing_on (knowledge_of session).lang events.now)) }
-    ensures settled { IfOk result (λ next. IsSettled (knowledge_of session).lang (knowledge_of session).plan (standing_on (knowledge_of session).lang events.now) (open_in next)) }
-    ensures places { OnOk result (AnswersHavePlaces (knowledge_of session).lang (knowledge_of session).plan events.now) }
-    ensures stray { IfErr result (IsStrayIn (knowledge_of session).lang (knowledge_of session).plan events.now) }
+    ensures stands { IfOk result
+        (λ next. Stands next (standing_on (knowledge_of session).lang events.now)) }
+    ensures settled { IfOk result (λ next. IsSettled (knowledge_of session).lang (knowledge_of
+        session).plan (standing_on (knowledge_of session).lang events.now) (open_in next)) }
+    ensures places { OnOk result
+        (AnswersHavePlaces (knowledge_of session).lang (knowledge_of session).plan events.now) }
+    ensures stray { IfErr result
+        (IsStrayIn (knowledge_of session).lang (knowledge_of session).plan events.now) }
 {
     let mut session = session;
     for record in records {
@@ -142,10 +152,14 @@ pub(crate) fn replay(alloc: Global, session: Session, events: &[Event]) -> Resul
     requires idle { open_in session ≡ None }
     ensures lang { IfOk result (λ next. (knowledge_of next).lang ≡ (knowledge_of session).lang) }
     ensures plan { IfOk result (λ next. (knowledge_of next).plan ≡ (knowledge_of session).plan) }
-    ensures stands { IfOk result (λ next. Stands next (standing_on (knowledge_of session).lang events.now)) }
-    ensures settled { IfOk result (λ next. IsSettled (knowledge_of session).lang (knowledge_of session).plan (standing_on (knowledge_of session).lang events.now) (open_in next)) }
-    ensures places { OnOk result (HavePlaces (knowledge_of session).lang (knowledge_of session).plan events.now) }
-    ensures stray { IfErr result (NamesStray (knowledge_of session).lang (knowledge_of session).plan events.now) }
+    ensures stands { IfOk result
+        (λ next. Stands next (standing_on (knowledge_of session).lang events.now)) }
+    ensures settled { IfOk result (λ next. IsSettled (knowledge_of session).lang (knowledge_of
+        session).plan (standing_on (knowledge_of session).lang events.now) (open_in next)) }
+    ensures places { OnOk result
+        (HavePlaces (knowledge_of session).lang (knowledge_of session).plan events.now) }
+    ensures stray { IfErr result
+        (NamesStray (knowledge_of session).lang (knowledge_of session).plan events.now) }
 {
     let records = standing_records(alloc, events)?;
     match replay_records(session, events, &records) {

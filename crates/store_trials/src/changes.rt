@@ -32,7 +32,8 @@ fn has_pairs(bytes: &[u8], at: usize, question: &Partial) -> bool {
     question.vars().len() == 2 && question.get(*v) == Some(*x) && question.get(*w) == Some(*y)
 }
 
-/// Whether what is read of a journal with at most one answer, to two variables, is what stands there.
+/// Whether what is read of a journal with at most one answer, to two variables, is what stands
+/// there.
 fn is_as_written(bytes: &[u8], opened: &Opened) -> bool {
     let Some(size) = bytes.get(13) else {
         return false;

@@ -114,7 +114,8 @@ fn fused(alloc: Global, mut disk: MemDisk, text: &str, passes: u32) -> Option<(S
 /// What comes of an event, whether more may be kept, and where the session stands.
 fn fused_text(alloc: Global, store: &mut Store, fuse: &mut FuseDisk, text: &str) -> Option<String>
     requires sound { IsSound store.old }
-    requires sits { SitsOn store.old (Some (content_of (inner_of fuse.old))) (images_of (inner_of fuse.old)) }
+    requires sits { SitsOn store.old (Some (content_of (inner_of fuse.old)))
+        (images_of (inner_of fuse.old)) }
 {
     let said = call_text(alloc, add(store, fuse, text)?)?;
     let live = if is_live::<FuseDisk, Store>(store) {
@@ -126,7 +127,8 @@ fn fused_text(alloc: Global, store: &mut Store, fuse: &mut FuseDisk, text: &str)
     format!(in alloc; "{said}, {live}, {stand}").ok()
 }
 
-/// What comes of the last event over a disk that passes so many calls, and what the file then keeps.
+/// What comes of the last event over a disk that passes so many calls, and what the file then
+/// keeps.
 pub(crate) fn stopped(alloc: Global, voc: &str, arguments: &str, passes: u32) -> Option<String> {
     let (disk, last) = disk_before(alloc, voc, arguments)?;
     let (said, mut disk) = fused(alloc, disk, last, passes)?;

@@ -87,7 +87,8 @@ fn numbers(alloc: Global, words: SplitWhitespace<'_>) -> Option<Vec<u32>> {
     Some(numbers)
 }
 
-/// A disk of these bytes: its room, in bytes and in writes and syncs, and the numbers of the calls that fail.
+/// A disk of these bytes: its room, in bytes and in writes and syncs, and the numbers of the calls
+/// that fail.
 fn disk_of(alloc: Global, content: &str, front: &str) -> Option<MemDisk> {
     let mut words = front.split_whitespace();
     let bytes = number::<u32>(&mut words)?;
@@ -149,7 +150,8 @@ fn push_read(text: &mut String, disk: &mut FileDisk<MemFile>, at: u64) -> Option
     push_bytes(text, &buf[..count])
 }
 
-/// What calls of a file come to that gives a few bytes a read at most, and what is read of it behind them, from a place on.
+/// What calls of a file come to that gives a few bytes a read at most, and what is read of it
+/// behind them, from a place on.
 pub(crate) fn named(alloc: Global, over: &str, arguments: &str) -> Option<String> {
     let (front, calls) = arguments.split_once(" of ")?;
     let (most, front) = front.split_once(' ')?;

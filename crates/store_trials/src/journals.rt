@@ -99,7 +99,8 @@ fn repeated(alloc: Global, front: &[u8], record: &[u8]) -> Option<String> {
     read_beside(alloc, &mut disk, &with_record(alloc, front, record, 2)?)
 }
 
-/// A record of an answer: a file that has it gets the answer again, and has to have the same bytes twice.
+/// A record of an answer: a file that has it gets the answer again, and has to have the same bytes
+/// twice.
 pub(crate) fn again(alloc: Global, over: &str, arguments: &str) -> Option<String> {
     repeated(alloc, &bytes_in(alloc, over)?, &bytes_in(alloc, arguments)?)
 }

@@ -1,5 +1,6 @@
-//! Trials of disks in memory, of journals, and of sessions over a journal: files that were written out by hand, calls that fail,
-//! crashes, and random answers and take-backs. `stdin` is their table.
+//! Trials of disks in memory, of journals, and of sessions over a journal: files that were written
+//! out by hand, calls that fail, crashes, and random answers and take-backs. `stdin` is their
+//! table.
 #![tactic(auto)]
 
 mod changes;

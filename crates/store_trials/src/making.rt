@@ -93,7 +93,8 @@ pub(crate) fn stopped(alloc: Global, voc: &str, script: &str, passes: u32) -> Op
     format!(in alloc; "{made}, {read}").ok()
 }
 
-/// How the contents open that a crash may leave at each moment while a journal is made, and how many moments there are.
+/// How the contents open that a crash may leave at each moment while a journal is made, and how
+/// many moments there are.
 pub(crate) fn crashes(alloc: Global, over: &str, arguments: &str) -> Option<String> {
     let mut disk = disk_with(alloc, &[])?;
     make(alloc, &mut disk, over, arguments).ok()?;
@@ -119,7 +120,8 @@ fn push_file(alloc: Global, text: &mut String, disk: &mut MemDisk) -> Option<()>
     write!(text, "\n{read}").ok()
 }
 
-/// The bytes of a file: whether a journal is made on it, the bytes that stand there then, and how they open.
+/// The bytes of a file: whether a journal is made on it, the bytes that stand there then, and how
+/// they open.
 pub(crate) fn replaces(alloc: Global, over: &str, arguments: &str) -> Option<String> {
     let mut disk = disk_with(alloc, &bytes_in(alloc, arguments)?)?;
     let mut text = created(alloc, &mut disk, over)?;

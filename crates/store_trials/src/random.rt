@@ -1,5 +1,6 @@
-//! Random sessions over a journal with answers that are taken back. After each step the journal is opened beside the store,
-//! and the answers that stand are told to a session in memory that never took one back.
+//! Random sessions over a journal with answers that are taken back. After each step the journal is
+//! opened beside the store, and the answers that stand are told to a session in memory that never
+//! took one back.
 
 ghost use Rattle.std.specs.Prelude.{IfSome, OnSome, Some};
 ghost use Rattle.disk_model.specs.MemDisk.{content_of, images_of};
@@ -98,8 +99,8 @@ fn push_relation(text: &mut String, random: &mut Numbers, name: &str) -> Option<
     text.push_str("]}").ok()
 }
 
-/// Two or three variables, two values, of which the second variable may have one alone, and two relations on all pairs or on
-/// some.
+/// Two or three variables, two values, of which the second variable may have one alone, and two
+/// relations on all pairs or on some.
 fn vocabulary(alloc: Global, random: &mut Numbers, has_range: bool) -> Option<String> {
     let (variables, scopes) = match random.byte_below(4) {
         0 => (r#"["a","b"]"#, r#""all""#),
@@ -192,7 +193,8 @@ fn put_or_not(
     }
 }
 
-/// Answers the next question, or takes the last answer back: before a question is put, or while one is.
+/// Answers the next question, or takes the last answer back: before a question is put, or while one
+/// is.
 fn take_step(
     store: &mut Store,
     disk: &mut MemDisk,
@@ -255,7 +257,8 @@ fn is_as_open(one: &Session, other: &Session) -> bool {
     }
 }
 
-/// Whether both have the same plan, have learned the same from as many answers, and stand at the same question.
+/// Whether both have the same plan, have learned the same from as many answers, and stand at the
+/// same question.
 fn are_same(one: &Session, other: &Session) -> bool {
     one.plan() == other.plan()
         && one.answers() == other.answers()
@@ -297,7 +300,8 @@ fn reopen(alloc: Global, store: &mut Store, disk: &mut MemDisk, random: &mut Num
     requires sound { IsSound store.old }
     requires sits { SitsOn store.old (Some (content_of disk.old)) (images_of disk.old) }
     ensures sound { OnSome result (IsSound store.new) }
-    ensures sits { OnSome result (SitsOn store.new (Some (content_of disk.new)) (images_of disk.new)) }
+    ensures sits { OnSome result
+        (SitsOn store.new (Some (content_of disk.new)) (images_of disk.new)) }
 {
     if random.byte_below(4) == 0 {
         match Store::open(alloc, disk) {
@@ -320,7 +324,8 @@ fn turn(
     requires sound { IsSound store.old }
     requires sits { SitsOn store.old (Some (content_of disk.old)) (images_of disk.old) }
     ensures sound { OnSome result (IsSound store.new) }
-    ensures sits { OnSome result (SitsOn store.new (Some (content_of disk.new)) (images_of disk.new)) }
+    ensures sits { OnSome result
+        (SitsOn store.new (Some (content_of disk.new)) (images_of disk.new)) }
 {
     let was_over = matches!(session_of::<MemDisk, Store>(store), Session::Over(_));
     let step = take_step(store, disk, user, random)?;

@@ -84,7 +84,8 @@ pub(crate) fn keep_text<D: Disk, P: Keep<D>>(alloc: Global, keep: &P) -> Option<
 /// Whether nothing is open and the question may be put.
 fn is_due(session: &Session, question: &Partial) -> bool
     ensures idle { IsTrue result → open_in session.now ≡ None }
-    ensures lawful { (t : List Answer) → let k = knowledge_of session.now in IsTrue result → Stands session.now t → IsLawfulAfter k.lang k.plan t question.now }
+    ensures lawful { (t : List Answer) → let k = knowledge_of session.now in IsTrue result →
+        Stands session.now t → IsLawfulAfter k.lang k.plan t question.now }
 {
     match session {
         Session::Idle(idle) => idle.is_lawful(question),
@@ -92,7 +93,8 @@ fn is_due(session: &Session, question: &Partial) -> bool
     }
 }
 
-/// Puts a question, where none is open and it may be put. The disk on which the keeper sits stays as it is.
+/// Puts a question, where none is open and it may be put. The disk on which the keeper sits stays
+/// as it is.
 pub(crate) fn put<D: Disk, P: Keep<D>>(keep: &mut P, _disk: &D, question: Partial)
     requires sound { P.sound keep.old }
     requires sits { P.sits keep.old _disk.now }

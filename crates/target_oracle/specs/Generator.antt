@@ -1,5 +1,6 @@
 -- The language and the network that a number makes.
-use Rattle.std.specs.Prelude.{ℕ, zero, suc, ◌+◌, ◌*◌, ◌/◌, ◌%◌, ◌^◌, ◌==◌, pos, Bool, not, nat_le, List, [], ◌∷◌, length, map, filter, replicate, Some, None, codes}
+use Rattle.std.specs.Prelude.{ℕ, zero, suc, ◌+◌, ◌*◌, ◌/◌, ◌%◌, ◌^◌, ◌==◌, pos, Bool, not, nat_le}
+use Rattle.std.specs.Prelude.{List, [], ◌∷◌, length, map, filter, replicate, Some, None, codes}
 use Rattle.std.specs.List.{flat_map}
 use Rattle.std.specs.Fmt.{decimal}
 use Rattle.assign.specs.Sets.{numbers}
@@ -48,11 +49,17 @@ given_where name test = record { name = name; arity = 2; relation = relation_whe
 
 -- at most, at least, unequal
 abbrev pub given : List Given
-given = given_where (codes "le") (λ x y. nat_le x y) ∷ given_where (codes "ge") (λ x y. nat_le y x) ∷ given_where (codes "ne") (λ x y. not (x == y)) ∷ []
+given = given_where (codes "le") (λ x y. nat_le x y) ∷ given_where (codes "ge") (λ x y. nat_le y x)
+    ∷ given_where (codes "ne") (λ x y. not (x == y)) ∷ []
 
 -- the values 1 to 3, all of them for each variable
 abbrev pub frame : Frame
-frame = record { names = names; least_value = pos 1; value_count = 3; ranges = replicate 10 (whole_range 3) }
+frame = record {
+  names = names;
+  least_value = pos 1;
+  value_count = 3;
+  ranges = replicate 10 (whole_range 3);
+}
 
 -- these relations on all pairs of these variables
 abbrev pub IsGenerated : Language → Type 0
@@ -70,4 +77,5 @@ drawn_on number s = record { scope = s; rel = draw number (s + 11) 7 }
 
 -- the drawn candidates that the hidden values satisfy
 abbrev pub target_of : ℕ → Language → List Candidate
-target_of number l = filter (λ c. satisfies l c (hidden number)) (map (drawn_on number) (numbers (length l.scopes)))
+target_of number l =
+    filter (λ c. satisfies l c (hidden number)) (map (drawn_on number) (numbers (length l.scopes)))

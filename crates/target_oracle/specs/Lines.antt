@@ -7,7 +7,8 @@ use Rattle.language.specs.Texts.{question_text}
 use Rattle.target_oracle.specs.Turns.{Reply, Ended, Overlong, Unread, Turned, turned_after, Turns}
 use Rattle.target_oracle.specs.Words.{trimmed, reply_of}
 
--- what reading a line says to question number k: a reply, or none where the line is no answer (bytes alone never give a fault)
+-- what reading a line says to question number k: a reply, or none where the line is no answer
+-- (bytes alone never give a fault)
 abbrev pub line_reply : ℕ → LineGot → List ℕ → Option Reply
 line_reply k Line line = reply_of k (trimmed line)
 line_reply k End line = Some Ended
@@ -39,10 +40,12 @@ abbrev pub hear_line : (List ℕ → Turned) → List ℕ → Option Reply → T
 hear_line on rest None = on rest
 hear_line on rest (Some reply) = turned_by reply rest
 
--- Lines are heard up to a reply to question number k. So many that are no answers are passed over; one more ends the turn.
+-- Lines are heard up to a reply to question number k. So many that are no answers are passed over;
+-- one more ends the turn.
 unfoldable pub hear : (k patience : ℕ) → List ℕ → Turned
 hear k zero bytes = hear_line (turned_by Unread) (spoken k bytes).rest (spoken k bytes).says
-hear k (suc patience) bytes = hear_line (λ rest. turned_after no_answer_text (hear k patience rest)) (spoken k bytes).rest (spoken k bytes).says
+hear k (suc patience) bytes = hear_line (λ rest. turned_after no_answer_text (hear k patience rest))
+    (spoken k bytes).rest (spoken k bytes).says
 
 -- the question line, then answer lines
 abbrev pub line_turn : Turns

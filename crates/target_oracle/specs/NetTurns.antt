@@ -6,7 +6,9 @@ use Rattle.language.specs.Language.{Language, accepts}
 use Rattle.language.specs.Texts.{question_text}
 use Rattle.target_oracle.specs.Turns.{Turns, Said}
 use Rattle.target_oracle.specs.declared.teacher.Told.{Told}
-use Rattle.target_oracle.specs.declared.teacher.Told.TheVariants.{Yes, No, Back, Stop, End, TooLong, Unreadable, ReadFault, WriteFault, Memory}
+use Rattle.target_oracle.specs.declared.teacher.Told.TheVariants.{Yes, No, Back, Stop, End, TooLong}
+use Rattle.target_oracle.specs.declared.teacher.Told.TheVariants.{Unreadable, ReadFault, WriteFault}
+use Rattle.target_oracle.specs.declared.teacher.Told.TheVariants.{Memory}
 
 -- a network, and whether it answers without a word
 pub record Owner : Type 0 where
@@ -28,7 +30,8 @@ net_turn network quiet l k q bytes = record {
   heard = record { reply = Said (accepts l network q); rest = bytes };
 }
 
--- an answer is acceptance, and nothing else is said but that the sink failed or that there was no memory
+-- an answer is acceptance, and nothing else is said but that the sink failed or that there was no
+-- memory
 abbrev pub net_may_say : List Candidate → Language → Assignment → Told → Type 0
 net_may_say network l q Yes = accepts l network q ≡ true
 net_may_say network l q No = accepts l network q ≡ false

@@ -3,8 +3,8 @@ use Rattle.std.specs.Prelude.{ℕ, Bool, List, ◌++◌}
 use Rattle.assign.specs.Assignment.{Assignment}
 use Rattle.language.specs.Language.{Language}
 
--- what a reply says: an answer, that the last answer that stands is taken back, the wish to stop, the end of the input, a line
--- that is too long, or too many lines that are no answers
+-- what a reply says: an answer, that the last answer that stands is taken back, the wish to stop,
+-- the end of the input, a line that is too long, or too many lines that are no answers
 pub data Reply : Type 0 where
   Said : Bool → Reply
   TakenBack : Reply

@@ -1,5 +1,6 @@
 -- What an answer line says.
-use Rattle.std.specs.Prelude.{ℕ, ◌-◌, List, take, drop, length, Bool, true, false, ◌||◌, ◌&&◌, ◌==◌, if◌then◌else◌, nat_lt, Option, Some, None, codes}
+use Rattle.std.specs.Prelude.{ℕ, ◌-◌, List, take, drop, length, Bool, true, false, ◌||◌, ◌&&◌, ◌==◌}
+use Rattle.std.specs.Prelude.{if◌then◌else◌, nat_lt, Option, Some, None, codes}
 use Rattle.std.specs.List.{prefix_len, suffix_len}
 use Rattle.std.specs.Str.{bytes_eq}
 use Rattle.target_oracle.specs.Turns.{Reply, Said, TakenBack, Stopped}
@@ -18,7 +19,8 @@ trimmed_after line = take (length line - suffix_len is_blank line) line
 unfoldable pub trimmed : List ℕ → List ℕ
 trimmed line = trimmed_after (trimmed_before line)
 
--- What a word says to question number k, if it is an answer. An answer is taken back only where one stands: where k is above 1.
+-- What a word says to question number k, if it is an answer. An answer is taken back only where one
+-- stands: where k is above 1.
 unfoldable pub reply_of : ℕ → List ℕ → Option Reply
 reply_of k word =
     if bytes_eq word (codes "yes") || bytes_eq word (codes "y") then Some (Said true)

@@ -1,12 +1,14 @@
 //! A language and a network that a number makes.
 
-ghost use Rattle.std.specs.Prelude.{◌≡◌, ◌≢◌, ℕ, ◌+◌, ◌/◌, ◌%◌, ◌^◌, ◌<◌, ◌≤◌, Bool, true, [], length, map, All, string_bytes, IfOk};
+ghost use Rattle.std.specs.Prelude.{◌≡◌, ◌≢◌, ℕ, ◌+◌, ◌/◌, ◌%◌, ◌^◌, ◌<◌, ◌≤◌, Bool, true, []};
+ghost use Rattle.std.specs.Prelude.{length, map, All, string_bytes, IfOk};
 ghost use Rattle.language.specs.Language.{Given, accepts, IsLanguage, IsCandidate, IsQuestion};
 ghost use Rattle.language.specs.Answers.{IsNetwork};
 ghost use Rattle.language.specs.Building.{IsOver, IsBuilt};
 ghost use Rattle.language.specs.Inside.{given_by};
 ghost use Rattle.language.specs.Search.{satisfies};
-ghost use Rattle.target_oracle.specs.Generator.{after, state_at, names, given, hidden, target_of, IsGenerated};
+ghost use Rattle.target_oracle.specs.Generator.{after, state_at, names, given, hidden, target_of};
+ghost use Rattle.target_oracle.specs.Generator.{IsGenerated};
 
 use assign::Partial;
 use language::{Candidate, Frame, LangFault, Language, Memory, RelPart, ScopeId, ScopePart};
@@ -43,7 +45,8 @@ fn names(alloc: Global) -> Result<Vec<String>, AllocError>
 /// A relation of two of three values.
 fn part(alloc: Global, name: &str, truth: &[bool]) -> Result<RelPart, Memory>
     requires { length truth.now ≡ 9 }
-    ensures is { IfOk result (λ p. given_by p ≡ record { name = name.now; arity = 2; relation = truth.now }) }
+    ensures is { IfOk result
+        (λ p. given_by p ≡ record { name = name.now; arity = 2; relation = truth.now }) }
     ensures over { IfOk result (IsOver 3) }
 {
     let table = Table::from_truth(alloc, 2, 3, truth)?;
@@ -109,8 +112,8 @@ fn hidden_values(number: u32) -> (Partial, u64)
     (values, state)
 }
 
-/// Whether an assignment has a value for each variable of the candidate's scope, and its relation accepts them. A relation
-/// that there isn't accepts nothing.
+/// Whether an assignment has a value for each variable of the candidate's scope, and its relation
+/// accepts them. A relation that there isn't accepts nothing.
 fn is_satisfied(lang: &Language, c: Candidate, q: &Partial) -> bool
     requires scope { c.scope < length lang.now.scopes }
     requires question { IsQuestion lang.now q.now }
@@ -126,7 +129,8 @@ fn is_satisfied(lang: &Language, c: Candidate, q: &Partial) -> bool
     }
 }
 
-/// The network that the number draws: on each scope the relation of the drawn number, where the hidden values satisfy it.
+/// The network that the number draws: on each scope the relation of the drawn number, where the
+/// hidden values satisfy it.
 fn target(alloc: Global, lang: &Language, number: u32) -> Result<Network, Memory>
     requires { IsQuestion lang.now (hidden number) }
     ensures is { IfOk result (λ net. net.list ≡ target_of number lang.now) }
@@ -149,11 +153,12 @@ fn target(alloc: Global, lang: &Language, number: u32) -> Result<Network, Memory
     Ok(net)
 }
 
-/// The language of ten variables of the values 1 to 3 with the relations `le`, `ge` and `ne` on all pairs, and the network
-/// that this number draws. Hidden values are drawn first, and they are a solution of the network.
+/// The language of ten variables of the values 1 to 3 with the relations `le`, `ge` and `ne` on all
+/// pairs, and the network that this number draws. Hidden values are drawn first, and they are a
+/// solution of the network.
 ///
-/// The draws are those of a linear congruential generator of 64 bits that begins with the number; each is the upper half of
-/// its state.
+/// The draws are those of a linear congruential generator of 64 bits that begins with the number;
+/// each is the upper half of its state.
 pub fn generate(alloc: Global, number: u32) -> Result<(Language, Network), Memory>
     ensures language { IfOk result (λ made. IsGenerated made.0) }
     ensures target { IfOk result (λ made. made.1.list ≡ target_of number made.0) }

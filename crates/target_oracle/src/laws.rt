@@ -2,7 +2,8 @@
 
 ghost use Rattle.target_oracle.specs.Laws.{AreFirstDraws};
 
-/// The first draw of the number 0: the state after it, its upper half, and the value that `v1` hides.
+/// The first draw of the number 0: the state after it, its upper half, and the value that `v1`
+/// hides.
 pub fn first_draws()
     ensures { AreFirstDraws }
 {}

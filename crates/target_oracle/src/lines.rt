@@ -1,4 +1,5 @@
-ghost use Rattle.std.specs.Prelude.{◌≡◌, ◌≢◌, true, ℕ, zero, suc, ◌+◌, ◌<◌, ◌≤◌, ◌++◌, ◌∷◌, [], List, OnOk, IfSome, Option, Some, None, length, string_bytes};
+ghost use Rattle.std.specs.Prelude.{◌≡◌, ◌≢◌, true, ℕ, zero, suc, ◌+◌, ◌<◌, ◌≤◌, ◌++◌, ◌∷◌, []};
+ghost use Rattle.std.specs.Prelude.{List, OnOk, IfSome, Option, Some, None, length, string_bytes};
 ghost use Rattle.std.specs.Option.{ForSome};
 ghost use Rattle.acq_io.specs.Streams.{Adds, AddsOn, HasCalled, Rose, TakesSome};
 ghost use Rattle.language.specs.Language.{IsQuestion};
@@ -16,9 +17,9 @@ use std::alloc::{AllocError, Global};
 
 /// A person, who reads the questions as lines and answers by lines.
 ///
-/// An answer is `yes` or `y`, `no` or `n`, `stop`, or, where an answer stands, `back`, with or without spaces, tabs and carriage
-/// returns at both ends. After any other line the person is told that it is no answer, and the next line is read; the 1,000th
-/// such line in a row ends the turn.
+/// An answer is `yes` or `y`, `no` or `n`, `stop`, or, where an answer stands, `back`, with or
+/// without spaces, tabs and carriage returns at both ends. After any other line the person is told
+/// that it is no answer, and the next line is read; the 1,000th such line in a row ends the turn.
 #[derive(Drop)]
 pub struct LineTeacher {
     /// The line of the last question. The next one is written in its place.
@@ -47,7 +48,8 @@ fn hear_line<S: Source>(source: &mut S, line: &mut Line, k: u32) -> Option<Told>
     ensures hears { HearsLine k (S.left source.old) (S.left source.new) result }
     ensures back { result ≡ Some Told.Back → 1 < k }
     ensures takes { TakesSome (S.left source.old) (S.left source.new) }
-    ensures called { HasCalled (S.faults source.old) (S.faults source.new) (S.late source.old) (S.late source.new) (result ≡ Some Told.ReadFault) }
+    ensures called { HasCalled (S.faults source.old) (S.faults source.new) (S.late source.old)
+        (S.late source.new) (result ≡ Some Told.ReadFault) }
     ensures write { result ≢ Some Told.WriteFault }
 {
     match read_line(source, line) {
@@ -80,13 +82,16 @@ fn hear_or_pass<S: Source, K: Sink>(
     line: &mut Line,
     k: u32,
 ) -> Option<Told>
-    ensures passes { result ≡ None → Passes k (S.left source.old) (K.written sink.old) (S.left source.new) (K.written sink.new) }
-    ensures tells { IfSome result (λ told. (patience : ℕ) → TellsOf k (suc patience) (S.left source.old) (K.written sink.old) (S.left source.new) (K.written sink.new) told) }
+    ensures passes { result ≡ None →
+        Passes k (S.left source.old) (K.written sink.old) (S.left source.new) (K.written sink.new) }
+    ensures tells { IfSome result (λ told. (patience : ℕ) → TellsOf k (suc patience)
+        (S.left source.old) (K.written sink.old) (S.left source.new) (K.written sink.new) told) }
     ensures back { result ≡ Some Told.Back → 1 < k }
     ensures takes { TakesSome (S.left source.old) (S.left source.new) }
     ensures adds { AddsOn (K.written sink.old) (K.written sink.new) [] }
     ensures later_sink { K.faults sink.old ≤ K.faults sink.new }
-    ensures called { HasCalled (S.faults source.old) (S.faults source.new) (S.late source.old) (S.late source.new) (result ≡ Some Told.ReadFault) }
+    ensures called { HasCalled (S.faults source.old) (S.faults source.new) (S.late source.old)
+        (S.late source.new) (result ≡ Some Told.ReadFault) }
     ensures write { result ≡ Some Told.WriteFault → Rose (K.faults sink.old) (K.faults sink.new) }
 {
     match hear_line(source, line, k) {
@@ -97,10 +102,12 @@ fn hear_or_pass<S: Source, K: Sink>(
 
 /// What a line says where no more may follow.
 fn hear_last<S: Source>(source: &mut S, line: &mut Line, k: u32) -> Told
-    ensures tells { (written : Option (List ℕ)) → TellsOf k zero (S.left source.old) written (S.left source.new) written result }
+    ensures tells { (written : Option (List ℕ)) →
+        TellsOf k zero (S.left source.old) written (S.left source.new) written result }
     ensures back { result ≡ Told.Back → 1 < k }
     ensures takes { TakesSome (S.left source.old) (S.left source.new) }
-    ensures called { HasCalled (S.faults source.old) (S.faults source.new) (S.late source.old) (S.late source.new) (result ≡ Told.ReadFault) }
+    ensures called { HasCalled (S.faults source.old) (S.faults source.new) (S.late source.old)
+        (S.late source.new) (result ≡ Told.ReadFault) }
     ensures write { result ≢ Told.WriteFault }
 {
     match hear_line(source, line, k) {
@@ -111,12 +118,14 @@ fn hear_last<S: Source>(source: &mut S, line: &mut Line, k: u32) -> Told
 
 /// What the lines say to question number `k`, up to an answer.
 fn hear_lines<S: Source, K: Sink>(source: &mut S, sink: &mut K, line: &mut Line, k: u32) -> Told
-    ensures tells { TellsOf k 999 (S.left source.old) (K.written sink.old) (S.left source.new) (K.written sink.new) result }
+    ensures tells { TellsOf k 999 (S.left source.old) (K.written sink.old) (S.left source.new)
+        (K.written sink.new) result }
     ensures back { result ≡ Told.Back → 1 < k }
     ensures takes { TakesSome (S.left source.old) (S.left source.new) }
     ensures adds { AddsOn (K.written sink.old) (K.written sink.new) [] }
     ensures later_sink { K.faults sink.old ≤ K.faults sink.new }
-    ensures called { HasCalled (S.faults source.old) (S.faults source.new) (S.late source.old) (S.late source.new) (result ≡ Told.ReadFault) }
+    ensures called { HasCalled (S.faults source.old) (S.faults source.new) (S.late source.old)
+        (S.late source.new) (result ≡ Told.ReadFault) }
     ensures write { result ≡ Told.WriteFault → Rose (K.faults sink.old) (K.faults sink.new) }
 {
     for _passed in 0..PATIENCE {
@@ -138,7 +147,8 @@ fn write_line(line: &mut String, lang: &Language, k: u32, q: &Partial) -> Result
     line.push('\n')
 }
 
-/// Puts question number `k`, and hears what the lines say to it. `line` and `heard` are places for the lines.
+/// Puts question number `k`, and hears what the lines say to it. `line` and `heard` are places for
+/// the lines.
 fn put_and_hear<S: Source, K: Sink>(
     source: &mut S,
     sink: &mut K,
@@ -149,11 +159,14 @@ fn put_and_hear<S: Source, K: Sink>(
     q: &Partial,
 ) -> Told
     requires question { IsQuestion lang.now q.now }
-    ensures tells { ForSome (S.left source.old) (λ bytes. Tells (line_turn lang.now k q.now bytes) (K.written sink.old) (S.left source.new) (K.written sink.new) result) }
-    ensures asks { AsksFirst (S.left source.old) (K.written sink.old) (S.left source.new) (K.written sink.new) (line_turn lang.now k q.now []).text }
+    ensures tells { ForSome (S.left source.old) (λ bytes. Tells (line_turn lang.now k q.now bytes)
+        (K.written sink.old) (S.left source.new) (K.written sink.new) result) }
+    ensures asks { AsksFirst (S.left source.old) (K.written sink.old) (S.left source.new)
+        (K.written sink.new) (line_turn lang.now k q.now []).text }
     ensures back { result ≡ Told.Back → 1 < k }
     ensures later_sink { K.faults sink.old ≤ K.faults sink.new }
-    ensures called { HasCalled (S.faults source.old) (S.faults source.new) (S.late source.old) (S.late source.new) (result ≡ Told.ReadFault) }
+    ensures called { HasCalled (S.faults source.old) (S.faults source.new) (S.late source.old)
+        (S.late source.new) (result ≡ Told.ReadFault) }
     ensures write { result ≡ Told.WriteFault → Rose (K.faults sink.old) (K.faults sink.new) }
 {
     let Ok(()) = write_line(line, lang, k, q) else {

@@ -1,4 +1,5 @@
-ghost use Rattle.std.specs.Prelude.{◌≡◌, ◌≤◌, ◌++◌, ◌∷◌, [], false, IfOk, IfSome, Some, None, string_bytes};
+ghost use Rattle.std.specs.Prelude.{◌≡◌, ◌≤◌, ◌++◌, ◌∷◌, [], false, IfOk, IfSome, Some, None};
+ghost use Rattle.std.specs.Prelude.{string_bytes};
 ghost use Rattle.std.specs.Option.{ForSome};
 ghost use Rattle.acq_io.specs.Streams.{Adds, Rose};
 ghost use Rattle.language.specs.Language.{IsQuestion, accepts};
@@ -6,7 +7,8 @@ ghost use Rattle.language.specs.Answers.{IsNetwork};
 ghost use Rattle.language.specs.Texts.{question_text};
 ghost use Rattle.target_oracle.specs.Hearing.{CutsOff};
 ghost use Rattle.target_oracle.specs.Tells.{Tells};
-ghost use Rattle.target_oracle.specs.NetTurns.{answered_text, net_turn, net_may_say, told_of_answer};
+ghost use Rattle.target_oracle.specs.NetTurns.{answered_text, net_turn, net_may_say};
+ghost use Rattle.target_oracle.specs.NetTurns.{told_of_answer};
 
 use crate::teacher::{Teacher, Told};
 use acq_io::{Put, Sink, Source};
@@ -16,8 +18,8 @@ use network::Network;
 use std::alloc::{AllocError, Global};
 use std::marker::Model;
 
-/// A network in place of a person: it answers yes exactly where it accepts the question, and reads nothing. Unless it is
-/// quiet, it writes the line of the question with its answer.
+/// A network in place of a person: it answers yes exactly where it accepts the question, and reads
+/// nothing. Unless it is quiet, it writes the line of the question with its answer.
 #[derive(Drop)]
 pub struct NetTeacher {
     network: Network,
@@ -79,8 +81,10 @@ fn put_answer<K: Sink>(
     yes: bool,
 ) -> Option<Told>
     requires { IsQuestion lang.now q.now }
-    ensures put { result ≡ None → Adds (K.written sink.old) (K.written sink.new) (answered_text lang.now k q.now yes) }
-    ensures cut { IfSome result (CutsOff (answered_text lang.now k q.now yes) (K.written sink.old) (K.written sink.new)) }
+    ensures put { result ≡ None →
+        Adds (K.written sink.old) (K.written sink.new) (answered_text lang.now k q.now yes) }
+    ensures cut { IfSome result
+        (CutsOff (answered_text lang.now k q.now yes) (K.written sink.old) (K.written sink.new)) }
     ensures later_sink { K.faults sink.old ≤ K.faults sink.new }
     ensures write { result ≡ Some Told.WriteFault → Rose (K.faults sink.old) (K.faults sink.new) }
 {
@@ -117,7 +121,9 @@ impl<S: Source, K: Sink> Teacher<S, K> for NetTeacher {
         // nothing is read, whatever comes of it
         ensures unread { source.new ≡ source.old }
         ensures same { self.new ≡ self.old }
-        ensures tells { ForSome (S.left source.old) (λ bytes. Tells (net_turn self.old.network self.old.quiet lang.now k q.now bytes) (K.written sink.old) (S.left source.new) (K.written sink.new) result) }
+        ensures tells { ForSome (S.left source.old)
+            (λ bytes. Tells (net_turn self.old.network self.old.quiet lang.now k q.now bytes)
+            (K.written sink.old) (S.left source.new) (K.written sink.new) result) }
         ensures says { net_may_say self.old.network lang.now q.now result }
         ensures later_sink { K.faults sink.old ≤ K.faults sink.new }
         ensures write { result ≡ Told.WriteFault → Rose (K.faults sink.old) (K.faults sink.new) }

@@ -62,15 +62,18 @@ pub trait Teacher<S: Source, K: Sink> {
         requires question { IsQuestion lang.now q.now }
         requires fits { fits self.old lang.now }
         // where the source tells its bytes, whether or not the sink does
-        ensures tells { ForSome (S.left source.old) (λ bytes. Tells (turn self.old lang.now k q.now bytes) (K.written sink.old) (S.left source.new) (K.written sink.new) result) }
+        ensures tells { ForSome (S.left source.old) (λ bytes. Tells (turn self.old lang.now k q.now
+            bytes) (K.written sink.old) (S.left source.new) (K.written sink.new) result) }
         // what a turn writes where no bytes are left stands written before any are taken
-        ensures asks { AsksFirst (S.left source.old) (K.written sink.old) (S.left source.new) (K.written sink.new) (turn self.old lang.now k q.now []).text }
+        ensures asks { AsksFirst (S.left source.old) (K.written sink.old) (S.left source.new)
+            (K.written sink.new) (turn self.old lang.now k q.now []).text }
         ensures on { TeachesOn turn fits may_say reads self.old self.new }
         ensures says { may_say self.old lang.now q.now result }
         // an answer is taken back only where one stands, whether or not source and sink tell
         ensures back { result ≡ Told.Back → 1 < k }
         ensures unread { IsFalse (reads self.old) → source.new ≡ source.old }
         ensures later_sink { K.faults sink.old ≤ K.faults sink.new }
-        ensures called { HasCalled (S.faults source.old) (S.faults source.new) (S.late source.old) (S.late source.new) (result ≡ Told.ReadFault) }
+        ensures called { HasCalled (S.faults source.old) (S.faults source.new) (S.late source.old)
+            (S.late source.new) (result ≡ Told.ReadFault) }
         ensures write { result ≡ Told.WriteFault → Rose (K.faults sink.old) (K.faults sink.new) };
 }

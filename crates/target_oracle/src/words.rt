@@ -67,7 +67,8 @@ fn told_by(word: &[u8], k: u32) -> Option<Told>
     }
 }
 
-/// What a line says to question number `k`, with or without blanks at its ends. None where it is no answer.
+/// What a line says to question number `k`, with or without blanks at its ends. None where it is no
+/// answer.
 pub(crate) fn told_in(line: &[u8], k: u32) -> Option<Told>
     ensures is { result ≡ option_map told_of (reply_of k (trimmed line.now)) }
     ensures back { result ≡ Some Told.Back → 1 < k }
