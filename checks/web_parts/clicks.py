@@ -341,7 +341,7 @@ def too_large(program: str) -> Faults:
         for letters in (5_000_000, 12_000_000):
             browser.go(f"http://{web.host}{web.path}/case/x.case")
             browser.settled()
-            browser.driver.execute_script("document.getElementById('text-all').value = 'x'.repeat(arguments[0])", letters)
+            browser.driver.execute_script("document.querySelector('form[action$=\"/text\"] [name=mark]').value = 'x'.repeat(arguments[0])", letters)
             browser.leads(lambda: browser.click("Save the text"))
             if "This can't be shown" not in browser.head() or "a million bytes at most" not in browser.text():
                 yield f"{letters} letters lead to {browser.head()!r} {browser.text()[:300]!r}"
