@@ -5,8 +5,8 @@ usage: checks/width.py
 
 - A line of a source or a specification has 100 columns at most; proofs may be wider. EXCEPTIONS
   names those that can't be broken, 50 at most, each by its file and how it begins, with the reason;
-  none is over 132. One that isn't over 100 any more is no exception. `tools/width.py` breaks the
-  others.
+  none is over 120, but an attribute of 132. One that isn't over 100 any more is no exception.
+  `tools/width.py --without-proofs` breaks the others.
 - At most MOST_PYTHON lines of Python are over 100 columns: those of before. The number only falls.
 - A line with a column too much is noticed in a source, a specification, a script and a named line,
   and one with a column less isn't.
@@ -17,9 +17,10 @@ import sys
 import tempfile
 
 TOP = os.path.realpath(os.path.join(os.path.dirname(os.path.abspath(__file__)), ".."))
-WIDTH, WIDEST, MOST, MOST_PYTHON = 100, 132, 50, 1_896
+WIDTH, WIDEST, MOST, MOST_PYTHON = 100, 120, 50, 1_896
 ATTRIBUTE = "`rt fmt` keeps an attribute on one line"
-IMPORT = "an import"
+LONGEST_ATTRIBUTE = 132
+EDITED = "a wrong body names the whole line"
 TABLE = "a row of a table"
 TEXT = "a text that the program makes, on one line as it comes out"
 EXCEPTIONS = {
@@ -30,7 +31,7 @@ EXCEPTIONS = {
     ("crates/samples/src/languages.rt", 'r#"{{"variables"'): TEXT,
     ("crates/store_trials/src/random.rt", 'r#"{{"variables"'): TEXT,
     ("crates/store_trials/src/random.rt", '"{} answers'): TEXT,
-    ("crates/voc_read/specs/Rules.antt", "use Rattle.voc_read.specs.declared.fault"): IMPORT,
+    ("crates/voc_read/specs/Rules.antt", "use Rattle.voc_read.specs.declared"): EDITED,
     ("crates/voc_read/src/reading.rt", "#[tactic("): ATTRIBUTE,
 }
 PARTS = ("src", "specs")
@@ -55,6 +56,10 @@ def long_lines(top, path):
                 yield number, line.rstrip("\n")
 
 
+def widest(reason):
+    return LONGEST_ATTRIBUTE if reason == ATTRIBUTE else WIDEST
+
+
 def look(top, exceptions, most_python):
     """What is wrong below a folder, and how many lines of Python are over."""
     faults, python, met = [], 0, set()
@@ -65,7 +70,7 @@ def look(top, exceptions, most_python):
                 continue
             named = [it for it in exceptions if it[0] == path and line.lstrip().startswith(it[1])]
             met.update(named)
-            if len(line) > (WIDEST if named else WIDTH):
+            if len(line) > max([WIDTH, *(widest(exceptions[it]) for it in named)]):
                 faults.append(f"{path}:{number}: {len(line)} columns")
     faults += [f"{it[0]}: no long line begins with {it[1]}" for it in exceptions if it not in met]
     if python > most_python:
