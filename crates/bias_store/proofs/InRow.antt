@@ -25,7 +25,7 @@ word_passes q relations accepting masks shown first second from count left word 
         (row.same (from + j) (omega arith) ∙ ap (λ s. get_or masks s 0) (let e : first + (from + j) ≡ first + from + j = omega arith in e) ∙ is.passed j low off)
     go j value low some true false on at none =
         let shut : has (variables_of q) (second + (from + j)) ≡ false =
-            ap (λ v. has (variables_of q) v) (let e : second + (from + j) ≡ second + from + j = omega arith in e) ∙ sym (ap (λ xs. has xs (second + from + j)) all) ∙ sym (bits j (omega arith)) ∙ at in
+        ap (λ v. has (variables_of q) v) (let e : second + (from + j) ≡ second + from + j = omega arith in e) ∙ sym (ap (λ xs. has xs (second + from + j)) all) ∙ sym (bits j (omega arith)) ∙ at in
         let open_there : has (variables_of q) (second + (from + j)) ≡ true = has-set_where (λ v. is_some (value_of q v)) (second + (from + j)) (omega arith) ∙ ap is_some some in
         absurd (cc)
     go j value low some true true on at none = absurd (cc)
