@@ -1,8 +1,18 @@
 -- The siblings of a prefix's values, as the walk through a tree goes on.
-use Rattle.cert_check.proofs.Prelude.{◌≡◌, ◌⊎◌, ℕ, zero, suc, ◌+◌, ◌-◌, ◌<◌, ◌≤◌, true, are_ranged, List, [], ◌∷◌, ◌++◌, length, take, get_or, Option, Some, None, refl, sym, ◌∙◌, ap, subst, arith, inl, inr, add-one, length-append, cases_lt, position, get_or-take, take_more, take_all, slice_get, slice_index_or, slice_get-get_or, slice_set, option_and_then, Assignment, Candidate, Language, IsLanguage, IsCandidate, IsNetwork, variable_count, violates, order_of, assignment_of, assigned_push, orders_are_known, HasFronts, IsPrefixAt, AreLevels, AreSiblings, IsValueOf, Siblings, item_at, item_below}
+use Rattle.cert_check.proofs.Prelude.{◌≡◌, ◌⊎◌, ℕ, zero, suc, ◌+◌, ◌-◌, ◌<◌, ◌≤◌, true, are_ranged, List, [], ◌∷◌, ◌++◌, length, take, get_or, Option, Some, None, refl, sym, ◌∙◌, ap, subst, arith, inl, inr, add-one, length-append, cases_lt, position, get_or-take, take_more, take_all, slice_get, slice_index_or, slice_get-get_or, slice_set, option_and_then, Assignment, Candidate, Language, IsLanguage, IsCandidate, IsNetwork, variable_count, violates, order_of, assignment_of, assigned_push, orders_are_known, HasFronts, IsPrefixAt, AreLevels, AreSiblings, IsValueOf, Siblings, item_at, item_below, Token, Branch, Holds, Item, branches, node_at, node_of, satisfies}
 use Rattle.std.proofs.lemmas.List.{length-take-le, get_or-append_right, get_or_append_left}
-use Rattle.cert_check.proofs.OnNext.{none_first}
+use Rattle.cert_check.proofs.OnNext.{none_first, branch_none}
 use Rattle.cert_check.proofs.Within.{bounds, next_of, ranged_last}
+
+-- the first item of the last of k values
+pub item_last : (levels : List Siblings) (values : List ℕ) (k : ℕ) (d : Siblings) → 0 < k → k ≤ length levels → item_at (slice_index_or levels (k - 1) d) (slice_index_or values (k - 1) 0) ≡ item_below levels values k
+item_last levels values zero d some few = absurd (omega arith)
+item_last levels values (suc j) d some few =
+    (λ i. item_at (slice_index_or levels (less i) d) (slice_index_or values (less i) 0))
+    ∙ sym (ap (option_and_then (λ s. item_at s (slice_index_or values j 0))) (slice_get-get_or levels j d (omega arith)))
+  where
+    less : suc j - 1 ≡ j
+    less = omega arith
 
 module _ (l : Language) (network : List Candidate) (c : Candidate) where
   pub levels_begin : (values : List ℕ) (levels : List Siblings) → values ≡ [] → AreLevels l network c (length values) values levels
@@ -34,6 +44,25 @@ module _ (l : Language) (network : List Candidate) (c : Candidate) where
           (subst (λ t. AreSiblings l network (slice_index_or (order_of l c) n 0) (assignment_of l c (take n values)) t) (sym last)
           (subst (λ vs. AreSiblings l network (slice_index_or (order_of l c) n 0) (assignment_of l c vs) s) (sym all)
           (subst (λ k. AreSiblings l network (slice_index_or (order_of l c) k 0) (assignment_of l c values) s) (sym count) here)))
+
+  -- where a branch stands, those of the next variable are added
+  pub level_added : (order values : List ℕ) (e : Assignment) (token : Token) (s : Siblings) (before now : List Siblings) → order ≡ order_of l c → IsPrefixAt l c values e → token ≡ Branch →
+      AreLevels l network c (length values) values before → now ≡ take (length values) before ++ s ∷ [] → AreSiblings l network (slice_index_or order (length values) 0) e s →
+      AreLevels l network c (length values + branches (token ∷ [])) values now
+  level_added order values e token s before now same at branch levels is here =
+      subst (λ t. AreLevels l network c (length values + branches (t ∷ [])) values now) (sym branch)
+      (levels_more (length values) values s before now refl levels is
+      (subst (λ f. AreSiblings l network (next_of l c values) f s) at.is (subst (λ (o : List ℕ). AreSiblings l network (slice_index_or o (length values) 0) e s) same here)))
+
+  -- where none stands, they are as they were
+  pub level_kept : (values : List ℕ) (token : Token) (levels : List Siblings) → (token ≡ Branch → ⊥) → AreLevels l network c (length values) values levels → AreLevels l network c (length values + branches (token ∷ [])) values levels
+  level_kept values Branch levels other are = absurd (other refl)
+  level_kept values Holds levels other are = subst (λ n. AreLevels l network c n values levels) (let e : length values ≡ length values + 0 = omega arith in e) are
+  level_kept values (Item i) levels other are = subst (λ n. AreLevels l network c n values levels) (let e : length values ≡ length values + 0 = omega arith in e) are
+
+  -- nothing is violated at a branch
+  pub none_at_branch : (values : List ℕ) (e : Assignment) (token : Token) → IsPrefixAt l c values e → token ≡ node_at l network c values → token ≡ Branch → position (λ d. violates l d e) network ≡ None
+  none_at_branch values e token at node branch = ap (λ f. position (λ d. violates l d f) network) at.is ∙ branch_none _ _ (sym branch ∙ node)
 
   -- what comes next begins with the same values
   pub levels_on : (n : ℕ) (values next : List ℕ) (levels : List Siblings) → AreLevels l network c n values levels → HasFronts values n next → AreLevels l network c (length next) next levels
@@ -96,3 +125,10 @@ module _ (l : Language) (network : List Candidate) (c : Candidate) where
     pub first_is : (values : List ℕ) (e : Assignment) (levels : List Siblings) (item : Option ℕ) → IsPrefixAt l c values e → AreLevels l network c (length values) values levels →
         item ≡ item_below levels values (length values) → item ≡ position (λ d. violates l d e) network
     first_is values e levels item at are found = found ∙ first_at (length values) values e levels refl at are
+
+    -- the node there
+    pub node_there : (values vs : List ℕ) (e : Assignment) (levels ss : List Siblings) (item : Option ℕ) (token : Token) → vs ≡ values → ss ≡ levels → IsPrefixAt l c values e → AreLevels l network c (length values) values levels →
+        item ≡ item_below ss vs (length vs) → token ≡ node_of item (satisfies l c e) → token ≡ node_at l network c values
+    node_there values vs e levels ss item token same those at are found is =
+        is ∙ ap (λ o. node_of o (satisfies l c e)) (first_is values e levels item at are (found ∙ (λ i. item_below (those i) (same i) (length (same i)))))
+        ∙ ap (λ (f : Assignment). node_of (position (λ d. violates l d f) network) (satisfies l c f)) at.is

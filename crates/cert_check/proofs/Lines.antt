@@ -30,16 +30,18 @@ pub record IsLineSoFar (d v : ℕ) (e : Assignment) (scope : List ℕ) (k p s : 
   pub is : (x : ℕ) → place_from d 0 (slice_set e v (Some x)) scope ≡ place_from d (p + x * s) (slice_set e v (Some x)) (drop k scope)
   pub below : (x : ℕ) → x < d → p + x * s + 1 ≤ d ^ k
   pub few : s ≤ k * d ^ k
+  pub within : k ≤ length scope
 
 pub line_begins : (d v : ℕ) (e : Assignment) (scope : List ℕ) → IsLineSoFar d v e scope 0 0 0
 line_begins d v e scope = record {
   is = λ x. ap (λ n. place_from d n (slice_set e v (Some x)) scope) (let none : 0 ≡ 0 + x * 0 = omega arith in none);
   below = λ x low. omega arith;
   few = omega arith;
+  within = omega arith;
 }
 
 module _ (d v : ℕ) (e : Assignment) (scope : List ℕ) (k p s n : ℕ) (so_far : IsLineSoFar d v e scope k p s) (low : k < length scope) (some : 1 ≤ d) (count : n ≡ d) where
-  w : ℕ
+  abbrev w : ℕ
   w = get_or scope k 0
 
   -- it is the variable
@@ -51,6 +53,7 @@ module _ (d v : ℕ) (e : Assignment) (scope : List ℕ) (k p s n : ℕ) (so_far
         ∙ ap (λ m. place_from d m (slice_set e v (Some x)) (drop (k + 1) scope)) (here_more p s n x);
     below = λ x small. let next = below_after d n (p + x * s) x x k (so_far.below x small) small count refl in omega (arith, next, here_more p s n x);
     few = subst (λ m. s * m + 1 ≤ (k + 1) * d ^ (k + 1)) (sym count) (stride_more d k s 1 some so_far.few (omega arith));
+    within = omega arith;
   }
 
   -- it is another one, which has a value
@@ -62,6 +65,7 @@ module _ (d v : ℕ) (e : Assignment) (scope : List ℕ) (k p s n : ℕ) (so_far
         ∙ ap (λ m. place_from d m (slice_set e v (Some x)) (drop (k + 1) scope)) (other_more p s n x z);
     below = λ x within. let next = below_after d n (p + x * s) y z k (so_far.below x within) small count same in omega (arith, next, other_more p s n x z);
     few = (let most = subst (λ m. s * m + 0 ≤ (k + 1) * d ^ (k + 1)) (sym count) (stride_more d k s 0 some so_far.few (omega arith)) in omega (arith, most));
+    within = omega arith;
   }
 
   -- it is another one, which has none
@@ -91,6 +95,12 @@ module _ (d v : ℕ) (e : Assignment) (scope : List ℕ) (k p s n : ℕ) (so_far
 
 pub line_ends : (d v : ℕ) (e : Assignment) (scope : List ℕ) (k p s : ℕ) → IsLineSoFar d v e scope k p s → length scope ≤ k → (x : ℕ) → place_from d 0 (slice_set e v (Some x)) scope ≡ Some (p + x * s)
 line_ends d v e scope k p s so_far past x = so_far.is x ∙ ap (place_from d (p + x * s) (slice_set e v (Some x))) (drop_all k scope past)
+
+pub line_below : (d v : ℕ) (e : Assignment) (scope : List ℕ) (k p s : ℕ) → IsLineSoFar d v e scope k p s → length scope ≤ k → (x : ℕ) → x < d → p + x * s < d ^ length scope
+line_below d v e scope k p s so_far past x low =
+    let within = so_far.within in
+    let end : k ≡ length scope = omega arith in
+    subst (λ n. p + x * s < d ^ n) end (let here = so_far.below x low in omega (arith, here))
 
 -- ---- what a tuple's place tells of a candidate
 

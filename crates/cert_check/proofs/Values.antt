@@ -1,9 +1,9 @@
 -- The first items that the values of a variable violate, one item after another.
-use Rattle.cert_check.proofs.Prelude.{◌≡◌, ◌⊎◌, ℕ, ◌+◌, ◌<◌, ◌≤◌, ◌^◌, Bool, true, false, cond, ◌&&◌, not, List, [], ◌∷◌, ◌++◌, length, take, drop, get_or, set, Some, None, refl, sym, ◌∙◌, ap, arith, inl, inr, ◌==◌, find, bit_at-zero, and_parts, cases_eq, ne_eqb, get_or-set_other, get_or-set_same, take_more, take_all, slice_index_or, slice_set, nat_le, is_one, Assignment, Candidate, Language, violates_item, IsValueOf}
+use Rattle.cert_check.proofs.Prelude.{◌≡◌, ◌⊎◌, ℕ, ◌+◌, ◌*◌, ◌%◌, ◌<◌, ◌≤◌, ◌^◌, Bool, true, false, cond, ◌&&◌, ◌||◌, not, List, [], ◌∷◌, ◌++◌, length, take, drop, get_or, set, Some, None, refl, sym, ◌∙◌, ap, arith, inl, inr, ◌==◌, find, bit_at-zero, and_parts, cases_eq, eq-eqb, ne_eqb, bit_or, is_one-or, get_or-set_other, get_or-set_same, take_more, take_all, slice_index_or, slice_set, nat_le, is_one, slice_get-get_or, option_map_or, Assignment, Candidate, Language, IsLanguage, variable_count, violates, violates_item, IsValueOf}
 use Rattle.std.proofs.Math.Bool.{and-true}
 use Rattle.std.proofs.lemmas.Bool.Decides.{nat_tests}
 use Rattle.std.proofs.lemmas.List.{take-append-drop}
-use Rattle.std.proofs.lemmas.Nat.{pow_below}
+use Rattle.std.proofs.lemmas.Nat.{one_shl, pow_below}
 use Rattle.std.specs.Prelude.{bit_and}
 use Rattle.std.specs.Int.{bit_not, w64}
 use Rattle.assign.specs.SetLemmas.{is_one-pow}
@@ -31,6 +31,18 @@ none_passing first test = record {
 
 pub passing_at : (first : ℕ) (test : ℕ → Bool) (x : ℕ) → first ≤ x → test x ≡ passing first test x
 passing_at first test x past = sym (ap (λ b. b && test x) (le_where first x past))
+
+or_true : (b : Bool) → (b || true) ≡ true
+or_true true = refl
+or_true false = refl
+
+-- one value more of a run
+pub run_more : (values first x : ℕ) → x < 64 → ((y : ℕ) → first ≤ y → y < x → is_one values y ≡ true) → (y : ℕ) → first ≤ y → y < x + 1 → is_one (bit_or values (1 * 2 ^ x % 2 ^ 64)) y ≡ true
+run_more values first x small so_far y from below = is_one-or values (1 * 2 ^ x % 2 ^ 64) y ∙ go (cases_eq y x)
+  where
+    go : (y ≡ x) ⊎ (y ≡ x → ⊥) → (is_one values y || is_one (1 * 2 ^ x % 2 ^ 64) y) ≡ true
+    go (inl same) = ap (λ b. is_one values y || b) (ap (λ m. is_one m y) (one_shl x 64 small) ∙ is_one-pow x y ∙ eq-eqb x y (sym same)) ∙ or_true (is_one values y)
+    go (inr other) = ap (λ b. b || is_one (1 * 2 ^ x % 2 ^ 64) y) (so_far y from (omega arith))
 
 -- ---- the numbers beside values
 
@@ -141,3 +153,16 @@ module _ (l : Language) (network : List Candidate) (v : ℕ) (e : Assignment) (r
       here
       ∙ sym (find_some (violated x) (take k row) (drop k row) (slice_index_or items x 0) (sym (so_far.each x at) ∙ here))
       ∙ ap (find (violated x)) (take-append-drop k row)
+
+-- a value of a variable is below 64
+pub value_small : (l : Language) → IsLanguage l → (v x : ℕ) → v < variable_count l → IsValueOf l v x → x < 64
+value_small l lawful v x known at =
+    let size = lawful.ranged in
+    let within = (lawful.ranges v (record { first = 0; last = 63 }) (omega (arith, size, known))).known in
+    let few = lawful.few_values in
+    let to = at.to in
+    omega (arith, within, few, to)
+
+-- what an item's number stands for
+pub item_is : (l : Language) (network : List Candidate) (e : Assignment) (i : ℕ) (d : Candidate) → i < length network → violates l (get_or network i d) e ≡ violates_item l network e i
+item_is l network e i d low = sym (ap (λ o. option_map_or (λ c. violates l c e) o false) (slice_get-get_or network i d low))

@@ -1,7 +1,8 @@
 //! What a network makes of all values of a variable at once, where other variables have their values.
 
-ghost use Rattle.std.specs.Prelude.{◌≡◌, ◌<◌, ◌≤◌, ◌+◌, ◌*◌, ◌==◌, ℕ, None, Some, not, true, false, length, position, slice_index_or, slice_set, All, IfNone, IfSome, if◌then◌else◌};
-ghost use Rattle.std.specs.Int.{bit_at};
+ghost use Rattle.std.specs.Prelude.{◌≡◌, ◌<◌, ◌≤◌, ◌+◌, ◌*◌, ◌^◌, ◌==◌, ◌≢◌, ℕ, None, Some, not, true, false, bit_and, length, position, slice_index_or, slice_set, All, IfNone, IfSome, if◌then◌else◌};
+ghost use Rattle.std.specs.Int.{bit_at, bit_not, w64};
+ghost use Rattle.assign.specs.Sets.{ones_of};
 ghost use Rattle.language.specs.Language.{IsCandidate, IsLanguage, IsQuestion, place_on, relation_of, variable_count, violates};
 ghost use Rattle.language.specs.Answers.{IsNetwork};
 ghost use Rattle.cert_check.specs.ByVariable.{by_variable};
@@ -56,6 +57,7 @@ fn line_on(lang: &Language, s: ScopeId, v: u8, e: &Partial) -> Option<Line>
 
 /// The values of a variable at whose place on a line the candidate doesn't hold: bit x is 1 where it doesn't at value x.
 fn rejecting(lang: &Language, c: Candidate, v: u8, line: Line) -> u64
+    requires lawful { IsLanguage lang.now }
     requires candidate { IsCandidate lang.now c }
     requires known { v < variable_count lang.now }
     requires below { IsBelow lang.now c.scope line.place line.stride }
@@ -73,6 +75,7 @@ fn rejecting(lang: &Language, c: Candidate, v: u8, line: Line) -> u64
 /// The values of a variable that violate the candidate: bit x is 1 where value x does. The bits that are no value of the
 /// variable mean nothing. Where it is the last one of the scope, a row of the table has them all.
 fn violating(lang: &Language, c: Candidate, v: u8, e: &Partial) -> u64
+    requires lawful { IsLanguage lang.now }
     requires candidate { IsCandidate lang.now c }
     requires known { v < variable_count lang.now }
     requires question { IsQuestion lang.now e.now }
@@ -90,7 +93,8 @@ fn violating(lang: &Language, c: Candidate, v: u8, e: &Partial) -> u64
 
 /// The values of a variable: bit x is 1 where x is one of them.
 fn values_of(lang: &Language, v: u8) -> u64
-    requires { v < variable_count lang.now }
+    requires lawful { IsLanguage lang.now }
+    requires known { v < variable_count lang.now }
     ensures { (x : ℕ) → IsValueOf lang.now v x → (bit_at result x == 1) ≡ true }
 {
     let (first, last) = lang.range(v);
@@ -101,15 +105,27 @@ fn values_of(lang: &Language, v: u8) -> u64
     values
 }
 
+/// The least of some values, and the others.
+fn split_first(values: u64) -> (u8, u64)
+    requires { values ≢ 0 }
+    ensures small { result.0 < 64 }
+    ensures one { (bit_at values result.0 == 1) ≡ true }
+    ensures others { result.1 ≡ bit_and values (bit_not w64 (2 ^ result.0)) }
+    ensures fewer { length (ones_of result.1) < length (ones_of values) }
+{
+    let x = values.trailing_zeros() as u8;
+    (x, values & !(1 << x))
+}
+
 /// Writes the item's number beside each of these values.
 fn put(items: &mut [u32; 64], values: u64, i: u32)
     ensures { (x : ℕ) → x < 64 → slice_index_or items.new x 0 ≡ (if bit_at values x == 1 then i else slice_index_or items.old x 0) }
 {
     let mut left = values;
     while left != 0 {
-        let x = left.trailing_zeros();
+        let (x, others) = split_first(left);
         items[x as usize] = i;
-        left &= !(1 << x);
+        left = others;
     }
 }
 

@@ -87,7 +87,7 @@ module _ (l : Language) (lawful : IsLanguage l) (run : TellingRun) (is : IsRun l
       record {
         found = ap (λ k. find (tells_apart scene left) (drop k us)) (let e : start ≡ 0 + start = omega arith in e)
             ∙ sym (none_until scene left 0 start (omega arith) (λ k below.
-                let e : 0 + k ≡ k = omega arith in
-                tells_there scene left (0 + k) (omega arith) ∙ ap (λ j. tells_apart scene left (get_or us j [])) e ∙ none_before p at k (omega arith)));
+            let e : 0 + k ≡ k = omega arith in
+            tells_there scene left (0 + k) (omega arith) ∙ ap (λ j. tells_apart scene left (get_or us j [])) e ∙ none_before p at k (omega arith)));
         row = row_start l.value_count (length (scope_at l run.scope)) p lawful.some_value (lawful.scopes run.scope [] is.scope).not_empty low;
       }

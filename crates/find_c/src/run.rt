@@ -171,7 +171,8 @@ impl RelRun {
             RelStandsFor result lang.now self.scope choices (replies ++ yes ∷ []) }
         ensures some { result ≢ RelNext.Nothing }
     {
-        let row = place - place % u32::from(lang.d());
+        let size = u32::from(lang.d());
+        let row = place - place % size;
         let RelRun { scope, choices, .. } = self;
         settle(lang, scope, choices.agreeing(accepting, yes), Some(row))
     }

@@ -1,4 +1,5 @@
-use Rattle.find_c.proofs.Prelude.{length, get_or, Some, [], ◌∙◌, ap, arith, tuples, scope_at, scene_of}
+use Rattle.find_c.proofs.Prelude.{length, get_or, Some, [], ◌∙◌, ap, subst, arith, tuples, scope_at, scene_of, IsFoundFrom}
+use Rattle.std.specs.Prelude.{IfSome}
 use Rattle.std.proofs.Math.Nat.{one-le-pow}
 use Rattle.find_c.proofs.Splitting.{found_first, from_first_row}
 use Rattle.find_c.proofs.run.splitting_tuple.Goals as goal
@@ -16,3 +17,8 @@ at-requires-clause-place c = one-le-pow (length c.scope.result.now) c.d-value_co
 
 pub tuple_searched-2-requires-clause-from : goal.tuple_searched-2-requires-clause-from
 tuple_searched-2-requires-clause-from c = from_first_row c.args.lang.now c.args.s c.args.choices.now (c.d-value_count.ensures.lawful.scopes c.args.s [] c.requires.scope).not_empty
+
+pub tuple_searched-requires-clause-from : goal.tuple_searched-requires-clause-from
+tuple_searched-requires-clause-from c =
+    let known : IfSome (Some c.in-Some.row) (IsFoundFrom c.args.lang.now c.args.s c.args.choices.now) = subst (λ o. IfSome o (IsFoundFrom c.args.lang.now c.args.s c.args.choices.now)) c.in-Some.is c.requires.from in
+    known
