@@ -8,6 +8,9 @@ use Rattle.language.specs.Language.{relation_of}
 use Rattle.language.proofs.Placing.{place_from, one_more, value_fits, below_after, fits_after}
 use Rattle.shared_lemmas.proofs.Read.{cond_none}
 
+left_bare : (b : Bool) (y : ℕ) → b ≡ false → cond b (Some y) None ≡ None
+left_bare b y off = ap (λ c. cond c (Some y) None) off
+
 -- ---- one variable more
 
 here_more : (p s d x : ℕ) → (p + x * s) * d + x ≡ p * d + x * (s * d + 1)
@@ -70,7 +73,7 @@ module _ (d v : ℕ) (e : Assignment) (scope : List ℕ) (k p s n : ℕ) (so_far
 
   -- it is another one, which has none
   pub line_lacks : w ≢ v → None ≡ value_of e w → (x : ℕ) → place_from d 0 (slice_set e v (Some x)) scope ≡ None
-  line_lacks other none x = ap (λ b. cond b (Some _) None) (bare scope k low (get_or-set_other e v w (Some x) None other ∙ sym none))
+  line_lacks other none x = left_bare (covers f scope) _ (bare scope k low (get_or-set_other e v w (Some x) None other ∙ sym none))
     where
       f : Assignment
       f = slice_set e v (Some x)

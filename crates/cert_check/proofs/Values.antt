@@ -154,14 +154,16 @@ module _ (l : Language) (network : List Candidate) (v : ℕ) (e : Assignment) (r
       ∙ sym (find_some (violated x) (take k row) (drop k row) (slice_index_or items x 0) (sym (so_far.each x at) ∙ here))
       ∙ ap (find (violated x)) (take-append-drop k row)
 
--- a value of a variable is below 64
-pub value_small : (l : Language) → IsLanguage l → (v x : ℕ) → v < variable_count l → IsValueOf l v x → x < 64
-value_small l lawful v x known at =
+-- how great a value of a variable is
+pub value_below : (l : Language) → IsLanguage l → (v x : ℕ) → v < variable_count l → IsValueOf l v x → x < l.value_count
+value_below l lawful v x known at =
     let size = lawful.ranged in
     let within = (lawful.ranges v (record { first = 0; last = 63 }) (omega (arith, size, known))).known in
-    let few = lawful.few_values in
     let to = at.to in
-    omega (arith, within, few, to)
+    omega (arith, within, to)
+
+pub value_small : (l : Language) → IsLanguage l → (v x : ℕ) → v < variable_count l → IsValueOf l v x → x < 64
+value_small l lawful v x known at = let few = lawful.few_values in let low = value_below l lawful v x known at in omega (arith, few, low)
 
 -- what an item's number stands for
 pub item_is : (l : Language) (network : List Candidate) (e : Assignment) (i : ℕ) (d : Candidate) → i < length network → violates l (get_or network i d) e ≡ violates_item l network e i

@@ -53,7 +53,7 @@ none_told scene q cs u e = go (list_any (allows scene u) cs) refl e
 row_start : (d a p : ℕ) → 1 ≤ d → 1 ≤ a → p < d ^ a → IsAtRow d (d ^ a) (p - p % d)
 row_start d zero p some wide low = absurd (omega arith)
 row_start d (suc a) p some wide low =
-    let here : p / d < d ^ a = (div-lt_iff_lt-mul (omega arith)).1 (omega (arith, pow-suc d a, mul_comm d (d ^ a))) in
+    let here : p / d < d ^ a = (div-lt_iff_lt-mul {k = d} {x = p} {y = d ^ a} (omega arith)).1 (omega (arith, pow-suc d a, mul_comm d (d ^ a))) in
     let parts : (p / d + (d ^ a - p / d)) * d ≡ p / d * d + (d ^ a - p / d) * d = add-mul (p / d) (d ^ a - p / d) d in
     let whole : p / d + (d ^ a - p / d) ≡ d ^ a = omega arith in
     let all : (p / d + (d ^ a - p / d)) * d ≡ d ^ a * d = ap (λ n. n * d) whole in
