@@ -6,6 +6,7 @@ use Rattle.assign.specs.Sets.{numbers, has}
 use Rattle.assign.specs.Assignment.{Assignment, value_of}
 use Rattle.rel_table.specs.Relation.{holds}
 use Rattle.language.specs.declared.candidates.Candidate.{Candidate}
+use Rattle.propagators.specs.declared.constraints.Constraints.{Constraints}
 use Rattle.language.specs.Language.{Language, variable_count, values_of, scope_of, relation_of}
 
 abbrev pub Family : Type 0
@@ -56,6 +57,10 @@ arc_of l c holding = record { scope = scope_of l c; accepted = λ tuple. is_want
 -- that those of a list hold, and that the one against them doesn't
 abbrev pub arcs_of : Language → List Candidate → Option Candidate → List Arc
 arcs_of l list against = map (λ c. arc_of l c true) list ++ option_map_or (λ c. arc_of l c false ∷ []) against []
+
+-- those of a search
+abbrev pub conditions : Constraints → List Arc
+conditions cons = arcs_of cons.lang.now cons.list.now cons.against
 
 -- the sets of a scope's variables
 abbrev pub sets_on : Family → List ℕ → List (List ℕ)
