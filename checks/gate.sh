@@ -1,5 +1,5 @@
 #!/usr/bin/env bash
-# .ci/run with stand-ins for the kit and for the checks: each script of checks/ is called once; what has passed is recorded, so that
+# .ci/run with stand-ins for the kit and for the checks: each script of checks/ but wrong_bodies.py is called once; what has passed is recorded, so that
 # `acquire` proves nothing again and release.sh makes a tar file; nothing else is.
 set -u
 top=$(cd "$(dirname "$0")/.." && pwd)
@@ -59,7 +59,7 @@ change_during() {
 here=$room/top
 fresh
 report "passed" "0 5 passed, 0 failed" "$(gate) $(sed -n 2p "$room/printed")"
-report "each check is called once" "$(ls checks)" "$(sort "$room/called")"
+report "each check is called once, but for that of wrong bodies" "$(find checks -type f ! -name wrong_bodies.py -printf '%f\n' | sort)" "$(sort "$room/called")"
 report "how many proofs go side by side" "gate: $(tools/lanes.sh) proofs side by side" "$(head -n 1 "$room/printed")"
 report "where the time went" "processor minutes proof second proof edits compile run sum" "$(sed -n 3p "$room/printed" | tr -s ' ')"
 report "that is kept" 0 "$(tail -n +3 "$room/printed" | cmp -s - .ci/out/minutes; echo $?)"
