@@ -17,7 +17,7 @@ import sys
 import tempfile
 
 TOP = os.path.realpath(os.path.join(os.path.dirname(os.path.abspath(__file__)), ".."))
-WIDTH, WIDEST, MOST, MOST_PYTHON = 100, 120, 50, 1_896
+WIDTH, WIDEST, MOST, MOST_PYTHON = 100, 120, 50, 1_894
 ATTRIBUTE = "`rt fmt` keeps an attribute on one line"
 LONGEST_ATTRIBUTE = 132
 EDITED = "a wrong body names the whole line"

@@ -202,7 +202,9 @@ def installs(_program: str) -> list[str]:
         for no_install in (True, False):
             named = {"PATH": folder, **({"NO_INSTALL": "1"} if no_install else {})}
             with open(said, "w", encoding="utf-8") as file:
-                subprocess.run(["/usr/bin/python3", "-c", f"import sys; sys.path.insert(0, {CHECKS!r}); import desk; desk.install()"],
+                code = f"import sys; sys.path.insert(0, {CHECKS!r}); import desk; desk.install()"
+                code += "; print(*desk.passed_over(), sep='\\n')"
+                subprocess.run(["/usr/bin/python3", "-c", code],
                                env=named, stdout=file, timeout=hands.PATIENCE, check=True)
             with open(said, encoding="utf-8") as file:
                 lines = file.read().splitlines()
@@ -212,7 +214,7 @@ def installs(_program: str) -> list[str]:
             head = "installing by apt-get, which NO_INSTALL=1 would forbid:" if installed else \
                 "not installed, and parts that want them pass over what they can't do:"
             found += wrong("what is missing", lines[:1], [f"desk: {head} {' '.join(wanted)}"])
-            over = [line.removeprefix("desk: passed over: ").split()[0] for line in lines[1:] if line.startswith("desk: passed over: ")]
+            over = [line.split()[0] for line in lines if "so no " in line or "aren't run" in line]
             found += wrong("what is passed over", over, ["tmux", "chromium", "poppler-utils", "no", *rich])
             found += wrong("what is called", calls(folder), ["update", *["install"] * len(wanted)] if installed else [])
         if os.geteuid() == 0:
