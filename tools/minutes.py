@@ -66,6 +66,14 @@ def step_of(process):
     return None
 
 
+def check_of(process):
+    """The name of the check that a process is, run by its own file or by a shell or an interpreter."""
+    for word in process.words[:3]:
+        if check := re.search(r"(?:^|/)checks/([\w.]+)$", word):
+            return check[1]
+    return None
+
+
 class Minutes:
     """What was seen so far: the seconds of each process by its number and begin, with its crate and step or its check."""
 
@@ -80,9 +88,11 @@ class Minutes:
         if self.top not in found:
             return False
         for number, process in found.items():
-            if process.parent == self.top and (check := re.search(r"checks/([\w.]+)", " ".join(process.words[:3]))):
-                self.checks[number, process.begun] = check[1], process.with_ended
-            elif self.is_below(number, found) and (step := step_of(process)):
+            if not self.is_below(number, found):
+                continue
+            if (check := check_of(process)) and not self.is_of_check(process.parent, found):
+                self.checks[number, process.begun] = check, process.with_ended
+            elif step := step_of(process):
                 self.steps[number, process.begun] = step, process.own
         return True
 
@@ -90,6 +100,14 @@ class Minutes:
         while number in found and number != self.top:
             number = found[number].parent
         return number == self.top
+
+    def is_of_check(self, number, found):
+        """Whether a process works for a check: what this starts in its turn, as the stand-ins of gate.sh, is no check of its own."""
+        while number in found and number != self.top:
+            if check_of(found[number]):
+                return True
+            number = found[number].parent
+        return False
 
     def table(self):
         """The lines of the table: crates by what they took, then the checks."""
