@@ -1,8 +1,9 @@
 #!/bin/sh
 # Installs what the checks behind the gate use and the machine lacks, where this runs as root and the system has packages: a C
 # compiler (memory.py), strace (faults.py), a SAT solver (models.py), mypy (python.sh, rooms.sh), jsonschema (schema.py), the
-# libraries of desk (rooms.sh, web.py) and clang's runtime (threads.sh). It says so before, and NO_INSTALL=1 forbids it. It never fails:
-# each check says by itself what it passes over.
+# libraries of desk (rooms.sh, web.py), clang's runtime (threads.sh), tmux and a reader of PDF (desk.py), a browser and its driver
+# (web.py). All of it comes here, since two checks side by side wouldn't get at the packages at once. It says so before, and
+# NO_INSTALL=1 forbids it. It never fails: each check says by itself what it passes over.
 #
 # usage: tools/needed.sh
 set -u
@@ -15,6 +16,11 @@ command -v cadical >/dev/null || command -v kissat >/dev/null || command -v mini
 command -v mypy >/dev/null || missing="$missing mypy"
 python3 -c 'import jsonschema' 2>/dev/null || missing="$missing python3-jsonschema"
 /usr/bin/python3 -c 'import flask, waitress, rich' 2>/dev/null || missing="$missing python3-flask python3-waitress python3-rich"
+command -v tmux >/dev/null || missing="$missing tmux"
+command -v pdfinfo >/dev/null || missing="$missing poppler-utils"
+command -v chromium >/dev/null || missing="$missing chromium"
+command -v chromedriver >/dev/null || missing="$missing chromium-driver"
+/usr/bin/python3 -c 'import selenium' 2>/dev/null || missing="$missing python3-selenium"
 find /usr/lib/llvm-* -name 'libclang_rt.tsan-*.a' 2>/dev/null | grep -q . || missing="$missing libclang-rt-14-dev"
 [ -n "$missing" ] || exit 0
 
