@@ -102,7 +102,7 @@ class Minutes:
         return number == self.top
 
     def is_of_check(self, number, found):
-        """Whether a process works for a check: what this starts in its turn, as the stand-ins of gate.sh, is no check of its own."""
+        """Whether a process works for a check. What this starts, as gate.sh its stand-ins, is none."""
         while number in found and number != self.top:
             if check_of(found[number]):
                 return True
