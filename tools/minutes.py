@@ -67,7 +67,7 @@ def step_of(process):
 
 
 def check_of(process):
-    """The name of the check that a process is, run by its own file or by a shell or an interpreter."""
+    """The name of the check that a process is, run by its own file or by an interpreter."""
     for word in process.words[:3]:
         if check := re.search(r"(?:^|/)checks/([\w.]+)$", word):
             return check[1]
@@ -102,7 +102,7 @@ class Minutes:
         return number == self.top
 
     def is_of_check(self, number, found):
-        """Whether a process works for a check. What this starts, as gate.sh its stand-ins, is none."""
+        """Whether a process works for a check. What this starts in its turn is none."""
         while number in found and number != self.top:
             if check_of(found[number]):
                 return True
