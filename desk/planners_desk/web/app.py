@@ -10,7 +10,7 @@ that word.
 
 from __future__ import annotations
 
-from flask import Flask, render_template
+from flask import Flask, render_template, request
 from markupsafe import Markup
 from werkzeug.exceptions import HTTPException, InternalServerError
 
@@ -20,7 +20,7 @@ from . import cases, pages
 from .entrance import Entrance
 from .folder import Folder
 from .refusing import refuse_larger
-from .security import Secrets, guard
+from .security import OUTSIDE, Secrets, guard
 from .sittings import Sittings
 
 WHAT_TO_DO = {
@@ -66,12 +66,11 @@ def wrong(error: HTTPException) -> tuple[str, int]:
         return "", status
     own = type(error).description != error.description and status != 405
     said = error.description if own and error.description else f"{error.name}."
-    return (
-        render_template(
-            "wrong.html", status=status, said=said, todo=WHAT_TO_DO.get(status, WHAT_TO_DO[400])
-        ),
-        status,
-    )
+    todo = WHAT_TO_DO.get(status, WHAT_TO_DO[400])
+    if status in (403, 421) or request.environ.get(OUTSIDE):
+        todo = WHAT_TO_DO[403] if status == 404 else todo
+        return render_template("outside.html", status=status, said=said, todo=todo), status
+    return render_template("wrong.html", status=status, said=said, todo=todo), status
 
 
 def faulty(fault: Fault) -> tuple[str, int]:

@@ -214,7 +214,8 @@ class Judging:
         session = self.session
         values = shown.meant(cells)
         if places := judging.behind(session, shown, values):
-            table = table_of(session.case, shown.values, {thing: CHOSEN for thing in cells})
+            marks = {thing: CHOSEN for thing in cells} or shown.marks
+            table = table_of(session.case, shown.values, marks)
             step = self.owner.put(
                 sheets.Behind(
                     "Which answer was a slip?",
