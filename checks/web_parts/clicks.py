@@ -387,6 +387,12 @@ def week(program: str) -> Faults:
                     cell.click()
                 browser.does("These are")
                 yield from looked_at(browser, "what no word says")
+                told = browser.driver.current_url
+                browser.leads(lambda: browser.clicks("main li a"))
+                if browser.all("input[name=ask]:checked")[-1].get_property("value") != "Mon early - Tue early" or "(1 ticked)" not in browser.text("#words"):
+                    yield f"what would explain a wrong plan isn't ticked: {browser.text('#ask')[-300:]!r}"
+                browser.go(told)
+                browser.settled()
             elif not browser.all(".clash"):
                 yield "where an answer behind a refused plan is looked for, no cell is marked"
             browser.does("Go on" if browser.button("Go on") is not None else "None of these")
@@ -411,8 +417,10 @@ def week(program: str) -> Faults:
 
 
 def on_a_phone(program: str) -> Faults:
-    """What is wrong stands on the first screen of a phone: a new name at its field, and that a form has something to mend at its top."""
-    listed = {f"c{k}.case": CASE for k in range(9)} | {"bad.case": "things: a\nhello\nplan: scope\n"}
+    """What is wrong stands on the first screen of a phone: a new name at its field, and that a form has something to mend at its top. No
+    word is broken in a tick of the case's own."""
+    bike = "thing frame: steel carbon\nthing motor: none hub\nwords: frame=carbon not with motor=hub\n"
+    listed = {f"c{k}.case": CASE for k in range(9)} | {"bad.case": "things: a\nhello\nplan: scope\n", "bike.case": bike}
     with Web(program, listed) as web, Browser(360, 700) as browser:
         browser.go(f"file://{web.file}")
         browser.types("#new-name", "a/b")
@@ -425,9 +433,19 @@ def on_a_phone(program: str) -> Faults:
         count = len(browser.all("ul.todo li"))
         if browser.text("#jump") != f"{count} things to mend before the questions can begin":
             yield f"on a phone the form of a wrong case begins with {browser.text('#jump')!r}"
+        browser.go(f"http://{web.host}{web.path}/case/c0.case")
+        browser.click("Work it out")
+        browser.wait(lambda: browser.all("table.ways"))
+        if wide := browser.driver.execute_script(SIDEWAYS):
+            yield f"on a phone what the questions come to is {wide} pixels wider than its place"
+        browser.go(f"http://{web.host}{web.path}/case/bad.case")
+        browser.settled()
         browser.sized(1000, 900)
         if browser.text("#jump"):
             yield "beside the form the same is said twice"
+        browser.go(f"http://{web.host}{web.path}/case/bike.case")
+        if (high := browser.at("input[name=words]:checked + span").size["height"]) > 60:
+            yield f"a tick of the case's own is {high} high"
 
 
 def too_large(program: str) -> Faults:
@@ -538,13 +556,16 @@ PLANTED = (
     ("static/style.css", ".report .side figcaption { width: 0; min-width: 100%; }", "", week),
     ("static/style.css", "@media (min-width: 46rem) {", "@media (min-width: 64rem) {", week),
     ("static/case.css", "#fields textarea { field-sizing: content;", "#fields textarea {", week),
+    ("static/case.css", "  table.ways { font-size: .8rem; }\n  table.ways td, table.ways th { padding: .2rem .3rem; }\n", "", on_a_phone),
     ("static/case.css", "  table.shape { font-size: .8rem; }\n  table.shape td, table.shape th { padding: .1rem .2rem; min-width: 1.4rem; }\n", "", week),
     ("templates/base.html", "{{ name.removesuffix('.case') }}", "{{ name }}", week),
     ("templates/unsayable.html", "{{ line|quoted }}", "{{ line }}", week),
     ("templates/done.html", "{% if sheet.judged %}.{% elif sheet.solver %}", "{% if sheet.solver %}", week),
+    ("judging.py", '" - ".join(self.session.case.things[thing].name for thing in search.things)', '""', week),
     ("judging.py", " or shown.marks\n", "\n", week),
     ("templates/cases.html", " autofocus{% endif %}", "{% endif %}", on_a_phone),
     ("templates/case.html", '<div id="jump" data-live>', '<div id="jump" data-live hidden>', on_a_phone),
+    ("templates/fields.html", "<h2>Also in this case</h2>\n<div class=\"ticks\">", "<h2>Also in this case</h2>\n<div class=\"ticks short\">", on_a_phone),
     ("static/case.css", "@media (min-width: 46rem) { #jump { display: none; } }", "", on_a_phone),
     ("server.py", "    server.channel_class = Channel\n", "", too_large),
 )

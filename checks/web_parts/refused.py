@@ -251,6 +251,8 @@ def by_form(program: str) -> Faults:
             reply = web.get(path)
             if reply.status != status or "To the first page" not in reply.text or "Traceback" in reply.text:
                 yield f"{path} has status {reply.status}"
+            if re.search("Not Found|Not Allowed", reply.text):
+                yield f"{path} says what only those understand who serve pages: {reply.text[-300:]!r}"
         if web.shows("x.case"):
             yield "a wrong form has answered"
         web.end()
@@ -335,6 +337,7 @@ PLANTED = (
     ("templates/question.html", '<h1 id="head">{{ sheet.head }}</h1>', '<h1 id="head">{{ sheet.head|safe }}</h1>', by_names),
     ("pages.py", "    if not (text.isascii() and text.isdecimal() and len(text) <= DIGITS + 1):\n", "    if False:\n", by_form),
     ("lines.py", "0 <= step.place < len(session.answers)\n", "True\n", by_form),
+    ("app.py", "else SAID.get(status, f\"{error.name}.\")", "else f\"{error.name}.\"", by_form),
     ("app.py", "    if status in (403, 421) or request.environ.get(OUTSIDE):\n", "    if False:\n", bare),
     ("templates/outside.html", "{{ todo|quoted }}", "{{ todo }}", bare),
     ("server.py", "            max_request_body_size=MOST_SENT + 1,  # from which on it is too large\n", "", by_size),

@@ -260,7 +260,10 @@ class Judging:
         search = missing.lacking(self.session, values, not shown.allowed)
         do = self.owner.put(
             sheets.Unsayable(
-                "Your words can't say this", (*self._lacking(search), judging.STAYS), search.words
+                "Your words can't say this",
+                (*self._lacking(search), judging.STAYS),
+                search.words,
+                " - ".join(self.session.case.things[thing].name for thing in search.things),
             )
         ).do
         if do != "b":
