@@ -346,7 +346,6 @@ SIDEWAYS = """return [...document.querySelectorAll('.wide, .report .side figure'
     .map(one => one.scrollWidth - one.clientWidth).filter(more => more > 0);"""
 NAV = "return document.querySelector('nav').getBoundingClientRect().height"
 GROUNDS = """return ['td.asked, td .asked', 'tbody th', 'td:empty'].map(one => getComputedStyle(document.querySelector(one)).backgroundColor)"""
-RIGHTS = "return [...document.querySelectorAll('ol.answers form')].map(one => Math.round(one.getBoundingClientRect().right))"
 # pictures of plans that what is said above them makes wider, and beside each other don't end on one line
 CAPTIONS = """return [...document.querySelectorAll('.report .side figure')].filter(one => one.offsetWidth > Math.max(
     one.querySelector('table').offsetWidth, 14 * parseFloat(getComputedStyle(document.documentElement).fontSize)) + 1).length;"""
@@ -371,10 +370,6 @@ def week(program: str) -> Faults:
         while "question" in browser.head():
             one, other = (part.split()[-1] for part in browser.text(".said").split(", "))
             browser.does("No" if one == other else "Yes")
-        browser.does("All answers")
-        if len(set(rights := browser.driver.execute_script(RIGHTS))) > 1:
-            yield f"the buttons behind answers end at {rights}"
-        browser.does("Back to where")
         browser.does("Look at plans")
         for what, begins in (("a plan", "Plan "), ("a refused plan", "The rules refuse")):
             while "Done" not in browser.head() and not browser.head().startswith(begins):
