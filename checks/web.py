@@ -33,6 +33,7 @@ MODULES = {"flask": "python3-flask", "waitress": "python3-waitress", "selenium":
 COMMANDS = {"chromium": "chromium", "chromedriver": "chromium-driver"}
 PATIENCE = 1800         # seconds for a test
 SIDE_BY_SIDE = 3
+NOT_BEGUN = "desk web doesn't begin"    # what a test says that has no server: it notices nothing then
 BROKE_OFF = 75          # status of a test in which the browser's driver broke off
 
 
@@ -100,6 +101,7 @@ def planted(program: str, parts: list[str]) -> tuple[int, list[str]]:
         with tempfile.TemporaryDirectory() as folder:
             copy = os.path.join(folder, "desk")
             shutil.copytree(DESK, copy, ignore=shutil.ignore_patterns("__pycache__", "tests"))
+            os.symlink(os.path.join(os.path.dirname(DESK), "python"), os.path.join(folder, "python"))   # the client, without which no desk begins
             path = os.path.join(copy, "planners_desk", "web", file)
             with open(path, encoding="utf-8") as source:
                 text = source.read()
@@ -108,6 +110,8 @@ def planted(program: str, parts: list[str]) -> tuple[int, list[str]]:
             with open(path, "w", encoding="utf-8") as source:
                 source.write(text.replace(old, new, 1))
             faults = tested(part, test, program, copy)
+        if any(NOT_BEGUN in fault for fault in faults):
+            return f"{part}.{test} is of no desk where in {file} `{old.strip()}` is `{new.strip()}`: {faults[-1][-200:]}"
         return None if faults else f"{part}.{test} doesn't notice that in {file} `{old.strip()}` is `{new.strip()}`"
     bugs = [(part, file, old, new, test.__name__) for part in parts for file, old, new, test in importlib.import_module(part).PLANTED]
     with ThreadPoolExecutor(SIDE_BY_SIDE) as pool:

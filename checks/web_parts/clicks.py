@@ -33,6 +33,13 @@ ask: all
 words: different, before
 plan: scopes
 """
+WEEK = """title: A week
+things: day Mon .. Sun x shift early late night
+values: Ann Ben Cas
+ask: Mon early - Mon late
+words: different
+plan: scopes
+"""
 QUARREL = """title: Seats
 things: Ada Bo Cy Eve
 values: table left right x seat 1 2
@@ -272,6 +279,7 @@ for(const e of document.querySelectorAll('[aria-labelledby]'))for(const id of e.
 if(document.documentElement.scrollWidth>innerWidth)out.push('it is '+document.documentElement.scrollWidth+' wide in '+innerWidth);
 for(const e of document.querySelectorAll('button,a.button,summary,nav a,table.cases a,select,textarea,input[type=text],label.tick,label.cell,.kinds label'))if(e.checkVisibility()){
  const r=e.getBoundingClientRect();if(r.height<24||r.width<24)out.push('"'+e.textContent.trim().slice(0,30)+'" is '+r.width+' by '+r.height);}
+if(document.querySelector('main').innerText.includes('`'))out.push('a backtick in '+document.querySelector('main').innerText.match(/.{0,20}`.{0,20}/)[0]);
 const rem=parseFloat(getComputedStyle(document.documentElement).fontSize);
 for(const e of document.querySelectorAll('main p:not(.buttons), main li'))if(e.checkVisibility()&&e.getBoundingClientRect().width>48*rem+1)out.push('a line of '+e.getBoundingClientRect().width+': '+e.textContent.trim().slice(0,30));
 return out;
@@ -331,6 +339,108 @@ def cases(program: str) -> Faults:
             yield from looked_at(browser, f"the form of {name}")
         if errors := [one for one in browser.errors() if " 422 " not in one]:
             yield f"the browser complains: {errors}"
+
+
+# what is wider than its place on the page, in pixels
+SIDEWAYS = """return [...document.querySelectorAll('.wide, .report .side figure')].filter(one => one.checkVisibility())
+    .map(one => one.scrollWidth - one.clientWidth).filter(more => more > 0);"""
+NAV = "return document.querySelector('nav').getBoundingClientRect().height"
+GROUNDS = """return ['td.asked, td .asked', 'tbody th', 'td:empty'].map(one => getComputedStyle(document.querySelector(one)).backgroundColor)"""
+# pictures of plans that what is said above them makes wider, and beside each other don't end on one line
+CAPTIONS = """return [...document.querySelectorAll('.report .side figure')].filter(one => one.offsetWidth > Math.max(
+    one.querySelector('table').offsetWidth, 14 * parseFloat(getComputedStyle(document.documentElement).fontSize)) + 1).length;"""
+
+
+def week(program: str) -> Faults:
+    """A plan of a week can be seen as a whole on a phone, wherever it is shown; and what is asked is told from heads and from empty places."""
+    with opened(program, {"ward.case": WEEK}, "ward.case") as (web, browser):
+        def fits(what: str) -> Faults:
+            browser.sized(360, 900)
+            if wide := browser.driver.execute_script(SIDEWAYS):
+                yield f"on a phone {what} is {wide} pixels wider than its place"
+            if (high := browser.driver.execute_script(NAV)) > 50:
+                yield f"on a phone the head of {what} is {high} high"
+            browser.sized(1000, 900)
+
+        for dark in (False, True):
+            browser.sized(1000, 900, dark)
+            if len(set(grounds := browser.driver.execute_script(GROUNDS))) < 3:
+                yield f"what is asked, heads and empty places have the grounds {grounds}"
+        yield from fits("a question")
+        while "question" in browser.head():
+            one, other = (part.split()[-1] for part in browser.text(".said").split(", "))
+            browser.does("No" if one == other else "Yes")
+        browser.does("Look at plans")
+        for what, begins in (("a plan", "Plan "), ("a refused plan", "The rules refuse")):
+            while "Done" not in browser.head() and not browser.head().startswith(begins):
+                browser.does("Yes")
+            yield from fits(what)
+            browser.does("No")
+            if "Which cells" in browser.head():
+                yield from fits("a plan with cells to choose")
+                for cell in browser.all("tbody tr:first-child label.cell")[:2]:
+                    cell.click()
+                browser.does("These are")
+                yield from looked_at(browser, "what no word says")
+                told = browser.driver.current_url
+                browser.leads(lambda: browser.clicks("main li a"))
+                if browser.all("input[name=ask]:checked")[-1].get_property("value") != "Mon early - Tue early" or "(1 ticked)" not in browser.text("#words"):
+                    yield f"what would explain a wrong plan isn't ticked: {browser.text('#ask')[-300:]!r}"
+                browser.go(told)
+                browser.settled()
+            elif not browser.all(".clash"):
+                yield "where an answer behind a refused plan is looked for, no cell is marked"
+            browser.does("Go on" if browser.button("Go on") is not None else "None of these")
+        while "Done" not in browser.head():
+            browser.does("Go on" if browser.button("Go on") is not None else "Enough")
+        if "look at some plans now" in browser.text():
+            yield "plans that were looked at are to be looked at now"
+        browser.does("Report")
+        yield from fits("the report")
+        if wide := browser.driver.execute_script(CAPTIONS):
+            yield f"in the report {wide} plans are made wider by what is said above them"
+        browser.sized(800, 900)
+        browser.go(f"http://{web.host}{web.path}/case/ward.case")
+        browser.settled()
+        if (top := browser.driver.execute_script("scrollTo(0, 1500); return document.querySelector('aside.right').getBoundingClientRect().top")) < 0:
+            yield f"at 800 what the case comes to is {-top} above the page, and nothing beside the form"
+        yield from fits("the form")
+        browser.types("#values-text", "\n".join(f"name{k}" for k in range(8)))
+        hidden = browser.driver.execute_script("const one = document.querySelector('#values-text'); return one.scrollHeight - one.clientHeight")
+        if hidden > 4:
+            yield f"of eight names {hidden} pixels are hidden"
+
+
+def on_a_phone(program: str) -> Faults:
+    """What is wrong stands on the first screen of a phone: a new name at its field, and that a form has something to mend at its top. No
+    word is broken in a tick of the case's own."""
+    bike = "thing frame: steel carbon\nthing motor: none hub\nwords: frame=carbon not with motor=hub\n"
+    listed = {f"c{k}.case": CASE for k in range(9)} | {"bad.case": "things: a\nhello\nplan: scope\n", "bike.case": bike}
+    with Web(program, listed) as web, Browser(360, 700) as browser:
+        browser.go(f"file://{web.file}")
+        browser.types("#new-name", "a/b")
+        browser.leads(lambda: browser.click("Make it"))
+        place = browser.driver.execute_script("const one = document.querySelector('#new-fault').getBoundingClientRect(); return [one.top, one.bottom, innerHeight]")
+        if not 0 <= place[0] < place[1] <= place[2]:
+            yield f"on a phone a fault of a new name stands at {place}"
+        browser.go(f"http://{web.host}{web.path}/case/bad.case")
+        browser.settled()
+        count = len(browser.all("ul.todo li"))
+        if browser.text("#jump") != f"{count} things to mend before the questions can begin":
+            yield f"on a phone the form of a wrong case begins with {browser.text('#jump')!r}"
+        browser.go(f"http://{web.host}{web.path}/case/c0.case")
+        browser.click("Work it out")
+        browser.wait(lambda: browser.all("table.ways"))
+        if wide := browser.driver.execute_script(SIDEWAYS):
+            yield f"on a phone what the questions come to is {wide} pixels wider than its place"
+        browser.go(f"http://{web.host}{web.path}/case/bad.case")
+        browser.settled()
+        browser.sized(1000, 900)
+        if browser.text("#jump"):
+            yield "beside the form the same is said twice"
+        browser.go(f"http://{web.host}{web.path}/case/bike.case")
+        if (high := browser.at("input[name=words]:checked + span").size["height"]) > 60:
+            yield f"a tick of the case's own is {high} high"
 
 
 def too_large(program: str) -> Faults:
@@ -418,7 +528,7 @@ def judged(browser: Browser) -> Faults:
     yield from looked_at(browser, "the report")
 
 
-TESTS = (presses, tabs, foreign, names, keyboard, read, cases, too_large, breaks_off)
+TESTS = (presses, tabs, foreign, names, keyboard, read, cases, week, on_a_phone, too_large, breaks_off)
 PLANTED = (
     ("static/page.js", "event.repeat || ", "", presses),
     ("sittings.py", "            if number != self._number or self._over:\n", "            if self._over:\n", tabs),
@@ -433,5 +543,22 @@ PLANTED = (
     ("static/style.css", "h1, p, li, summary, .fault, .note, .taught { max-width: 48rem; }", "", cases),
     ("static/style.css", "button.small { padding: .1rem .5rem; font-size: .85rem; min-height: 1.7rem; }", "button.small { padding: 0; font-size: .85rem; min-height: 0; }", read),
     ("static/case.css", "table.cases td { display: block;", "table.cases td {", cases),
+    ("static/style.css", ".plan .entry:only-child { margin: 0; padding: 0; }", "", week),
+    ("static/style.css", "  label.cell { flex-direction: column;", "  label.cell {", week),
+    ("static/style.css", "background: var(--asked-ground);", "background: var(--head);", week),
+    ("static/style.css", ".report .side figcaption { width: 0; min-width: 100%; }", "", week),
+    ("static/style.css", "@media (min-width: 46rem) {", "@media (min-width: 64rem) {", week),
+    ("static/case.css", "#fields textarea { field-sizing: content;", "#fields textarea {", week),
+    ("static/case.css", "  table.ways { font-size: .8rem; }\n  table.ways td, table.ways th { padding: .2rem .3rem; }\n", "", on_a_phone),
+    ("static/case.css", "  table.shape { font-size: .8rem; }\n  table.shape td, table.shape th { padding: .1rem .2rem; min-width: 1.4rem; }\n", "", week),
+    ("templates/base.html", "{{ name.removesuffix('.case') }}", "{{ name }}", week),
+    ("templates/unsayable.html", "{{ line|quoted }}", "{{ line }}", week),
+    ("templates/done.html", "{% if sheet.judged %}.{% elif sheet.solver %}", "{% if sheet.solver %}", week),
+    ("judging.py", '" - ".join(self.session.case.things[thing].name for thing in search.things)', '""', week),
+    ("judging.py", " or shown.marks\n", "\n", week),
+    ("templates/cases.html", " autofocus{% endif %}", "{% endif %}", on_a_phone),
+    ("templates/case.html", '<div id="jump" data-live>', '<div id="jump" data-live hidden>', on_a_phone),
+    ("templates/fields.html", "<h2>Also in this case</h2>\n<div class=\"ticks\">", "<h2>Also in this case</h2>\n<div class=\"ticks short\">", on_a_phone),
+    ("static/case.css", "@media (min-width: 46rem) { #jump { display: none; } }", "", on_a_phone),
     ("server.py", "    server.channel_class = Channel\n", "", too_large),
 )

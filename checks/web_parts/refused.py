@@ -251,6 +251,8 @@ def by_form(program: str) -> Faults:
             reply = web.get(path)
             if reply.status != status or "To the first page" not in reply.text or "Traceback" in reply.text:
                 yield f"{path} has status {reply.status}"
+            if re.search("Not Found|Not Allowed", reply.text):
+                yield f"{path} says what only those understand who serve pages: {reply.text[-300:]!r}"
         if web.shows("x.case"):
             yield "a wrong form has answered"
         web.end()
@@ -258,12 +260,23 @@ def by_form(program: str) -> Faults:
             yield f"the terminal has {web.errors[:500]!r} {web.said!r}"
 
 
+def bare(program: str) -> Faults:
+    """The page of whoever isn't let in names no style and no page that would be refused too, is dark on a dark screen, and says what to do."""
+    with Web(program, {"x.case": CASE}) as web:
+        strange = {"a stranger's": web.get("/"), "outside": web.ask("GET", "/"), "another name's": web.get("/", Host=f"localhost:{web.port}")}
+        for whose, reply in strange.items():
+            if found := re.findall(r"<(?:a|link|script|img|form)\b[^>]*>", reply.text):
+                yield f"{whose} page leads to {found}"
+            if 'name="color-scheme" content="light dark"' not in reply.text or "Open the file that \u201cdesk web\u201d named" not in reply.text:
+                yield f"{whose} page is {reply.text[-600:]!r}"
+
+
 def by_size(program: str) -> Faults:
     """What is too large is refused by a page that says what to do, before it has come; a stranger gets a stranger's page."""
     with Web(program, {"x.case": CASE}) as web:
         stranger = opened(web, f"POST {web.path}/case/x.case/text HTTP/1.1", "Content-Length: 900000000")
         outside = opened(web, "POST /x HTTP/1.1", "Content-Length: 900000000")
-        if " 403 " not in stranger or " 404 " not in outside or "To the first page" not in stranger + outside:
+        if " 403 " not in stranger or " 404 " not in outside or not all("Open the file that" in said for said in (stranger, outside)):
             yield f"900 million bytes of a stranger are answered by {stranger[:200]!r} and {outside[:200]!r}"
         web.enter()
         web.begin("x.case")
@@ -304,7 +317,7 @@ def opened(web: Web, line: str, *heads: str, body: bytes = b"") -> str:
     return said.decode(errors="replace")
 
 
-TESTS: tuple[Callable[[str], Faults], ...] = (by_token, by_file, by_name, by_page, by_headers, by_names, by_form, by_size)
+TESTS: tuple[Callable[[str], Faults], ...] = (by_token, by_file, by_name, by_page, by_headers, by_names, by_form, bare, by_size)
 
 # a measure that is left out: the file, what stands there, what stands there instead, and the test that has to notice
 PLANTED = (
@@ -324,6 +337,9 @@ PLANTED = (
     ("templates/question.html", '<h1 id="head">{{ sheet.head }}</h1>', '<h1 id="head">{{ sheet.head|safe }}</h1>', by_names),
     ("pages.py", "    if not (text.isascii() and text.isdecimal() and len(text) <= DIGITS + 1):\n", "    if False:\n", by_form),
     ("lines.py", "0 <= step.place < len(session.answers)\n", "True\n", by_form),
+    ("app.py", "else SAID.get(status, f\"{error.name}.\")", "else f\"{error.name}.\"", by_form),
+    ("app.py", "    if status in (403, 421) or request.environ.get(OUTSIDE):\n", "    if False:\n", bare),
+    ("templates/outside.html", "{{ todo|quoted }}", "{{ todo }}", bare),
     ("server.py", "            max_request_body_size=MOST_SENT + 1,  # from which on it is too large\n", "", by_size),
     ("server.py", "max_request_body_size=MOST_SENT + 1,", "max_request_body_size=MOST_SENT,", by_size),
     ("server.py", "    server.channel_class = Channel\n", "", by_size),

@@ -70,6 +70,21 @@ class Tables(unittest.TestCase):
         self.assertEqual(self.rows(BICYCLE, {0: alu}), [("frame", [[("alu", "asked")]])])
 
 
+class Offered(unittest.TestCase):
+    """What the form offers to be ticked."""
+
+    def test_days_in_a_row_are_several(self) -> None:
+        """A tick says `3 days in a row`, and writes what the case has."""
+        from planners_desk.web import choices
+
+        text = "things: day Mon .. Sun x shift early late\nvalues: Ann Ben\n"
+        case = casefile.parse(text + "ask: each\nwords: same\n", "x.case")
+        ticks = [tick for family in choices.ask_families(case) for tick in family.ticks]
+        self.assertIn(
+            ("3 day in a row", "3 days in a row"), [(tick.text, tick.label) for tick in ticks]
+        )
+
+
 class Owners(unittest.TestCase):
     """One thread that owns a sitting."""
 
@@ -110,6 +125,24 @@ class Owners(unittest.TestCase):
         last = owner.settled()
         self.assertEqual((taken, last.over, last.sheet.head), (["y", "n"], True, "last"))
         self.assertFalse(owner.take(last.number, Step("y")))
+
+    def test_the_page_alone_says_that_it_goes_on(self) -> None:
+        """What takes a while ends without dots, which the page puts behind it."""
+        from planners_desk.web.sheets import Busy, Stopped
+
+        seen = []
+
+        def work(owner):  # type: ignore[no-untyped-def]
+            for text in ("looking for plan 1 of 3, at most 10 s more ..", "reading the case"):
+                owner.busy(text)
+                seen.append(owner.state().sheet)
+            return Stopped("last")
+
+        self.owner(work).settled()
+        texts = [sheet.text for sheet in seen if isinstance(sheet, Busy)]
+        self.assertEqual(
+            texts, ["looking for plan 1 of 3, at most 10 s more", "reading the case"]
+        )
 
     def test_what_takes_long_can_be_done_without(self) -> None:
         """The step `end` breaks a search off, and none that comes later."""

@@ -5,12 +5,12 @@ browser in, `cases` shows the cases of the folder and each as a form, `pages` sh
 page is made of a template that extends `base.html`; it names its case as `name`, so that the head
 leads to its form at `cases.show` and its questions at `sitting.show`. `cases.index` is the first
 page. What a page says of a word that is missing leads to `cases.show` with `add=WORD`, which ticks
-that word.
+that word, and where nothing asks about its things with `together=THINGS`, which ticks them.
 """
 
 from __future__ import annotations
 
-from flask import Flask, render_template
+from flask import Flask, render_template, request
 from markupsafe import Markup
 from werkzeug.exceptions import HTTPException, InternalServerError
 
@@ -20,7 +20,7 @@ from . import cases, pages
 from .entrance import Entrance
 from .folder import Folder
 from .refusing import refuse_larger
-from .security import Secrets, guard
+from .security import OUTSIDE, Secrets, guard
 from .sittings import Sittings
 
 WHAT_TO_DO = {
@@ -33,6 +33,9 @@ WHAT_TO_DO = {
     421: "Open the file that `desk web` named when it began.",
     500: "All answers are kept. End desk with Ctrl-C where it was begun, and begin it again.",
 }
+
+# what is said of a request where nothing else is told, in place of the library's name for it
+SAID = {404: "There is no such page.", 405: "This address doesn't show a page by itself."}
 
 
 def application(known: Secrets, folder: Folder, sittings: Sittings, entrance: Entrance) -> Flask:
@@ -65,13 +68,12 @@ def wrong(error: HTTPException) -> tuple[str, int]:
     if error.response is not None:  # a redirect of the router's own
         return "", status
     own = type(error).description != error.description and status != 405
-    said = error.description if own and error.description else f"{error.name}."
-    return (
-        render_template(
-            "wrong.html", status=status, said=said, todo=WHAT_TO_DO.get(status, WHAT_TO_DO[400])
-        ),
-        status,
-    )
+    said = error.description if own and error.description else SAID.get(status, f"{error.name}.")
+    todo = WHAT_TO_DO.get(status, WHAT_TO_DO[400])
+    if status in (403, 421) or request.environ.get(OUTSIDE):
+        todo = WHAT_TO_DO[403] if status == 404 else todo
+        return render_template("outside.html", status=status, said=said, todo=todo), status
+    return render_template("wrong.html", status=status, said=said, todo=todo), status
 
 
 def faulty(fault: Fault) -> tuple[str, int]:

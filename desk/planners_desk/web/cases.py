@@ -172,15 +172,19 @@ class Page:
 
 @blueprint.get("/case/<name>")
 def show(name: str) -> str:
-    """A case as a form. With `add` a word is ticked that isn't written yet."""
+    """A case as a form. With `add` a word is ticked that isn't written yet, and with `together`
+    things that nothing asks about."""
     stored = store.load(path_of(name))
     judged = faults.judged(stored.text, name)
     form = judged.form
     add = tuple(
         word for word in map(forms.plain, request.args.getlist("add")) if word not in form.words
     )
-    shown = dataclasses.replace(form, words=(*form.words, *add))
-    if add:
+    group = tuple(
+        some for some in map(forms.plain, request.args.getlist("together")) if some not in form.ask
+    )
+    shown = dataclasses.replace(form, words=(*form.words, *add), ask=(*form.ask, *group))
+    if add or group:
         judged = dataclasses.replace(judged, form=shown)
     return rendered(
         Page(name, stored, judged, fields.sent_of(shown), saved="saved" in request.args)

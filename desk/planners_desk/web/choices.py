@@ -5,6 +5,7 @@ from __future__ import annotations
 
 import dataclasses
 import itertools
+import re
 from collections.abc import Iterable, Iterator, Sequence
 from dataclasses import dataclass, field
 
@@ -250,7 +251,8 @@ def _ticks(case: Case, some: Iterable[tuple[str, str]]) -> Iterator[Tick]:
             continue
         names = " with ".join(case.things[thing].name for thing in found[0])
         count = f"{len(found)} group{'s' if len(found) != 1 else ''}"
-        yield Tick(phrase, phrase, f"{says}: {count}, as {names}")
+        label = re.sub(r"(\S+?)s? in a row", r"\1s in a row", phrase)
+        yield Tick(phrase, label, f"{says}: {count}, as {names}")
 
 
 def _asked(case: Case, ask: Sequence[str]) -> Iterator[tuple[int, ...]]:

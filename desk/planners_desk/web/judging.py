@@ -214,7 +214,8 @@ class Judging:
         session = self.session
         values = shown.meant(cells)
         if places := judging.behind(session, shown, values):
-            table = table_of(session.case, shown.values, {thing: CHOSEN for thing in cells})
+            marks = {thing: CHOSEN for thing in cells} or shown.marks
+            table = table_of(session.case, shown.values, marks)
             step = self.owner.put(
                 sheets.Behind(
                     "Which answer was a slip?",
@@ -259,7 +260,10 @@ class Judging:
         search = missing.lacking(self.session, values, not shown.allowed)
         do = self.owner.put(
             sheets.Unsayable(
-                "Your words can't say this", (*self._lacking(search), judging.STAYS), search.words
+                "Your words can't say this",
+                (*self._lacking(search), judging.STAYS),
+                search.words,
+                " - ".join(self.session.case.things[thing].name for thing in search.things),
             )
         ).do
         if do != "b":

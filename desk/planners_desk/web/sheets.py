@@ -158,6 +158,7 @@ class Unsayable(Sheet):
 
     lines: tuple[str, ...]
     words: tuple[str, ...] = ()
+    together: str = ""  # what the words are about, where nothing asks about it yet
 
 
 @dataclass(frozen=True)

@@ -113,7 +113,9 @@ class Owner:
             return self._step
 
     def busy(self, text: str, share: float | None = None, may_end: bool = False) -> None:
-        """Says that something takes a while; `Ended` where the person does without it."""
+        """Says that something takes a while; `Ended` where the person does without it. The page
+        says by itself that it goes on, with two dots."""
+        text = text.rstrip(" .")
         with self._condition:
             if self._closing:
                 raise Closed
