@@ -1,5 +1,5 @@
 -- The first item of a row of numbers that is violated, where each that is stands in the row.
-use Rattle.cert_check.proofs.Prelude.{◌≡◌, ℕ, zero, suc, ◌+◌, ◌<◌, ◌≤◌, Bool, true, false, cond, List, [], ◌∷◌, ◌++◌, length, map, Option, Some, None, Vec, Global, refl, sym, ◌∙◌, ap, arith, inl, inr, ◌⊎◌, find, position, slice_get, slice_index_or, option_map_or, filter, range_with_len, both_ways, cases_eq, false_from_ne_true, get_or-take, length-take, map-append, get_or-map-range_with_len, length-map-range_with_len, map-range_with_len_more, slice_get-get_or, slice_get_within, get_or_from_slice_get, numbers, Assignment, Candidate, Language, variable_count, violates, AreOnLast, by_variable, has_variable, items_on, violates_item}
+use Rattle.cert_check.proofs.Prelude.{◌≡◌, ℕ, zero, suc, ◌+◌, ◌<◌, ◌≤◌, Bool, true, false, cond, List, [], ◌∷◌, ◌++◌, length, map, Option, Some, None, Vec, Global, refl, sym, ◌∙◌, ap, subst, arith, inl, inr, ◌⊎◌, find, position, slice_get, slice_index_or, option_map_or, filter, range_with_len, both_ways, cases_eq, false_from_ne_true, get_or-take, length-take, map-append, get_or-map-range_with_len, length-map-range_with_len, map-range_with_len_more, slice_get-get_or, slice_get_within, get_or_from_slice_get, All-filter, all_below, numbers, Assignment, Candidate, Language, variable_count, violates, AreOn, by_variable, has_variable, items_on, violates_item}
 use Rattle.cert_check.proofs.Finding.{found_read, none_found}
 
 -- what a test refuses may be left out, where nothing that is looked for is refused
@@ -97,11 +97,14 @@ row_of l network rows row v all low is = is ∙ ap (λ (rs : List (List ℕ)). s
 pub row_there : (l : Language) (network : List Candidate) (rows : List (List ℕ)) (v : ℕ) → rows ≡ by_variable l network → v < variable_count l → v < length rows
 row_there l network rows v all low = let long : length rows ≡ variable_count l = ap length all ∙ length-map-range_with_len (items_on l network) 0 (variable_count l) in omega (arith, low, long)
 
-pub first_in_row : (l : Language) (network : List Candidate) (e : Assignment) (v : ℕ) (row : List ℕ) → AreOnLast l network (Some v) e → row ≡ items_on l network v → find (violates_item l network e) row ≡ position (λ d. violates l d e) network
+pub first_in_row : (l : Language) (network : List Candidate) (e : Assignment) (v : ℕ) (row : List ℕ) → AreOn l network v e → row ≡ items_on l network v → find (violates_item l network e) row ≡ position (λ d. violates l d e) network
 first_in_row l network e v row on is =
     ap (find (violates_item l network e)) is
     ∙ find_kept (violates_item l network e) (has_variable l network v) (numbers (length network)) on
     ∙ position_is (λ d. violates l d e) network (find (violates_item l network e) (numbers (length network))) refl
 
-pub first_of_none : (l : Language) (network : List Candidate) (e : Assignment) → AreOnLast l network None e → None ≡ position (λ d. violates l d e) network
-first_of_none l network e on = sym (none_found (λ d. violates l d e) network (λ k d low. read_at (λ b. violates l b e) network k d low ∙ false_from_ne_true _ (λ bad. both_ways _ refl (on k bad))))
+-- a number of the row is an item's
+pub item_known : (l : Language) (network : List Candidate) (v : ℕ) (row : List ℕ) (k : ℕ) → row ≡ items_on l network v → k < length row → slice_index_or row k 0 < length network
+item_known l network v row k is low =
+    subst (λ (r : List ℕ). slice_index_or r k 0 < length network) (sym is)
+    (All-filter (has_variable l network v) (λ i. i < length network) (numbers (length network)) (all_below (λ i. i < length network) (length network) (λ i below. below)) k 0 (omega (arith, low, ap length is)))

@@ -12,9 +12,6 @@ pub record IsWritten (l : Language) (network : List Candidate) (c : Candidate) (
   pub added : AddsPiece old (flat_map token_text front) new
 
 module _ (l : Language) (network : List Candidate) (c : Candidate) where
-  pub node_is : (values : List ℕ) (e : Assignment) (token : Token) → IsPrefixAt l c values e → token ≡ node_of (position (λ d. violates l d e) network) (satisfies l c e) → token ≡ node_at l network c values
-  node_is values e token at is = is ∙ ap (λ (x : Assignment). node_of (position (λ d. violates l d x) network) (satisfies l c x)) at.is
-
   pub has_room : IsLanguage l → IsCandidate l c → IsImplied l network c → (values : List ℕ) (e : Assignment) (token : Token) → IsPrefixAt l c values e → token ≡ node_at l network c values → token ≡ Branch → length values < variable_count l
   has_room lawful is implied values e token at node branch = branch_has_room l network c lawful is implied values at.small at.ranged at.short (sym node ∙ branch)
 

@@ -8,8 +8,11 @@ pub mod Verdicts
 pub mod Sheets
 pub mod Trees
 pub mod Growing
-pub mod OnLast
+pub mod OnNext
 pub mod Firsts
+pub mod OnLine
+pub mod Values
+pub mod Levels
 pub mod Vocabularies
 pub mod Scopes
 pub mod Listing

@@ -50,7 +50,7 @@ pub use Rattle.voc_read.specs.Vocabulary.{IsVocabulary, MOST_VOCABULARY, Parts, 
 unfoldable pub use Rattle.voc_read.specs.Vocabulary.{vocabulary_parts}
 pub use Rattle.voc_read.specs.declared.fault.VocFault.{VocFault}
 pub use Rattle.voc_read.specs.declared.fault.VocFault.TheVariants.{NotJson}
-pub use Rattle.cert_check.specs.ByVariable.{AreOnLast, by_variable, has_last, has_variable, items_on, last_of}
+pub use Rattle.cert_check.specs.ByVariable.{AreOn, by_variable, has_variable, items_on}
 pub use Rattle.cert_check.specs.Certificate.{Certificate, Refutation}
 pub use Rattle.cert_check.specs.Checking.{first_flaw, flaw_before_list, has_other, has_own_no, is_no_on, is_other, is_rival, is_spared, is_uncovered, is_unearned, repeats_scope, verdict, verdict_of}
 pub use Rattle.cert_check.specs.Good.{IsGood, candidate_at, has_refutation, is_earned}
@@ -62,10 +62,11 @@ pub use Rattle.cert_check.specs.ReadingLaws.{EachCertificateIsReadOrRefused, NoT
 pub use Rattle.cert_check.specs.Refuting.{children, is_lawful_node, refutes, violates_item}
 unfoldable pub use Rattle.cert_check.specs.Refuting.{are_trees}
 pub use Rattle.cert_check.specs.Sheets.{AddsPiece, IsSheetOf, IsTextSoFar}
+pub use Rattle.cert_check.specs.Siblings.{AreLevels, AreSiblings, IsWithinTable, IsLine, IsRangedValue, first_item, item_below}
 pub use Rattle.cert_check.specs.Told.{AreSpared, AreUnstruck, HaveLost, IsSparedOn, IsToldBy, is_no_about}
 pub use Rattle.cert_check.specs.Trees.{branches, is_branch, node_at, node_of, tree_of}
 unfoldable pub use Rattle.cert_check.specs.Trees.{tree_from}
-pub use Rattle.cert_check.specs.Walking.{IsPrefixAt, ahead, last_behind, later}
+pub use Rattle.cert_check.specs.Walking.{HasFronts, IsPrefixAt, ahead, last_behind, later}
 unfoldable pub use Rattle.cert_check.specs.Walking.{later_from}
 pub use Rattle.cert_check.specs.WritingLaws.{HaveValues, IsNodeOver, MadeIsConfirmed, WrittenIsRead}
 pub use Rattle.cert_check.specs.Written.{answers_section, certificate_text, count_line, end_line, entry_line, implied_section, item_line, listed_line, network_section, numbered_value, reply_text, token_text, vocabulary_section}
@@ -74,6 +75,7 @@ pub use Rattle.cert_check.specs.declared.fault.CertFault.TheVariants.{BadLine, M
 pub use Rattle.cert_check.specs.declared.fault.MakeFault.{MakeFault}
 pub use Rattle.cert_check.specs.declared.fault.MakeFault.TheVariants.{Long, TooLarge}
 pub use Rattle.cert_check.specs.declared.sheet.Sheet.{Sheet}
+pub use Rattle.cert_check.specs.declared.siblings.Siblings.{Siblings}
 pub use Rattle.cert_check.specs.declared.token.Token.{Token}
 pub use Rattle.cert_check.specs.declared.token.Token.TheVariants.{Branch, Holds, Item}
 pub use Rattle.cert_check.specs.declared.verdict.Verdict.TheVariants.{No, Yes}

@@ -1,6 +1,7 @@
 -- How the prefixes at which nodes are still to stand go on.
-use Rattle.cert_check.proofs.Prelude.{◌≡◌, ℕ, suc, ◌+◌, ◌-◌, ◌<◌, ◌≤◌, Bool, true, false, not, ◌&&◌, List, [], ◌∷◌, ◌++◌, length, map, replicate, Some, None, refl, sym, ◌∙◌, ap, subst, arith, append_assoc, length-append, slice_index_or, slice_set, range_with_len, append-nil, All-push, Assignment, Candidate, Language, IsLanguage, IsCandidate, IsQuestion, variable_count, range_of, values_of, order_of, assignment_of, assigned_blank, assigned_push, assigned_pop, question_there, next_known, size_of, orders_are_known, Token, is_lawful_node, children, are_trees, refutes, last_behind, later_from, later, ahead, IsPrefixAt}
+use Rattle.cert_check.proofs.Prelude.{◌≡◌, ℕ, suc, ◌+◌, ◌-◌, ◌<◌, ◌≤◌, Bool, true, false, not, ◌&&◌, List, [], ◌∷◌, ◌++◌, length, map, take, replicate, Some, None, refl, sym, ◌∙◌, ap, subst, arith, append_assoc, length-append, slice_index_or, slice_set, range_with_len, append-nil, All-push, Assignment, Candidate, Language, IsLanguage, IsCandidate, IsQuestion, variable_count, range_of, values_of, order_of, assignment_of, assigned_blank, assigned_push, assigned_pop, question_there, next_known, size_of, orders_are_known, Token, is_lawful_node, children, are_trees, refutes, last_behind, later_from, later, ahead, HasFronts, IsPrefixAt}
 use Rattle.cert_check.proofs.Within.{IsNext, IsRanged, bounds, next_of, next_range, next_values, ranged_none, ranged_front, ranged_longer, ranged_last}
+use Rattle.std.proofs.lemmas.List.{take-append-le}
 use Rattle.shared_lemmas.proofs.Lists.{all_left}
 use Rattle.language.proofs.PairOrders.{within_range}
 
@@ -122,6 +123,33 @@ module _ (l : Language) (lawful : IsLanguage l) (c : Candidate) (is : IsCandidat
   pub at_blank : (values : List ℕ) (e : Assignment) (n : ℕ) → values ≡ [] → n ≡ variable_count l → e ≡ replicate n None → IsPrefixAt l c values e
   at_blank values e n none count blank = subst (λ (vs : List ℕ). IsPrefixAt l c vs e) (sym none)
       (at_begin e (blank ∙ ap (λ (k : ℕ). replicate k None) count ∙ assigned_blank (variable_count l) (order_of l c) (orders_are_known l c lawful is)))
+
+-- ---- the values before a place
+
+front_of : (j x : ℕ) (p : List ℕ) → j < length (p ++ x ∷ []) → take j (p ++ x ∷ []) ≡ take j p
+front_of j x p low = take-append-le j p (x ∷ []) (omega (arith, low, length-append p (x ∷ [])))
+
+pub fronts_same : (p : List ℕ) → HasFronts p (length p) p
+fronts_same p j low = (low, refl)
+
+pub fronts_pushed : (p q : List ℕ) (n x : ℕ) → n ≡ length p + 1 → q ≡ p ++ x ∷ [] → HasFronts p n q
+fronts_pushed p q n x count items = subst (HasFronts p n) (sym items) (λ j low. (omega (arith, low, count, length-append p (x ∷ [])), front_of j x p low))
+
+-- one value less, and another one in place of the last
+pub fronts_popped : (before q p : List ℕ) (n x : ℕ) → q ≡ p ++ x ∷ [] → HasFronts before n q → HasFronts before n p
+fronts_popped before q p n x items fronts j low =
+    let long : j < length (p ++ x ∷ []) = omega (arith, low, length-append p (x ∷ [])) in
+    let at = subst (HasFronts before n) items fronts j long in
+    (at.0, sym (front_of j x p long) ∙ at.1)
+
+pub fronts_other : (before q p r : List ℕ) (n x y : ℕ) → q ≡ p ++ x ∷ [] → r ≡ p ++ y ∷ [] → HasFronts before n q → HasFronts before n r
+fronts_other before q p r n x y items now fronts = subst (HasFronts before n) (sym now) (λ j low.
+    let long : j < length (p ++ x ∷ []) = omega (arith, low, length-append p (x ∷ []), length-append p (y ∷ [])) in
+    let at = subst (HasFronts before n) items fronts j long in
+    (at.0, front_of j y p low ∙ sym (front_of j x p long) ∙ at.1))
+
+pub fronts_none : (before q : List ℕ) (n : ℕ) → q ≡ [] → HasFronts before n q
+fronts_none before q n none j low = absurd (let size = ap length none in omega (arith, low, size))
 
 -- ---- the tokens that are left
 

@@ -1,6 +1,5 @@
 -- The items of a network by the variables of their scopes.
-use Rattle.std.specs.Prelude.{ℕ, zero, suc, Bool, false, IsTrue, List, length, map, Option, Some}
-use Rattle.std.specs.Prelude.{None, Vec, slice_get, slice_index_or}
+use Rattle.std.specs.Prelude.{ℕ, Bool, false, IsTrue, List, length, map, Vec, slice_get}
 use Rattle.std.specs.Option.{option_map_or}
 use Rattle.std.specs.List.{filter}
 use Rattle.std.specs.declared.alloc.Global.{Global}
@@ -27,17 +26,7 @@ by_variable l network = map (items_on l network) (numbers (variable_count l))
 abbrev pub rows_of_fields : Inside → List (List ℕ)
 rows_of_fields a = map (λ (row : Vec ℕ Global). row.items) a.rows.items
 
--- the variable that has its value last, where the first k of an order have one
-abbrev pub last_of : List ℕ → ℕ → Option ℕ
-last_of order zero = None
-last_of order (suc k) = Some (slice_index_or order k 0)
-
--- whether there is such a variable, and the item of this number has it in its scope
-abbrev pub has_last : Language → List Candidate → Option ℕ → ℕ → Bool
-has_last l network None i = false
-has_last l network (Some v) i = has_variable l network v i
-
--- each item that is violated has that variable in its scope
-abbrev pub AreOnLast : Language → List Candidate → Option ℕ → Assignment → Type 0
-AreOnLast l network last e = (i : ℕ) → IsTrue (violates_item l network e i) →
-    IsTrue (has_last l network last i)
+-- each item that is violated has the variable in its scope
+abbrev pub AreOn : Language → List Candidate → ℕ → Assignment → Type 0
+AreOn l network v e = (i : ℕ) → IsTrue (violates_item l network e i) →
+    IsTrue (has_variable l network v i)

@@ -10,6 +10,7 @@ pub mod Texts
 pub mod Written
 pub mod Reading
 pub mod Trees
+pub mod Siblings
 pub mod Making
 pub mod ByVariable
 pub mod Laws

@@ -1,6 +1,6 @@
 -- The prefixes at which nodes are still to stand, by the first of them.
 use Rattle.std.specs.Prelude.{ℕ, ◌+◌, ◌-◌, ◌<◌, ◌≤◌, ◌≡◌, Bool, true, false, IsTrue, List, [], ◌∷◌}
-use Rattle.std.specs.Prelude.{◌++◌, length, map, slice_index_or, All}
+use Rattle.std.specs.Prelude.{◌++◌, length, map, take, slice_index_or, All}
 use Rattle.std.specs.List.{range_with_len}
 use Rattle.assign.specs.Assignment.{Assignment}
 use Rattle.language.specs.declared.candidates.Candidate.{Candidate}
@@ -34,3 +34,7 @@ pub record IsPrefixAt (l : Language) (c : Candidate) (values : List ℕ) (e : As
   pub small : All (λ x. x < l.value_count) values
   pub ranged : IsTrue (are_ranged l (assignment_of l c values))
   pub is : e ≡ assignment_of l c values
+
+-- The list has n values at most, and before each of them the same ones stand as in an earlier list.
+abbrev pub HasFronts : List ℕ → ℕ → List ℕ → Type 0
+HasFronts before n now = (j : ℕ) → j < length now → (j < n) × (take j now ≡ take j before)

@@ -19,6 +19,7 @@ mod making;
 mod reading;
 mod sections;
 mod sheet;
+mod siblings;
 mod telling;
 mod text;
 mod token;

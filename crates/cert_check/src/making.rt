@@ -131,6 +131,7 @@ fn add_item(sheet: &mut Sheet, c: Candidate) -> Result<(), AllocError>
 /// Adds a candidate with its tree: `0 b b c c 0`. Says whether the tree has more branches than the
 /// budget; then the line isn't added whole.
 fn add_listed(
+    alloc: Global,
     sheet: &mut Sheet,
     lang: &Language,
     net: &[Candidate],
@@ -148,7 +149,7 @@ fn add_listed(
         AddsPiece sheet.old (listed_line (refutation_of lang.now net.now c)) sheet.new) }
 {
     sheet.add_number(u64::from(lang.number_of(c)))?;
-    if add_tree(sheet, lang, net, by, c, budget)? {
+    if add_tree(alloc, sheet, lang, net, by, c, budget)? {
         return Ok(true);
     }
     sheet.add("\n")?;
@@ -194,6 +195,7 @@ fn add_network(sheet: &mut Sheet, net: &[Candidate]) -> Result<(), AllocError>
 /// Adds the listed candidates. `Long` where the tree of one has more branches than the budget, with
 /// the first one's number.
 fn add_implied(
+    alloc: Global,
     sheet: &mut Sheet,
     lang: &Language,
     net: &[Candidate],
@@ -214,7 +216,7 @@ fn add_implied(
 {
     add_count(sheet, "implied", listed.len())?;
     for c in listed {
-        if add_listed(sheet, lang, net, by, *c, budget)? {
+        if add_listed(alloc, sheet, lang, net, by, *c, budget)? {
             return Err(MakeFault::Long(lang.number_of(*c)));
         }
     }
@@ -253,7 +255,7 @@ pub fn make_cert(
     add_answers(&mut sheet, answers)?;
     add_network(&mut sheet, net)?;
     let by = ByVariable::of(alloc, lang, net)?;
-    add_implied(&mut sheet, lang, net, &by, &listed, budget)?;
+    add_implied(alloc, &mut sheet, lang, net, &by, &listed, budget)?;
     sheet.add("end\n")?;
     sheet.finish()
 }

@@ -1,94 +1,76 @@
 //! Writing the tree by which the network implies a candidate.
 
-ghost use Rattle.std.specs.Prelude.{◌≡◌, ◌<◌, ◌≤◌, false, [], ◌∷◌, length, find, position, IfOk};
-ghost use Rattle.std.specs.Prelude.{IfSome, OnOk};
+ghost use Rattle.std.specs.Prelude.{◌≡◌, ◌<◌, ◌≤◌, ◌+◌, false, [], ◌∷◌, length, IfOk, OnOk};
 ghost use Rattle.std.specs.List.{flat_map};
-ghost use Rattle.language.specs.Language.{IsCandidate, IsImplied, IsQuestion, variable_count};
-ghost use Rattle.language.specs.Language.{violates};
+ghost use Rattle.language.specs.Language.{IsCandidate, IsImplied, IsLanguage, IsQuestion};
+ghost use Rattle.language.specs.Language.{variable_count};
 ghost use Rattle.language.specs.Answers.{IsNetwork};
-ghost use Rattle.language.specs.Search.{satisfies};
-ghost use Rattle.cert_check.specs.ByVariable.{AreOnLast, by_variable, last_of};
+ghost use Rattle.language.specs.Search.{order_of, satisfies};
+ghost use Rattle.cert_check.specs.declared.token.Token.TheVariants.{Branch};
+ghost use Rattle.cert_check.specs.ByVariable.{by_variable};
 ghost use Rattle.cert_check.specs.Making.{is_long};
-ghost use Rattle.cert_check.specs.Refuting.{violates_item};
 ghost use Rattle.cert_check.specs.Sheets.{AddsPiece};
-ghost use Rattle.cert_check.specs.Trees.{branches, node_of, tree_of};
+ghost use Rattle.cert_check.specs.Siblings.{AreLevels};
+ghost use Rattle.cert_check.specs.Trees.{branches, node_at, node_of, tree_of};
+ghost use Rattle.cert_check.specs.Walking.{IsPrefixAt};
 ghost use Rattle.cert_check.specs.Written.{token_text};
 
 use crate::by_variable::ByVariable;
 use crate::sheet::Sheet;
+use crate::siblings::{Siblings, first_violated};
 use crate::token::Token;
-use crate::walk::{Values, satisfies, step, violates_item};
+use crate::walk::{Values, satisfies, step};
 use assign::Partial;
 use language::{Candidate, Language};
-use std::alloc::AllocError;
+use std::alloc::{AllocError, Global};
 
-/// The variable that has its value last, where the first k of an order have one.
-fn last_variable(order: &[u8], k: usize) -> Option<u8>
-    requires { k ≤ length order.now }
-    ensures { result ≡ last_of order.now k }
+/// The node of the candidate's tree at a prefix that gives this assignment, where this is the first
+/// item that it violates.
+fn node(lang: &Language, c: Candidate, item: Option<u32>, e: &Partial) -> Token
+    requires candidate { IsCandidate lang.now c }
+    requires question { IsQuestion lang.now e.now }
+    ensures { result ≡ node_of item (satisfies lang.now c e.now) }
 {
-    match k {
-        0 => None,
-        _ => Some(order[k - 1]),
+    match item {
+        Some(i) => Token::Item(i),
+        None if satisfies(lang, c, e) => Token::Holds,
+        None => Token::Branch,
     }
 }
 
-/// The first of the items of these numbers that the assignment violates.
-fn first_of(lang: &Language, net: &[Candidate], numbers: &[u32], e: &Partial) -> Option<u32>
-    requires network { IsNetwork lang.now net.now }
-    requires question { IsQuestion lang.now e.now }
-    ensures { result ≡ find (violates_item lang.now net.now e.now) numbers.now }
-{
-    numbers
-        .iter()
-        .copied()
-        .find(|i| violates_item(lang, net, e, *i))
-}
-
-/// The first item that the assignment violates, where each that it violates has the last variable
-/// in its scope.
-fn first_violated(
-    lang: &Language,
-    net: &[Candidate],
-    by: &ByVariable,
-    last: Option<u8>,
-    e: &Partial,
-) -> Option<u32>
-    requires network { IsNetwork lang.now net.now }
-    requires by { by.now ≡ by_variable lang.now net.now }
-    requires known { IfSome last (λ v. v < variable_count lang.now) }
-    requires question { IsQuestion lang.now e.now }
-    requires last { AreOnLast lang.now net.now last e.now }
-    ensures { result ≡ position (λ d. violates lang.now d e.now) net.now }
-{
-    match last {
-        None => None,
-        Some(v) => first_of(lang, net, by.items(v), e),
-    }
-}
-
-/// The node of the candidate's tree at the prefix that gives this assignment.
-fn node(
+/// Where a branch stands at a prefix, adds to its levels what the network makes of each value of
+/// the next variable.
+fn add_level(
+    levels: &mut Vec<Siblings>,
     lang: &Language,
     net: &[Candidate],
     by: &ByVariable,
     c: Candidate,
-    last: Option<u8>,
+    order: &[u8],
+    values: &[u8],
     e: &Partial,
-) -> Token
+    token: Token,
+) -> Result<(), AllocError>
+    requires lawful { IsLanguage lang.now }
     requires candidate { IsCandidate lang.now c }
     requires network { IsNetwork lang.now net.now }
     requires by { by.now ≡ by_variable lang.now net.now }
-    requires known { IfSome last (λ v. v < variable_count lang.now) }
-    requires question { IsQuestion lang.now e.now }
-    requires last { AreOnLast lang.now net.now last e.now }
-    ensures { result ≡ node_of (position (λ d. violates lang.now d e.now) net.now)
-        (satisfies lang.now c e.now) }
+    requires order { order.now ≡ order_of lang.now c }
+    requires at { IsPrefixAt lang.now c values.now e.now }
+    requires node { token ≡ node_at lang.now net.now c values.now }
+    requires room { token ≡ Branch → length values.now < variable_count lang.now }
+    requires levels { AreLevels lang.now net.now c (length values.now) values.now levels.old.items }
+    ensures { OnOk result (AreLevels lang.now net.now c
+        (length values.now + branches (token ∷ [])) values.now levels.new.items) }
 {
-    match first_violated(lang, net, by, last, e) {
-        Some(i) => Token::Item(i),
-        None if satisfies(lang, c, e) => Token::Holds,
-        None => Token::Branch,
+    match token {
+        Token::Branch => {
+            let siblings = Siblings::of(lang, net, by, order[values.len()], e);
+            levels.truncate(values.len());
+            levels.push(siblings)?;
+            Ok(())
+        }
+        Token::Holds | Token::Item(_) => Ok(()),
     }
 }
 
@@ -120,6 +102,7 @@ fn branches_of(token: Token) -> u32
 /// Adds the tokens of the candidate's tree. Says whether the tree has more branches than the
 /// budget; then it isn't added whole.
 pub(crate) fn add_tree(
+    alloc: Global,
     sheet: &mut Sheet,
     lang: &Language,
     net: &[Candidate],
@@ -137,18 +120,20 @@ pub(crate) fn add_tree(
         AddsPiece sheet.old (flat_map token_text (tree_of lang.now net.now c)) sheet.new) }
 {
     let order = lang.order_of(c);
+    let mut levels = Vec::new(alloc);
     let mut values = Values::new();
     let mut e = Partial::blank(lang.n());
     let mut count = 0;
     let mut is_open = true;
     while is_open {
-        let last = last_variable(&order, values.len());
-        let token = node(lang, net, by, c, last, &e);
+        let item = first_violated(&levels, &values);
+        let token = node(lang, c, item, &e);
         count += branches_of(token);
         if count > budget {
             return Ok(true);
         }
         add_token(sheet, token)?;
+        add_level(&mut levels, lang, net, by, c, &order, &values, &e, token)?;
         is_open = step(lang, c, &order, &mut values, &mut e, token);
     }
     Ok(false)

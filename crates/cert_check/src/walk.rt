@@ -1,13 +1,14 @@
 //! Going through the tokens of a tree. Only the first prefix at which a node is still to stand is
 //! kept: the others follow from it.
 
-ghost use Rattle.std.specs.Prelude.{◌≡◌, ◌<◌, ◌++◌, length};
+ghost use Rattle.std.specs.Prelude.{◌≡◌, ◌<◌, ◌+◌, ◌++◌, [], ◌∷◌, length};
 ghost use Rattle.language.specs.Language.{IsCandidate, IsLanguage, IsQuestion, variable_count};
 ghost use Rattle.language.specs.Answers.{IsNetwork};
 ghost use Rattle.language.specs.Search.{order_of, satisfies};
 ghost use Rattle.cert_check.specs.declared.token.Token.TheVariants.{Branch};
 ghost use Rattle.cert_check.specs.Refuting.{children, is_lawful_node, refutes, violates_item};
-ghost use Rattle.cert_check.specs.Walking.{IsPrefixAt, ahead, later};
+ghost use Rattle.cert_check.specs.Trees.{branches};
+ghost use Rattle.cert_check.specs.Walking.{HasFronts, IsPrefixAt, ahead, later};
 
 use crate::token::Token;
 use arrayvec::ArrayVec;
@@ -72,6 +73,7 @@ fn go_on(lang: &Language, c: Candidate, order: &[u8], values: &mut Values, e: &m
     requires at { IsPrefixAt lang.now c values.old.items e.old }
     ensures at { IsPrefixAt lang.now c values.new.items e.new }
     ensures next { later lang.now c values.old.items ≡ ahead result lang.now c values.new.items }
+    ensures fronts { HasFronts values.old.items (length values.old.items) values.new.items }
 {
     while let Some(x) = values.pop() {
         let v = order[values.len()];
@@ -104,6 +106,8 @@ pub(crate) fn step(
     ensures at { IsPrefixAt lang.now c values.new.items e.new }
     ensures next { children lang.now c values.old.items token
         ++ later lang.now c values.old.items ≡ ahead result lang.now c values.new.items }
+    ensures fronts { HasFronts values.old.items
+        (length values.old.items + branches (token ∷ [])) values.new.items }
 {
     match token {
         Token::Branch => {

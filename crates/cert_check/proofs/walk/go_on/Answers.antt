@@ -1,6 +1,6 @@
-use Rattle.cert_check.proofs.Prelude.{rules, ◌≡◌, ◌<◌, ◌+◌, ℕ, List, length, true, lit<, sym, ◌∙◌, ap, subst, arith, append-nil, variable_count, range_of, ahead, later, last_behind, IsPrefixAt}
+use Rattle.cert_check.proofs.Prelude.{rules, ◌≡◌, ◌<◌, ◌+◌, ℕ, List, length, true, lit<, refl, sym, ◌∙◌, ap, subst, arith, append-nil, variable_count, range_of, ahead, later, last_behind, HasFronts, IsPrefixAt}
 use Rattle.cert_check.proofs.Within.{next_known_at}
-use Rattle.cert_check.proofs.Walking.{place_in, next_in, pushed, popped, last_fits, last_from, may_follow, at_next, later_next, later_last, later_none}
+use Rattle.cert_check.proofs.Walking.{place_in, next_in, pushed, popped, last_fits, last_from, may_follow, at_next, later_next, later_last, later_none, fronts_same, fronts_popped, fronts_other}
 use Rattle.cert_check.proofs.walk.go_on.Goals as goal
 use Rattle.cert_check.proofs.walk.go_on.Goals.{After-clear, After-range-last}
 use Rattle.shared_lemmas.proofs.Lists.{empty_list}
@@ -76,7 +76,12 @@ loop-x-preserved c =
       same =
           c.loop-x.invariant.same ∙ ap (later c.args.lang.now c.args.c) c.in-Some.ensures.items
           ∙ later_last c.args.lang.now c.args.c c.pop.new.self.items c.in-Some.x (omega (arith, last, above));
+      fronts = fronts_popped c.args.values.now.items c.loop-x.values.items c.pop.new.self.items (length c.args.values.now.items) c.in-Some.x c.in-Some.ensures.items c.loop-x.invariant.fronts;
     }
+
+pub returns-then-x-last-clause-fronts : goal.returns-then-x-last-clause-fronts
+returns-then-x-last-clause-fronts c =
+    fronts_other c.args.values.now.items c.loop-x.values.items c.pop.new.self.items c.push.new.self.items (length c.args.values.now.items) c.in-Some.x (c.in-Some.x + 1) c.in-Some.ensures.items c.push.ensures.items c.loop-x.invariant.fronts
 
 pub returns-clause-at : goal.returns-clause-at
 returns-clause-at c = subst (λ (vs : List ℕ). IsPrefixAt c.args.lang.now c.args.c vs c.loop-x.e) (c.in_default.ensures.items ∙ append-nil c.pop.new.self.items) c.loop-x.invariant.at
@@ -85,3 +90,9 @@ pub returns-clause-next : goal.returns-clause-next
 returns-clause-next c =
     let none : length c.loop-x.values.items ≡ 0 = search rules in
     c.loop-x.invariant.same ∙ ap (later c.args.lang.now c.args.c) (empty_list c.loop-x.values.items none) ∙ later_none c.args.lang.now c.args.c
+
+pub returns-clause-fronts : goal.returns-clause-fronts
+returns-clause-fronts c = subst (λ (vs : List ℕ). HasFronts c.args.values.now.items (length c.args.values.now.items) vs) (c.in_default.ensures.items ∙ append-nil c.pop.new.self.items) c.loop-x.invariant.fronts
+
+pub loop-x-init : goal.loop-x-init
+loop-x-init c = record { at = c.requires.at; same = refl; fronts = fronts_same c.args.values.now.items }

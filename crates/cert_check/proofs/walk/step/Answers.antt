@@ -1,6 +1,6 @@
-use Rattle.cert_check.proofs.Prelude.{◌≡◌, ◌<◌, length, true, ◌++◌, lit<, sym, ◌∙◌, ap, arith, ◌∷◌, [], ℕ, range_of, ahead, later, children}
+use Rattle.cert_check.proofs.Prelude.{◌≡◌, ◌<◌, length, true, ◌++◌, lit<, sym, ◌∙◌, ap, arith, ◌∷◌, [], ℕ, range_of, ahead, later, children, branches, ◌+◌}
 use Rattle.cert_check.proofs.Within.{next_of, next_known_at, next_range}
-use Rattle.cert_check.proofs.Walking.{next_in, pushed, may_follow, at_next, branch_next}
+use Rattle.cert_check.proofs.Walking.{next_in, pushed, may_follow, at_next, branch_next, fronts_pushed}
 use Rattle.cert_check.proofs.walk.step.Goals as goal
 use Rattle.cert_check.proofs.walk.step.Goals.{After-range-first}
 
@@ -44,3 +44,11 @@ returns-in-Branch-clause-next c =
     ∙ branch_next c.args.lang.now c.args.c c.requires.lawful c.requires.candidate c.args.values.now.items (c.requires.branch c.in-Branch.is)
     ∙ ap (λ (x : ℕ). ahead true c.args.lang.now c.args.c (c.args.values.now.items ++ x ∷ [])) (sym first)
     ∙ ap (ahead true c.args.lang.now c.args.c) (sym c.push.ensures.items)
+
+pub returns-in-Branch-clause-fronts : goal.returns-in-Branch-clause-fronts
+returns-in-Branch-clause-fronts c =
+    fronts_pushed c.args.values.now.items c.push.new.self.items (length c.args.values.now.items + branches (c.args.token ∷ [])) c.range-first.result.0
+    (ap (λ t. length c.args.values.now.items + branches (t ∷ [])) c.in-Branch.is) c.push.ensures.items
+
+pub returns-in-Holds-clause-fronts : goal.returns-in-Holds-clause-fronts
+returns-in-Holds-clause-fronts c = λ j low. (let front = c.go_on.ensures.fronts j low in let below = front.0 in (omega (arith, below), front.1))
