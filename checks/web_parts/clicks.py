@@ -144,7 +144,9 @@ def tabs(program: str) -> Faults:
         if browser.number() != old:
             yield "the tab doesn't stand still"
         browser.click("No")
-        browser.wait(lambda: "too late" in browser.text())
+        browser.next_sheet(old)
+        if "too late" not in browser.text():
+            yield f"a form that came too late leads to {browser.text()[:200]!r}"
         if web.shows("x.case") != stand or browser.number() != now:
             yield "a form that came too late has changed something"
         browser.go(f"http://{web.host}{web.path}/ask/x.case")

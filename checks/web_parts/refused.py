@@ -312,8 +312,11 @@ def opened(web: Web, line: str, *heads: str, body: bytes = b"") -> str:
         except OSError:
             return "no more is taken, and nothing is answered"
         said = b""
-        while part := connection.recv(1 << 16):
-            said += part
+        try:
+            while part := connection.recv(1 << 16):
+                said += part
+        except OSError as error:        # none of an answer is left to come then, or the connection stays open
+            return f"after {said.decode(errors='replace')[:200]!r} it doesn't end: {error}"
     return said.decode(errors="replace")
 
 
