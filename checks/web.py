@@ -35,6 +35,7 @@ PATIENCE = 1800         # seconds for a test
 SIDE_BY_SIDE = 3
 NOT_BEGUN = "desk web doesn't begin"    # what a test says that has no server: it notices nothing then
 BROKE_OFF = 75          # status of a test in which the browser's driver broke off
+TWICE = "the browser's driver broke off twice"      # what is said of one that so has seen nothing
 
 
 def missing() -> list[str]:
@@ -63,7 +64,9 @@ def tested(part: str, test: str, program: str, folder: str = DESK) -> list[str]:
     status, faults = ran(part, test, program, folder)
     if status == BROKE_OFF:
         print(f"web: the browser's driver broke off, so the test is run once more: {faults[-1]}", flush=True)
-        _, faults = ran(part, test, program, folder)
+        status, faults = ran(part, test, program, folder)
+        if status == BROKE_OFF:
+            faults = [f"{TWICE}: {fault}" for fault in faults]
     return faults
 
 
@@ -109,8 +112,8 @@ def planted(program: str, parts: list[str]) -> tuple[int, list[str]]:
             with open(path, "w", encoding="utf-8") as source:
                 source.write(text.replace(old, new, 1))
             faults = tested(part, test, program, copy)
-        if any(NOT_BEGUN in fault for fault in faults):
-            return f"{part}.{test} is of no desk where in {file} `{old.strip()}` is `{new.strip()}`: {faults[-1][-200:]}"
+        if any(NOT_BEGUN in fault or TWICE in fault for fault in faults):
+            return f"{part}.{test} has seen no page where in {file} `{old.strip()}` is `{new.strip()}`: {faults[-1][-200:]}"
         return None if faults else f"{part}.{test} doesn't notice that in {file} `{old.strip()}` is `{new.strip()}`"
     bugs = [(part, file, old, new, test.__name__) for part in parts for file, old, new, test in importlib.import_module(part).PLANTED]
     with ThreadPoolExecutor(SIDE_BY_SIDE) as pool:

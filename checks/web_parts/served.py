@@ -21,6 +21,9 @@ DESK = os.environ.get("DESK_FOLDER", os.path.join(os.path.dirname(os.path.dirnam
 PATIENCE = 60.0         # seconds that the server may take to begin on a machine that has much to do
 TICK = 0.02
 
+# what a shell runs in the background ignores this, and so would the server, which has to be ended by it
+signal.signal(signal.SIGINT, signal.default_int_handler)
+
 
 @dataclass(frozen=True)
 class Reply:
