@@ -161,12 +161,13 @@ def by_ticks(program: str) -> Faults:
                 gone = [pair for pair in fields(web.get("/case/x.case").text) if pair[0] != name and not pair[0].startswith(name[:-4] + "tick")]
                 web.post("/case/x.case", [*gone, (name, "")])
                 row = f"{'only' if name.startswith('only') else 'thing'} {one}:"
-                if text_of(web, "x.case").splitlines() != [line for line in before if not line.startswith(row)]:
-                    yield f"without the row `{row}`, whose name and ticks were taken out, {before} is {text_of(web, 'x.case').splitlines()}"
+                now = text_of(web, "x.case").splitlines()
+                if now != [line for line in before if not line.startswith(row)]:
+                    yield f"after the name and ticks of `{row}` were taken out, {before} is {now}"
 
 
 def _ticked(web: Web, field: str, more: list[str], draw: random.Random) -> Faults:
-    """Changes the ticks of a row, and adds values of its own: the page and the file have what is ticked then."""
+    """Changes the ticks of a row, and adds values of its own: the page and the file have them then."""
     page = web.get("/case/x.case").text
     sent = fields(page)
     place = draw.randrange(sum(re.fullmatch(f"{field}-[0-9]+-name", name) is not None and text != "" for name, text in sent))
@@ -452,31 +453,40 @@ PLANTED = (
     ("templates/fields.html", '<label for="{{ field }}">', "<label>", labels),
     # a word that is ticked isn't written
     ("forms.py", "new = [piece for piece in new if piece not in left]", "new = []", ticked),
-    # what is ticked of some things isn't written, nor what is added; what nobody ticked is written anew, and a row that is taken out stays
+    # what is ticked of some things isn't written, nor what is added; what nobody ticked is written
+    # anew, and a row that is taken out stays
     ("fields.py", "            if now != list(had):\n", "            if False:\n", by_ticks),
-    ("fields.py", "now = list(dict.fromkeys([*kept, *ticks, *more]))", "now = list(dict.fromkeys([*kept, *ticks]))", by_ticks),
+    ("fields.py", "now = list(dict.fromkeys([*kept, *ticks, *more]))",
+     "now = list(dict.fromkeys([*kept, *ticks]))", by_ticks),
     ("fields.py", "            if now != list(had):\n", "            if True:\n", by_ticks),
     ("fields.py", "        if row.name or row.text:\n", "        if True:\n", by_ticks),
     # a fault is shown at another field
     ("faults.py", "yield At(line.field or WHOLE, _place(", "yield At(WHOLE, _place(", at_fields),
     ("faults.py", "return sum(one.field == field for one in lines[:at])", "return 1", at_fields),
-    ("templates/fields.html", "{%- for one in found.at(field, place) %}", "{%- for one in found.every %}", at_fields),
+    ("templates/fields.html", "{%- for one in found.at(field, place) %}",
+     "{%- for one in found.every %}", at_fields),
     # the newer file of the disk is overwritten
     ("store.py", "if now.mark != mark:", "if False:", meanwhile),
     # names that lead out of the folder, and names that are there
     ("store.py", 'if name.startswith(".") or any(sign in name', "if any(sign in name", names),
-    ("store.py", "any(sign in name for sign in '/\\\\:", "any(sign in name for sign in '\\\\:", names),
-    ("store.py", "return os.path.dirname(os.path.realpath(path)) == os.path.realpath(folder)", "return True", names),
+    ("store.py", "any(sign in name for sign in '/\\\\:", "any(sign in name for sign in '\\\\:",
+     names),
+    ("store.py", "return os.path.dirname(os.path.realpath(path)) == os.path.realpath(folder)",
+     "return True", names),
     ("store.py", "os.link(new, path)", "os.replace(new, path)", names),
     # comments are lost, lines that nobody understands are lost
-    ("forms.py", "if form == old:\n        return before", "if form == old:\n        before = ''", unchanged),
+    ("forms.py", "if form == old:\n        return before", "if form == old:\n        before = ''",
+     unchanged),
     ("forms.py", "return Line(raw, OTHER, text=raw.strip())", "return Line(raw)", as_text),
     # a half chosen rule is passed over, a text that can't be written is written
     ("cases.py", "wrong = [*halves, *faults.unwritable(form)]", "wrong = [*halves]", at_fields),
-    ("cases.py", "wrong = [*halves, *faults.unwritable(form)]", "wrong = faults.unwritable(form)", at_fields),
+    ("cases.py", "wrong = [*halves, *faults.unwritable(form)]", "wrong = faults.unwritable(form)",
+     at_fields),
     # a changed case goes on as if it were the old one
-    ("standing.py", "change = changed(case_in(journal, kept), case) if kept is not None else None", "return ''", taken_over),
-    ("cases.py", 'if store.load(path).mark != request.form.get("mark", ""):', "if False:", taken_over),
+    ("standing.py", "change = changed(case_in(journal, kept), case) if kept is not None else None",
+     "return ''", taken_over),
+    ("cases.py", 'if store.load(path).mark != request.form.get("mark", ""):', "if False:",
+     taken_over),
     # what another text came to is shown
     ("forecast.py", "if found is None or found[0] != mark:", "if found is None:", reckoned),
 )

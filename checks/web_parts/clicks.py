@@ -296,7 +296,8 @@ return out;
 
 
 def looked_at(browser: Browser, what: str) -> Faults:
-    """A page at each width, light and dark. A phone makes a page that is wider than it smaller, and `innerWidth` with it."""
+    """A page at each width, light and dark. `innerWidth` says nothing on a phone, where it grows with
+    a page that is wider."""
     for width in WIDTHS:
         for dark in (False, True):
             browser.sized(width, 900, dark)
@@ -421,16 +422,18 @@ def week(program: str) -> Faults:
 
 
 def month(program: str) -> Faults:
-    """A plan of a month, which is wider than each page, moves in its own place: the page stands still, and its last day is reached."""
+    """A plan of a month, which is wider than each page, moves in its own place: the page stands
+    still, and its last day is reached."""
     with opened(program, {"x.case": MONTH}, "x.case") as (_, browser):
         for width in WIDTHS:
             browser.sized(width, 900)
-            wide, hidden, reached = browser.driver.execute_script("""
-                const place = document.querySelector('main .wide'), hidden = place.scrollWidth - place.clientWidth;
-                place.scrollLeft = hidden;
-                return [document.documentElement.scrollWidth, hidden, place.querySelector('thead th:last-child').getBoundingClientRect().right <= arguments[0]];""", width)
-            if wide > width or hidden <= 0 or not reached:
-                yield f"at {width} a month is {wide} wide, {hidden} of it are hidden, and its last day is {'' if reached else 'not '}reached"
+            wide, hidden, last = browser.driver.execute_script("""
+                const place = document.querySelector('main .wide');
+                const hidden = place.scrollLeft = place.scrollWidth - place.clientWidth;
+                const last = place.querySelector('thead th:last-child').getBoundingClientRect().right;
+                return [document.documentElement.scrollWidth, hidden, last];""")
+            if wide > width or hidden <= 0 or last > width:
+                yield f"at {width} a month is {wide} wide, {hidden} of it hidden, and ends at {last}"
 
 
 def on_a_phone(program: str) -> Faults:
@@ -553,17 +556,24 @@ def judged(browser: Browser) -> Faults:
 TESTS = (presses, tabs, foreign, names, keyboard, read, cases, week, month, on_a_phone, too_large, breaks_off)
 PLANTED = (
     ("static/page.js", "event.repeat || ", "", presses),
-    ("sittings.py", "            if number != self._number or self._over:\n", "            if self._over:\n", tabs),
+    ("sittings.py", "            if number != self._number or self._over:\n",
+     "            if self._over:\n", tabs),
     ("static/page.js", "location.replace(body.dataset.page);", "", tabs),
-    ("security.py", 'if request.headers.get("Origin") != known.origin or site != "same-origin":', "if False:", foreign),
+    ("security.py", 'if request.headers.get("Origin") != known.origin or site != "same-origin":',
+     "if False:", foreign),
     ("entrance.py", "path=self._known.path, ", "", foreign),
-    ("templates/question.html", '<h1 id="head">{{ sheet.head }}</h1>', '<h1 id="head">{{ sheet.head|safe }}</h1>', names),
-    ("static/style.css", ":focus-visible { outline: 3px solid var(--link); outline-offset: 2px; }", ":focus-visible { outline: none; }", keyboard),
+    ("templates/question.html", '<h1 id="head">{{ sheet.head }}</h1>',
+     '<h1 id="head">{{ sheet.head|safe }}</h1>', names),
+    ("static/style.css", ":focus-visible { outline: 3px solid var(--link); outline-offset: 2px; }",
+     ":focus-visible { outline: none; }", keyboard),
     ("static/style.css", "--dim: #566072", "--dim: #9aa3b0", read),
     ("templates/question.html", "<label for=\"bar\">", "<label>", read),
     ("static/style.css", ".wide { overflow-x: auto; max-width: 100%;", ".wide {", month),
-    ("static/style.css", "h1, p, li, summary, .fault, .note, .taught { max-width: 48rem; }", "", cases),
-    ("static/style.css", "button.small { padding: .1rem .5rem; font-size: .85rem; min-height: 1.7rem; }", "button.small { padding: 0; font-size: .85rem; min-height: 0; }", read),
+    ("static/style.css", "h1, p, li, summary, .fault, .note, .taught { max-width: 48rem; }", "",
+     cases),
+    ("static/style.css",
+     "button.small { padding: .1rem .5rem; font-size: .85rem; min-height: 1.7rem; }",
+     "button.small { padding: 0; font-size: .85rem; min-height: 0; }", read),
     ("static/case.css", "table.cases td { display: block;", "table.cases td {", cases),
     ("static/style.css", ".plan .entry:only-child { margin: 0; padding: 0; }", "", week),
     ("static/style.css", "  label.cell { flex-direction: column;", "  label.cell {", week),
@@ -571,16 +581,24 @@ PLANTED = (
     ("static/style.css", ".report .side figcaption { width: 0; min-width: 100%; }", "", week),
     ("static/style.css", "@media (min-width: 46rem) {", "@media (min-width: 64rem) {", week),
     ("static/case.css", "#fields textarea { field-sizing: content;", "#fields textarea {", week),
-    ("static/case.css", "  table.ways { font-size: .8rem; }\n  table.ways td, table.ways th { padding: .2rem .3rem; }\n", "", on_a_phone),
-    ("static/case.css", "  table.shape { font-size: .8rem; }\n  table.shape td, table.shape th { padding: .1rem .2rem; min-width: 1.4rem; }\n", "", week),
+    ("static/case.css",
+     "  table.ways { font-size: .8rem; }\n  table.ways td, table.ways th { padding: .2rem .3rem; }\n",
+     "", on_a_phone),
+    ("static/case.css",
+     "  table.shape { font-size: .8rem; }\n  table.shape td, table.shape th { padding: .1rem .2rem; min-width: 1.4rem; }\n",
+     "", week),
     ("templates/base.html", "{{ name.removesuffix('.case') }}", "{{ name }}", week),
     ("templates/unsayable.html", "{{ line|quoted }}", "{{ line }}", week),
-    ("templates/done.html", "{% if sheet.judged %}.{% elif sheet.solver %}", "{% if sheet.solver %}", week),
-    ("judging.py", '" - ".join(self.session.case.things[thing].name for thing in search.things)', '""', week),
+    ("templates/done.html", "{% if sheet.judged %}.{% elif sheet.solver %}",
+     "{% if sheet.solver %}", week),
+    ("judging.py", '" - ".join(self.session.case.things[thing].name for thing in search.things)',
+     '""', week),
     ("judging.py", " or shown.marks\n", "\n", week),
     ("templates/cases.html", " autofocus{% endif %}", "{% endif %}", on_a_phone),
-    ("templates/case.html", '<div id="jump" data-live>', '<div id="jump" data-live hidden>', on_a_phone),
-    ("templates/fields.html", "<h2>Also in this case</h2>\n<div class=\"ticks\">", "<h2>Also in this case</h2>\n<div class=\"ticks short\">", on_a_phone),
+    ("templates/case.html", '<div id="jump" data-live>', '<div id="jump" data-live hidden>',
+     on_a_phone),
+    ("templates/fields.html", "<h2>Also in this case</h2>\n<div class=\"ticks\">",
+     "<h2>Also in this case</h2>\n<div class=\"ticks short\">", on_a_phone),
     ("static/case.css", "@media (min-width: 46rem) { #jump { display: none; } }", "", on_a_phone),
     ("server.py", "    server.channel_class = Channel\n", "", too_large),
 )

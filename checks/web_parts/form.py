@@ -423,5 +423,6 @@ PLANTED = (
     ("static/case.js", "  fold(form, new Map());\n", "", on_a_phone),
     ("static/case.js", "seen.has(head) ? seen.get(head) : ", "", on_a_phone),
     # what is ticked in the file isn't ticked on the page
-    ("templates/fields.html", "{% if on %} checked{% endif %}> <span>", "> <span>", without_scripts),
+    ("templates/fields.html", "{% if on %} checked{% endif %}> <span>", "> <span>",
+     without_scripts),
 )
