@@ -404,7 +404,7 @@ def without_scripts(program: str) -> Faults:
         def asked() -> bool:
             if driver.find_elements("css selector", "#share"):
                 driver.refresh()
-            return bool(driver.find_elements("css selector", ".said"))
+            return bool(driver.find_elements("css selector", ".said, ul.todo li"))
         it.browser.wait(asked)
         with open(os.path.join(web.folder, "three.case"), encoding="utf-8") as file:
             if (made := file.read()) != THREE:
