@@ -33,8 +33,10 @@ MODULES = {"flask": "python3-flask", "waitress": "python3-waitress", "selenium":
 COMMANDS = {"chromium": "chromium", "chromedriver": "chromium-driver"}
 PATIENCE = 1800         # seconds for a test
 SIDE_BY_SIDE = 3
-NOT_BEGUN = "desk web doesn't begin"    # what a test says that has no server: it notices nothing then
+# what a test says that has no server: it notices nothing then
+NOT_BEGUN = "desk web doesn't begin"
 BROKE_OFF = 75          # status of a test in which the browser's driver broke off
+TWICE = "the browser's driver broke off twice"      # what is said of one that so has seen nothing
 
 
 def missing() -> list[str]:
@@ -64,7 +66,9 @@ def tested(part: str, test: str, program: str, folder: str = DESK) -> list[str]:
     status, faults = ran(part, test, program, folder)
     if status == BROKE_OFF:
         print(f"web: the browser's driver broke off, so the test is run once more: {faults[-1]}", flush=True)
-        _, faults = ran(part, test, program, folder)
+        status, faults = ran(part, test, program, folder)
+        if status == BROKE_OFF:
+            faults = [f"{TWICE}: {fault}" for fault in faults]
     return faults
 
 
@@ -101,7 +105,8 @@ def planted(program: str, parts: list[str]) -> tuple[int, list[str]]:
         with tempfile.TemporaryDirectory() as folder:
             copy = os.path.join(folder, "desk")
             shutil.copytree(DESK, copy, ignore=shutil.ignore_patterns("__pycache__", "tests"))
-            os.symlink(os.path.join(os.path.dirname(DESK), "python"), os.path.join(folder, "python"))   # the client, without which no desk begins
+            client = os.path.join(os.path.dirname(DESK), "python")      # without which no desk begins
+            os.symlink(client, os.path.join(folder, "python"))
             path = os.path.join(copy, "planners_desk", "web", file)
             with open(path, encoding="utf-8") as source:
                 text = source.read()
@@ -110,9 +115,10 @@ def planted(program: str, parts: list[str]) -> tuple[int, list[str]]:
             with open(path, "w", encoding="utf-8") as source:
                 source.write(text.replace(old, new, 1))
             faults = tested(part, test, program, copy)
-        if any(NOT_BEGUN in fault for fault in faults):
-            return f"{part}.{test} is of no desk where in {file} `{old.strip()}` is `{new.strip()}`: {faults[-1][-200:]}"
-        return None if faults else f"{part}.{test} doesn't notice that in {file} `{old.strip()}` is `{new.strip()}`"
+        what = f"in {file} `{old.strip()}` is `{new.strip()}`"
+        if any(NOT_BEGUN in fault or TWICE in fault for fault in faults):
+            return f"{part}.{test} has seen no page where {what}: {faults[-1][-200:]}"
+        return None if faults else f"{part}.{test} doesn't notice that {what}"
     bugs = [(part, file, old, new, test.__name__) for part in parts for file, old, new, test in importlib.import_module(part).PLANTED]
     with ThreadPoolExecutor(SIDE_BY_SIDE) as pool:
         return len(bugs), [fault for fault in pool.map(one, bugs) if fault]

@@ -117,13 +117,14 @@ def ticked(program: str) -> Faults:
 
 NAMES = ("Ann", "Bo Li", "Cas", "Dürr", "Eve")
 DRAWN = 12
+# whether things and values are grids, in turn; only lists have things with values of their own
+GRIDS = ((False, False), (True, False), (False, True), (False, False), (True, True), (False, False))
+ADDED: tuple[list[str], ...] = ([], ["iron"], ["red", "blue"])
 
 
-def drawn(draw: random.Random) -> tuple[str, list[str], list[str]]:
+def drawn(draw: random.Random, grid: bool, slots: bool) -> tuple[str, list[str], list[str]]:
     """A case in which some don't get every value: its text, and the things of its rows of `only` and of `thing`."""
-    grid = draw.random() < 0.5
     things = ["Mon", "Tue", "early", "Tue late"] if grid else ["a", "b c", "d"]
-    slots = draw.random() < 0.5
     values = ["Tue 7", "Tue 8", "Thu 7", "Thu 8"] if slots else list(NAMES)
     lines = ["things: day Mon Tue x shift early late" if grid else "things: a, b c, d",
              "values: evening Tue Thu x hour 7 8" if slots else "values: " + ", ".join(NAMES)]
@@ -131,7 +132,7 @@ def drawn(draw: random.Random) -> tuple[str, list[str], list[str]]:
     for thing in limited:
         some = draw.sample(values, draw.randint(2, len(values)))
         lines.append(f"only {thing}: " + draw.choice([", ".join(some), " ".join(sorted(some)), f"{values[0]} .. {values[-1]}", values[0].split()[0] if slots else some[0]]))
-    own = [] if grid or slots else draw.sample(["frame", "the wheels"], draw.randint(0, 2))
+    own = [] if grid or slots else draw.sample(["frame", "the wheels"], draw.randint(1, 2))
     lines += [f"thing {thing}: " + draw.choice(["steel carbon", "steel, of wood", "1 .. 4", '"of wood"']) for thing in own]
     draw.shuffle(lines)
     return "\n".join([*lines, "ask: each", "words: same", ""]), limited, own
@@ -142,8 +143,8 @@ def by_ticks(program: str) -> Faults:
     draw = random.Random(11)
     with Web(program, {}) as web:
         web.enter()
-        for _ in range(DRAWN):
-            text, limited, own = drawn(draw)
+        for turn in range(DRAWN):
+            text, limited, own = drawn(draw, *GRIDS[turn % len(GRIDS)])
             with open(os.path.join(web.folder, "x.case"), "w", encoding="utf-8") as file:
                 file.write(text)
             sent = fields(web.get("/case/x.case").text)
@@ -152,24 +153,27 @@ def by_ticks(program: str) -> Faults:
                 continue
             for field, rows in (("only", limited), ("own", own)):
                 for _ in rows:
-                    yield from _ticked(web, field, draw)
+                    for more in ADDED if field == "own" else ADDED[:1]:
+                        yield from _ticked(web, field, more, draw)
             if rows := [(name, one) for name, one in fields(web.get("/case/x.case").text) if re.fullmatch("(only|own)-[0-9]+-name", name) and one]:
                 name, one = draw.choice(rows)
+                before = text_of(web, "x.case").splitlines()
                 gone = [pair for pair in fields(web.get("/case/x.case").text) if pair[0] != name and not pair[0].startswith(name[:-4] + "tick")]
                 web.post("/case/x.case", [*gone, (name, "")])
-                if f"{'only' if name.startswith('only') else 'thing'} {one}:" in text_of(web, "x.case"):
-                    yield f"a row without a name and ticks is left: {text_of(web, 'x.case')!r}"
+                row = f"{'only' if name.startswith('only') else 'thing'} {one}:"
+                now = text_of(web, "x.case").splitlines()
+                if now != [line for line in before if not line.startswith(row)]:
+                    yield f"after the name and ticks of `{row}` were taken out, {before} is {now}"
 
 
-def _ticked(web: Web, field: str, draw: random.Random) -> Faults:
-    """Changes the ticks of a row, and adds a value of its own: the page and the file have what is ticked then."""
+def _ticked(web: Web, field: str, more: list[str], draw: random.Random) -> Faults:
+    """Changes the ticks of a row, and adds values of its own: the page and the file have them then."""
     page = web.get("/case/x.case").text
     sent = fields(page)
     place = draw.randrange(sum(re.fullmatch(f"{field}-[0-9]+-name", name) is not None and text != "" for name, text in sent))
     key = f"{field}-{place}"
     every = [html.unescape(one) for one in re.findall(rf'name="{key}-tick" value="([^"]*)"', page)]
     wanted = draw.sample(every, draw.randint(1, len(every)))
-    more = [] if field == "only" else draw.choice([[], ["iron"], ["red", "blue"]])
     rest = [one for one in sent if one[0] not in (f"{key}-tick", f"{key}-more")]
     web.post("/case/x.case", [*rest, *((f"{key}-tick", one) for one in wanted), (f"{key}-more", " ".join(more))])
     now = [text for name, text in fields(web.get("/case/x.case").text) if name == f"{key}-tick"]
@@ -449,31 +453,40 @@ PLANTED = (
     ("templates/fields.html", '<label for="{{ field }}">', "<label>", labels),
     # a word that is ticked isn't written
     ("forms.py", "new = [piece for piece in new if piece not in left]", "new = []", ticked),
-    # what is ticked of some things isn't written, nor what is added; what nobody ticked is written anew
+    # what is ticked of some things isn't written, nor what is added; what nobody ticked is written
+    # anew, and a row that is taken out stays
     ("fields.py", "            if now != list(had):\n", "            if False:\n", by_ticks),
-    ("fields.py", "now = list(dict.fromkeys([*kept, *ticks, *more]))", "now = list(dict.fromkeys([*kept, *ticks]))", by_ticks),
+    ("fields.py", "now = list(dict.fromkeys([*kept, *ticks, *more]))",
+     "now = list(dict.fromkeys([*kept, *ticks]))", by_ticks),
     ("fields.py", "            if now != list(had):\n", "            if True:\n", by_ticks),
-    ("fields.py", "            if not (row.name or now):\n", "            if False:\n", by_ticks),
+    ("fields.py", "        if row.name or row.text:\n", "        if True:\n", by_ticks),
     # a fault is shown at another field
     ("faults.py", "yield At(line.field or WHOLE, _place(", "yield At(WHOLE, _place(", at_fields),
     ("faults.py", "return sum(one.field == field for one in lines[:at])", "return 1", at_fields),
-    ("templates/fields.html", "{%- for one in found.at(field, place) %}", "{%- for one in found.every %}", at_fields),
+    ("templates/fields.html", "{%- for one in found.at(field, place) %}",
+     "{%- for one in found.every %}", at_fields),
     # the newer file of the disk is overwritten
     ("store.py", "if now.mark != mark:", "if False:", meanwhile),
     # names that lead out of the folder, and names that are there
     ("store.py", 'if name.startswith(".") or any(sign in name', "if any(sign in name", names),
-    ("store.py", "any(sign in name for sign in '/\\\\:", "any(sign in name for sign in '\\\\:", names),
-    ("store.py", "return os.path.dirname(os.path.realpath(path)) == os.path.realpath(folder)", "return True", names),
+    ("store.py", "any(sign in name for sign in '/\\\\:", "any(sign in name for sign in '\\\\:",
+     names),
+    ("store.py", "return os.path.dirname(os.path.realpath(path)) == os.path.realpath(folder)",
+     "return True", names),
     ("store.py", "os.link(new, path)", "os.replace(new, path)", names),
     # comments are lost, lines that nobody understands are lost
-    ("forms.py", "if form == old:\n        return before", "if form == old:\n        before = ''", unchanged),
+    ("forms.py", "if form == old:\n        return before", "if form == old:\n        before = ''",
+     unchanged),
     ("forms.py", "return Line(raw, OTHER, text=raw.strip())", "return Line(raw)", as_text),
     # a half chosen rule is passed over, a text that can't be written is written
     ("cases.py", "wrong = [*halves, *faults.unwritable(form)]", "wrong = [*halves]", at_fields),
-    ("cases.py", "wrong = [*halves, *faults.unwritable(form)]", "wrong = faults.unwritable(form)", at_fields),
+    ("cases.py", "wrong = [*halves, *faults.unwritable(form)]", "wrong = faults.unwritable(form)",
+     at_fields),
     # a changed case goes on as if it were the old one
-    ("standing.py", "change = changed(case_in(journal, kept), case) if kept is not None else None", "return ''", taken_over),
-    ("cases.py", 'if store.load(path).mark != request.form.get("mark", ""):', "if False:", taken_over),
+    ("standing.py", "change = changed(case_in(journal, kept), case) if kept is not None else None",
+     "return ''", taken_over),
+    ("cases.py", 'if store.load(path).mark != request.form.get("mark", ""):', "if False:",
+     taken_over),
     # what another text came to is shown
     ("forecast.py", "if found is None or found[0] != mark:", "if found is None:", reckoned),
 )

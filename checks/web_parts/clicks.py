@@ -40,6 +40,13 @@ ask: Mon early - Mon late
 words: different
 plan: scopes
 """
+MONTH = """title: A month
+things: day 1 .. 31 x shift early late
+values: Ann Ben
+ask: same day
+words: different
+plan: scopes
+"""
 QUARREL = """title: Seats
 things: Ada Bo Cy Eve
 values: table left right x seat 1 2
@@ -144,7 +151,9 @@ def tabs(program: str) -> Faults:
         if browser.number() != old:
             yield "the tab doesn't stand still"
         browser.click("No")
-        browser.wait(lambda: "too late" in browser.text())
+        browser.next_sheet(old)
+        if "too late" not in browser.text():
+            yield f"a form that came too late leads to {browser.text()[:200]!r}"
         if web.shows("x.case") != stand or browser.number() != now:
             yield "a form that came too late has changed something"
         browser.go(f"http://{web.host}{web.path}/ask/x.case")
@@ -276,7 +285,7 @@ for(const e of document.querySelectorAll('th'))if(!e.scope)out.push('no scope at
 for(const e of document.querySelectorAll('progress'))if(!e.labels.length&&!e.getAttribute('aria-labelledby')&&!e.getAttribute('aria-label'))out.push('no label at a bar');
 const ids=[...document.querySelectorAll('[id]')].map(e=>e.id);ids.filter((id,i)=>ids.indexOf(id)!==i).forEach(id=>out.push('twice the id '+id));
 for(const e of document.querySelectorAll('[aria-labelledby]'))for(const id of e.getAttribute('aria-labelledby').split(' '))if(!ids.includes(id))out.push('no '+id);
-if(document.documentElement.scrollWidth>innerWidth)out.push('it is '+document.documentElement.scrollWidth+' wide in '+innerWidth);
+if(document.documentElement.scrollWidth>arguments[0])out.push('it is '+document.documentElement.scrollWidth+' wide in '+arguments[0]);
 for(const e of document.querySelectorAll('button,a.button,summary,nav a,table.cases a,select,textarea,input[type=text],label.tick,label.cell,.kinds label'))if(e.checkVisibility()){
  const r=e.getBoundingClientRect();if(r.height<24||r.width<24)out.push('"'+e.textContent.trim().slice(0,30)+'" is '+r.width+' by '+r.height);}
 if(document.querySelector('main').innerText.includes('`'))out.push('a backtick in '+document.querySelector('main').innerText.match(/.{0,20}`.{0,20}/)[0]);
@@ -287,11 +296,12 @@ return out;
 
 
 def looked_at(browser: Browser, what: str) -> Faults:
-    """A page at each width, light and dark."""
+    """A page at each width, light and dark. `innerWidth` says nothing on a phone, where it grows with
+    a page that is wider."""
     for width in WIDTHS:
         for dark in (False, True):
             browser.sized(width, 900, dark)
-            for fault in dict.fromkeys(browser.driver.execute_script(READ)):
+            for fault in dict.fromkeys(browser.driver.execute_script(READ, width)):
                 yield f"{what} at {width}{' dark' if dark else ''}: {fault}"
     browser.sized(1000, 900)
 
@@ -411,6 +421,21 @@ def week(program: str) -> Faults:
             yield f"of eight names {hidden} pixels are hidden"
 
 
+def month(program: str) -> Faults:
+    """A plan of a month, which is wider than each page, moves in its own place: the page stands
+    still, and its last day is reached."""
+    with opened(program, {"x.case": MONTH}, "x.case") as (_, browser):
+        for width in WIDTHS:
+            browser.sized(width, 900)
+            wide, hidden, last = browser.driver.execute_script("""
+                const place = document.querySelector('main .wide');
+                const hidden = place.scrollLeft = place.scrollWidth - place.clientWidth;
+                const last = place.querySelector('thead th:last-child').getBoundingClientRect().right;
+                return [document.documentElement.scrollWidth, hidden, last];""")
+            if wide > width or hidden <= 0 or last > width:
+                yield f"at {width} a month is {wide} wide, {hidden} of it hidden, and ends at {last}"
+
+
 def on_a_phone(program: str) -> Faults:
     """What is wrong stands on the first screen of a phone: a new name at its field, and that a form has something to mend at its top. No
     word is broken in a tick of the case's own."""
@@ -420,8 +445,8 @@ def on_a_phone(program: str) -> Faults:
         browser.go(f"file://{web.file}")
         browser.types("#new-name", "a/b")
         browser.leads(lambda: browser.click("Make it"))
-        place = browser.driver.execute_script("const one = document.querySelector('#new-fault').getBoundingClientRect(); return [one.top, one.bottom, innerHeight]")
-        if not 0 <= place[0] < place[1] <= place[2]:
+        place = browser.driver.execute_script("const one = document.querySelector('#new-fault').getBoundingClientRect(); return [one.top, one.bottom]")
+        if not 0 <= place[0] < place[1] <= 700:
             yield f"on a phone a fault of a new name stands at {place}"
         browser.go(f"http://{web.host}{web.path}/case/bad.case")
         browser.settled()
@@ -528,20 +553,27 @@ def judged(browser: Browser) -> Faults:
     yield from looked_at(browser, "the report")
 
 
-TESTS = (presses, tabs, foreign, names, keyboard, read, cases, week, on_a_phone, too_large, breaks_off)
+TESTS = (presses, tabs, foreign, names, keyboard, read, cases, week, month, on_a_phone, too_large, breaks_off)
 PLANTED = (
     ("static/page.js", "event.repeat || ", "", presses),
-    ("sittings.py", "            if number != self._number or self._over:\n", "            if self._over:\n", tabs),
+    ("sittings.py", "            if number != self._number or self._over:\n",
+     "            if self._over:\n", tabs),
     ("static/page.js", "location.replace(body.dataset.page);", "", tabs),
-    ("security.py", 'if request.headers.get("Origin") != known.origin or site != "same-origin":', "if False:", foreign),
+    ("security.py", 'if request.headers.get("Origin") != known.origin or site != "same-origin":',
+     "if False:", foreign),
     ("entrance.py", "path=self._known.path, ", "", foreign),
-    ("templates/question.html", '<h1 id="head">{{ sheet.head }}</h1>', '<h1 id="head">{{ sheet.head|safe }}</h1>', names),
-    ("static/style.css", ":focus-visible { outline: 3px solid var(--link); outline-offset: 2px; }", ":focus-visible { outline: none; }", keyboard),
+    ("templates/question.html", '<h1 id="head">{{ sheet.head }}</h1>',
+     '<h1 id="head">{{ sheet.head|safe }}</h1>', names),
+    ("static/style.css", ":focus-visible { outline: 3px solid var(--link); outline-offset: 2px; }",
+     ":focus-visible { outline: none; }", keyboard),
     ("static/style.css", "--dim: #566072", "--dim: #9aa3b0", read),
     ("templates/question.html", "<label for=\"bar\">", "<label>", read),
-    ("static/style.css", ".wide { overflow-x: auto; max-width: 100%;", ".wide {", read),
-    ("static/style.css", "h1, p, li, summary, .fault, .note, .taught { max-width: 48rem; }", "", cases),
-    ("static/style.css", "button.small { padding: .1rem .5rem; font-size: .85rem; min-height: 1.7rem; }", "button.small { padding: 0; font-size: .85rem; min-height: 0; }", read),
+    ("static/style.css", ".wide { overflow-x: auto; max-width: 100%;", ".wide {", month),
+    ("static/style.css", "h1, p, li, summary, .fault, .note, .taught { max-width: 48rem; }", "",
+     cases),
+    ("static/style.css",
+     "button.small { padding: .1rem .5rem; font-size: .85rem; min-height: 1.7rem; }",
+     "button.small { padding: 0; font-size: .85rem; min-height: 0; }", read),
     ("static/case.css", "table.cases td { display: block;", "table.cases td {", cases),
     ("static/style.css", ".plan .entry:only-child { margin: 0; padding: 0; }", "", week),
     ("static/style.css", "  label.cell { flex-direction: column;", "  label.cell {", week),
@@ -549,16 +581,24 @@ PLANTED = (
     ("static/style.css", ".report .side figcaption { width: 0; min-width: 100%; }", "", week),
     ("static/style.css", "@media (min-width: 46rem) {", "@media (min-width: 64rem) {", week),
     ("static/case.css", "#fields textarea { field-sizing: content;", "#fields textarea {", week),
-    ("static/case.css", "  table.ways { font-size: .8rem; }\n  table.ways td, table.ways th { padding: .2rem .3rem; }\n", "", on_a_phone),
-    ("static/case.css", "  table.shape { font-size: .8rem; }\n  table.shape td, table.shape th { padding: .1rem .2rem; min-width: 1.4rem; }\n", "", week),
+    ("static/case.css",
+     "  table.ways { font-size: .8rem; }\n  table.ways td, table.ways th { padding: .2rem .3rem; }\n",
+     "", on_a_phone),
+    ("static/case.css",
+     "  table.shape { font-size: .8rem; }\n  table.shape td, table.shape th { padding: .1rem .2rem; min-width: 1.4rem; }\n",
+     "", week),
     ("templates/base.html", "{{ name.removesuffix('.case') }}", "{{ name }}", week),
     ("templates/unsayable.html", "{{ line|quoted }}", "{{ line }}", week),
-    ("templates/done.html", "{% if sheet.judged %}.{% elif sheet.solver %}", "{% if sheet.solver %}", week),
-    ("judging.py", '" - ".join(self.session.case.things[thing].name for thing in search.things)', '""', week),
+    ("templates/done.html", "{% if sheet.judged %}.{% elif sheet.solver %}",
+     "{% if sheet.solver %}", week),
+    ("judging.py", '" - ".join(self.session.case.things[thing].name for thing in search.things)',
+     '""', week),
     ("judging.py", " or shown.marks\n", "\n", week),
     ("templates/cases.html", " autofocus{% endif %}", "{% endif %}", on_a_phone),
-    ("templates/case.html", '<div id="jump" data-live>', '<div id="jump" data-live hidden>', on_a_phone),
-    ("templates/fields.html", "<h2>Also in this case</h2>\n<div class=\"ticks\">", "<h2>Also in this case</h2>\n<div class=\"ticks short\">", on_a_phone),
+    ("templates/case.html", '<div id="jump" data-live>', '<div id="jump" data-live hidden>',
+     on_a_phone),
+    ("templates/fields.html", "<h2>Also in this case</h2>\n<div class=\"ticks\">",
+     "<h2>Also in this case</h2>\n<div class=\"ticks short\">", on_a_phone),
     ("static/case.css", "@media (min-width: 46rem) { #jump { display: none; } }", "", on_a_phone),
     ("server.py", "    server.channel_class = Channel\n", "", too_large),
 )

@@ -404,7 +404,7 @@ def without_scripts(program: str) -> Faults:
         def asked() -> bool:
             if driver.find_elements("css selector", "#share"):
                 driver.refresh()
-            return bool(driver.find_elements("css selector", ".said"))
+            return bool(driver.find_elements("css selector", ".said, ul.todo li"))
         it.browser.wait(asked)
         with open(os.path.join(web.folder, "three.case"), encoding="utf-8") as file:
             if (made := file.read()) != THREE:
@@ -423,5 +423,6 @@ PLANTED = (
     ("static/case.js", "  fold(form, new Map());\n", "", on_a_phone),
     ("static/case.js", "seen.has(head) ? seen.get(head) : ", "", on_a_phone),
     # what is ticked in the file isn't ticked on the page
-    ("templates/fields.html", "{% if on %} checked{% endif %}> <span>", "> <span>", without_scripts),
+    ("templates/fields.html", "{% if on %} checked{% endif %}> <span>", "> <span>",
+     without_scripts),
 )

@@ -75,5 +75,5 @@ def of_many(program: str) -> Faults:
 
 TESTS = (of_cases, of_many)
 PLANTED = (
-    ("questions.py", "        if settled != self._settled:\n", "        for _ in range(400):\n", of_cases),
+    ("questions.py", "        if settled != self._settled:\n", "        for _ in range(80):\n", of_cases),
 )

@@ -197,6 +197,8 @@ def _of(person: Person) -> Callable[[str], Faults]:
 ward, seats, conference, holidays, store, choir = map(_of, EVERY)
 TESTS = (ward, seats, conference, holidays, store, choir)
 PLANTED = (
-    ("tables.py", "if self._values.get(thing.place) == value:", "if self._values.get(thing.place) == value - 1:", holidays),
-    ("questions.py", 'self.asking.answer(step.do == "y")', 'self.asking.answer(step.do != "y")', holidays),
+    ("tables.py", "if self._values.get(thing.place) == value:",
+     "if self._values.get(thing.place) == value - 1:", holidays),
+    ("questions.py", 'self.asking.answer(step.do == "y")', 'self.asking.answer(step.do != "y")',
+     holidays),
 )

@@ -312,8 +312,11 @@ def opened(web: Web, line: str, *heads: str, body: bytes = b"") -> str:
         except OSError:
             return "no more is taken, and nothing is answered"
         said = b""
-        while part := connection.recv(1 << 16):
-            said += part
+        try:
+            while part := connection.recv(1 << 16):
+                said += part
+        except OSError as error:        # as where the connection stays open
+            return f"after {said.decode(errors='replace')[:200]!r} it doesn't end: {error}"
     return said.decode(errors="replace")
 
 
@@ -321,7 +324,8 @@ TESTS: tuple[Callable[[str], Faults], ...] = (by_token, by_file, by_name, by_pag
 
 # a measure that is left out: the file, what stands there, what stands there instead, and the test that has to notice
 PLANTED = (
-    ("security.py", "    if not same(request.cookies.get(COOKIE, \"\"), known.key):\n", "    if False:\n", by_token),
+    ("security.py", "    if not same(request.cookies.get(COOKIE, \"\"), known.key):\n",
+     "    if False:\n", by_token),
     ("entrance.py", "                self._renew()\n", "                pass\n", by_token),
     ("entrance.py", "if not self._token or not same(token, self._token)", "if False", by_token),
     ("entrance.py", "httponly=True, ", "", by_token),
@@ -330,20 +334,31 @@ PLANTED = (
     ("entrance.py", "0o600", "0o644", by_file),
     ("server.py", 'f"file://{file}"', 'f"file://{file}#token"', by_file),
     ("security.py", 'if request.headers.get("Host") != known.host:', "if False:", by_name),
-    ("security.py", 'if request.headers.get("Origin") != known.origin or site != "same-origin":', 'if site != "same-origin":', by_page),
-    ("security.py", 'if request.headers.get("Origin") != known.origin or site != "same-origin":', 'if request.headers.get("Origin") != known.origin:', by_page),
+    ("security.py", 'if request.headers.get("Origin") != known.origin or site != "same-origin":',
+     'if site != "same-origin":', by_page),
+    ("security.py", 'if request.headers.get("Origin") != known.origin or site != "same-origin":',
+     'if request.headers.get("Origin") != known.origin:', by_page),
     ("security.py", 'elif site not in ("same-origin", "none"):', "elif False:", by_page),
     ("security.py", "    app.after_request(with_headers)\n", "", by_headers),
-    ("templates/question.html", '<h1 id="head">{{ sheet.head }}</h1>', '<h1 id="head">{{ sheet.head|safe }}</h1>', by_names),
-    ("pages.py", "    if not (text.isascii() and text.isdecimal() and len(text) <= DIGITS + 1):\n", "    if False:\n", by_form),
+    ("templates/question.html", '<h1 id="head">{{ sheet.head }}</h1>',
+     '<h1 id="head">{{ sheet.head|safe }}</h1>', by_names),
+    ("pages.py", "    if not (text.isascii() and text.isdecimal() and len(text) <= DIGITS + 1):\n",
+     "    if False:\n", by_form),
     ("lines.py", "0 <= step.place < len(session.answers)\n", "True\n", by_form),
     ("app.py", "else SAID.get(status, f\"{error.name}.\")", "else f\"{error.name}.\"", by_form),
-    ("app.py", "    if status in (403, 421) or request.environ.get(OUTSIDE):\n", "    if False:\n", bare),
+    ("app.py", "    if status in (403, 421) or request.environ.get(OUTSIDE):\n", "    if False:\n",
+     bare),
     ("templates/outside.html", "{{ todo|quoted }}", "{{ todo }}", bare),
-    ("server.py", "            max_request_body_size=MOST_SENT + 1,  # from which on it is too large\n", "", by_size),
-    ("server.py", "max_request_body_size=MOST_SENT + 1,", "max_request_body_size=MOST_SENT,", by_size),
+    ("server.py",
+     "            max_request_body_size=MOST_SENT + 1,  # from which on it is too large\n", "",
+     by_size),
+    ("server.py", "max_request_body_size=MOST_SENT + 1,", "max_request_body_size=MOST_SENT,",
+     by_size),
     ("server.py", "    server.channel_class = Channel\n", "", by_size),
-    ("refusing.py", "        self.close_on_finish = channel.refused = True\n", "        channel.refused = True\n", by_size),
-    ("refusing.py", "        if self.refused and self.until is None:\n", "        if False:\n", by_size),
-    ("app.py", "    guard(app, known)\n    refuse_larger(app)\n", "    refuse_larger(app)\n    guard(app, known)\n", by_size),
+    ("refusing.py", "        self.close_on_finish = channel.refused = True\n",
+     "        channel.refused = True\n", by_size),
+    ("refusing.py", "        if self.refused and self.until is None:\n", "        if False:\n",
+     by_size),
+    ("app.py", "    guard(app, known)\n    refuse_larger(app)\n",
+     "    refuse_larger(app)\n    guard(app, known)\n", by_size),
 )

@@ -18,8 +18,12 @@ from collections.abc import Mapping
 from dataclasses import dataclass
 
 DESK = os.environ.get("DESK_FOLDER", os.path.join(os.path.dirname(os.path.dirname(os.path.dirname(os.path.realpath(__file__)))), "desk"))
-PATIENCE = 60.0         # seconds that the server may take to begin on a machine that has much to do
+PATIENCE = 60.0         # seconds for what the server does on a machine that has much to do
+BEGINS = 180.0          # for its beginning, when its libraries are read anew
 TICK = 0.02
+
+# what a shell runs in the background ignores this, and so would the server, which it has to end
+signal.signal(signal.SIGINT, signal.default_int_handler)
 
 
 @dataclass(frozen=True)
@@ -78,7 +82,7 @@ class Web:
     def _begins(self) -> str:
         """What it prints until it serves."""
         assert self.process.stdout
-        late = threading.Timer(PATIENCE, self.process.kill)
+        late = threading.Timer(BEGINS, self.process.kill)
         late.start()
         said = ""
         while "Ctrl-C" not in said:

@@ -334,13 +334,17 @@ def other_pythons(program: str) -> Faults:
 
 TESTS = (once, one_writer, killed, ended, slept, quiet, alive, contradicted, back, other_pythons)
 PLANTED = (
-    ("sittings.py", "            if number != self._number or self._over:\n", "            if self._over:\n", once),
-    ("sittings.py", "            if not self._waits or self._step is not None:\n", "            if self._over:\n", once),
+    ("sittings.py", "            if number != self._number or self._over:\n",
+     "            if self._over:\n", once),
+    ("sittings.py", "            if not self._waits or self._step is not None:\n",
+     "            if self._over:\n", once),
     ("sittings.py", "field(default_factory=lambda: secrets.randbelow(NUMBERS))", "0", once),
-    ("sittings.py", "            if owner is None or owner.state().over:\n", "            if True:\n", one_writer),
+    ("sittings.py", "            if owner is None or owner.state().over:\n",
+     "            if True:\n", one_writer),
     ("serve.py", "(signal.SIGTERM, signal.SIGHUP)", "()", ended),
     ("server.py", "    quiet()\n", "", quiet),
-    ("questions.py", "            first = self._against()\n", "            first = 0\n", contradicted),
+    ("questions.py", "            first = self._against()\n", "            first = 0\n",
+     contradicted),
     ("lines.py", "        if chosen(session, step):\n            return step.place\n", "", back),
     ("serve.py", "                go_on_with(python)\n", "                pass\n", other_pythons),
     ("reporting.py", "owner.busy(text, 1 - made.left / seconds, True)", "None", alive),

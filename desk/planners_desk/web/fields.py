@@ -160,8 +160,6 @@ def _ticked(sent: Sent, name: str, most: int) -> tuple[Row, ...]:
             now = list(dict.fromkeys([*kept, *ticks, *more]))
             if now != list(had):
                 row = Row(row.name, together(now, name == "own"))
-            if not (row.name or now):
-                continue
         if row.name or row.text:
             rows.append(row)
     return tuple(rows)
