@@ -9,11 +9,11 @@ use Rattle.acq_cli.proofs.demo.drive_quietly.Goals as goal
 abbrev told_bytes : List ℕ → Option (List ℕ)
 told_bytes bytes = Some bytes
 
-pub of-requires : goal.of-requires
-of-requires g c = transport (λ i. IsNetwork (sym c.lang_of-lang.ensures.is i) c.args.target.list) c.requires.target
+pub of-teacher-requires : goal.of-teacher-requires
+of-teacher-requires g c = transport (λ i. IsNetwork (sym c.lang_of-lang.ensures.is i) c.args.target.list) c.requires.target
 
 pub drive-requires-clause-fits : goal.drive-requires-clause-fits
-drive-requires-clause-fits g c = (
+drive-requires-clause-fits g c κs within = (
   transport (λ i. IsNetwork (lang_of c.args.keep.now) (sym c.of-teacher.ensures.network i)) c.requires.target,
   transport (λ i. IsListedFor (c.lang_of-lang.ensures.is i) c.of-teacher.result) c.of-teacher.ensures.listed,
 )

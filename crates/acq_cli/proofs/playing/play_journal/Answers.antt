@@ -97,13 +97,13 @@ returns-in-Ok-read_target-clause-plays g c =
     (fresh, reads, answered (net_turn target false) l terms target (events_of store) (events_of after) left' written left' written' c.ask_on.result reads.lawful fresh c.ask_on.ensures.taught.added c.ask_on.ensures.taught.said tries) in
     inr (record { target = target; on = on.0; fresh = on.1.0; reads = on.1.1; answered = on.1.2 })
 
-pub of-requires : goal.of-requires
-of-requires g c = transport (λ i. IsNetwork (let same = c.lang_of.ensures.is ∙ sym c.lang_of-2.ensures.is in same i) c.in-Ok-read_target.target.list) c.in-Ok-read_target.ensures.target.lawful
+pub of-teacher-requires : goal.of-teacher-requires
+of-teacher-requires g c = transport (λ i. IsNetwork (let same = c.lang_of.ensures.is ∙ sym c.lang_of-in-Ok-read_target.ensures.is in same i) c.in-Ok-read_target.target.list) c.in-Ok-read_target.ensures.target.lawful
 
 pub ask_on-requires-clause-fits : goal.ask_on-requires-clause-fits
-ask_on-requires-clause-fits g c = (
+ask_on-requires-clause-fits g c κs within = (
   transport (λ i. IsNetwork (c.lang_of.ensures.is i) (sym c.of-teacher.ensures.network i)) c.in-Ok-read_target.ensures.target.lawful,
-  transport (λ i. IsListedFor (c.lang_of-2.ensures.is i) c.of-teacher.result) c.of-teacher.ensures.listed,
+  transport (λ i. IsListedFor (c.lang_of-in-Ok-read_target.ensures.is i) c.of-teacher.result) c.of-teacher.ensures.listed,
 )
 
 pub returns-in-Ok-read_target-clause-takes : goal.returns-in-Ok-read_target-clause-takes
