@@ -81,7 +81,7 @@ fn drive_quietly<R: Threads + Sync, G: Gate>(
     };
     let mut source = PlainSource::new(Vec::new(alloc));
     let mut sink = PlainSink::new(alloc);
-    let mut teacher = NetTeacher::new(target, true);
+    let mut teacher = NetTeacher::of(alloc, lang, target, true);
     drive(
         rt,
         alloc,

@@ -125,7 +125,7 @@ pub fn play_journal<R: Threads + Sync, S: Source, K: Sink, D: Disk, G: Gate>(
     }
     match read_target(alloc, lang_of::<D, Store>(&store), input) {
         Ok(target) => {
-            let mut teacher = NetTeacher::new(target, false);
+            let mut teacher = NetTeacher::of(alloc, lang_of::<D, Store>(&store), target, false);
             ask_on(
                 rt,
                 alloc,

@@ -103,7 +103,7 @@ fn network_turn(
     json: &str,
 ) -> Option<String> {
     let net = read_network(alloc, lang, json.as_bytes()).ok()?;
-    let mut teacher = NetTeacher::new(net, quiet);
+    let mut teacher = NetTeacher::of(alloc, lang, net, quiet);
     let mut source = source_of(alloc, call_in("-")?, "no\\n")?;
     let mut sink = sink_of(alloc, write)?;
     turn(alloc, lang, k, &mut teacher, &mut source, &mut sink)

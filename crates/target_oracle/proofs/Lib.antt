@@ -2,3 +2,4 @@ mod Prelude
 pub mod Fronts
 pub mod Hearings
 pub mod Draws
+pub mod Listings

@@ -5,6 +5,7 @@ pub mod Tells
 pub mod Teaching
 pub mod Hearing
 pub mod NetTurns
+pub mod Listing
 pub mod Inside
 pub mod Generator
 pub mod Laws

@@ -1,5 +1,6 @@
 -- The turn of a network, which answers by acceptance.
-use Rattle.std.specs.Prelude.{◌≡◌, ℕ, Bool, true, false, List, [], ◌∷◌, ◌++◌, codes, if◌then◌else◌}
+use Rattle.std.specs.Prelude.{◌≡◌, ℕ, Bool, true, false, List, [], ◌∷◌, ◌++◌, Option, codes}
+use Rattle.std.specs.Prelude.{if◌then◌else◌}
 use Rattle.assign.specs.Assignment.{Assignment}
 use Rattle.language.specs.declared.candidates.Candidate.{Candidate}
 use Rattle.language.specs.Language.{Language, accepts}
@@ -10,10 +11,11 @@ use Rattle.target_oracle.specs.declared.teacher.Told.TheVariants.{Yes, No, Back,
 use Rattle.target_oracle.specs.declared.teacher.Told.TheVariants.{Unreadable, ReadFault, WriteFault}
 use Rattle.target_oracle.specs.declared.teacher.Told.TheVariants.{Memory}
 
--- a network, and whether it answers without a word
+-- a network, whether it answers without a word, and its candidates by variables, if they are listed
 pub record Owner : Type 0 where
   pub network : List Candidate
   pub quiet : Bool
+  pub lists : Option (List (List Candidate))
 
 abbrev pub answer_word : Bool → List ℕ
 answer_word true = codes " yes"

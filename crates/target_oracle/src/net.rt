@@ -1,19 +1,22 @@
-ghost use Rattle.std.specs.Prelude.{◌≡◌, ◌≤◌, ◌++◌, ◌∷◌, [], false, IfOk, IfSome, Some, None};
-ghost use Rattle.std.specs.Prelude.{string_bytes};
+ghost use Rattle.std.specs.Prelude.{◌≡◌, ◌≤◌, ◌++◌, ◌∷◌, [], false, IfOk, IfSome, Some, None, All};
+ghost use Rattle.std.specs.Prelude.{map, filter, length, string_bytes, vec_items};
+ghost use Rattle.std.specs.List.{list_all};
 ghost use Rattle.std.specs.Option.{ForSome};
 ghost use Rattle.acq_io.specs.Streams.{Adds, Rose};
+ghost use Rattle.assign.specs.Assignment.{variables_of};
 ghost use Rattle.language.specs.Language.{IsQuestion, accepts};
 ghost use Rattle.language.specs.Answers.{IsNetwork};
 ghost use Rattle.language.specs.Texts.{question_text};
 ghost use Rattle.target_oracle.specs.Hearing.{CutsOff};
 ghost use Rattle.target_oracle.specs.Tells.{Tells};
+ghost use Rattle.target_oracle.specs.Listing.{is_first, listed, accepts_at, IsListedFor};
 ghost use Rattle.target_oracle.specs.NetTurns.{answered_text, net_turn, net_may_say};
 ghost use Rattle.target_oracle.specs.NetTurns.{told_of_answer};
 
 use crate::teacher::{Teacher, Told};
 use acq_io::{Put, Sink, Source};
-use assign::Partial;
-use language::Language;
+use assign::{MOST_VARIABLES, Partial};
+use language::{Candidate, Language};
 use network::Network;
 use std::alloc::{AllocError, Global};
 use std::marker::Model;
@@ -24,6 +27,8 @@ use std::marker::Model;
 pub struct NetTeacher {
     network: Network,
     quiet: bool,
+    /// For each variable the candidates on whose scope it is the first, if they are listed.
+    lists: Option<Vec<Vec<Candidate>>>,
 }
 
 impl Model for NetTeacher {
@@ -41,9 +46,114 @@ impl NetTeacher {
     pub fn new(network: Network, quiet: bool) -> NetTeacher
         ensures network { result.network ≡ network.list }
         ensures quiet { result.quiet ≡ quiet }
+        ensures unlisted { result.lists ≡ None }
     {
-        NetTeacher { network, quiet }
+        NetTeacher {
+            network,
+            quiet,
+            lists: None,
+        }
     }
+
+    /// The same about a language, where a question is held against the candidates alone on whose
+    /// scope the first variable is shown. Where memory is wanting to list them, it is held against
+    /// all.
+    pub fn of(alloc: Global, lang: &Language, network: Network, quiet: bool) -> NetTeacher
+        requires { IsNetwork lang.now network.list }
+        ensures network { result.network ≡ network.list }
+        ensures quiet { result.quiet ≡ quiet }
+        ensures listed { IsListedFor lang.now result }
+    {
+        match lists_of(alloc, lang, network.list()) {
+            Ok(lists) => NetTeacher {
+                network,
+                quiet,
+                lists: Some(lists),
+            },
+            Err(_) => NetTeacher::new(network, quiet),
+        }
+    }
+
+    /// Whether the network accepts a question.
+    fn accepts(&self, lang: &Language, q: &Partial) -> bool
+        requires question { IsQuestion lang.now q.now }
+        requires network { IsNetwork lang.now self.now.network }
+        requires listed { IsListedFor lang.now self.now }
+        ensures { result ≡ accepts lang.now self.now.network q.now }
+    {
+        // for the law that each scope has a variable
+        let _variables = lang.n();
+        match &self.lists {
+            Some(lists) => accepts_listed(lang, lists, q),
+            None => self.network.accepts(lang, q),
+        }
+    }
+}
+
+/// The candidates of a network on whose scope this variable is the first.
+fn list_of(
+    alloc: Global,
+    lang: &Language,
+    network: &[Candidate],
+    v: u8,
+) -> Result<Vec<Candidate>, AllocError>
+    requires { IsNetwork lang.now network.now }
+    ensures { IfOk result (λ list. list.items ≡ filter (is_first lang.now v) network.now) }
+{
+    let mut list = Vec::new(alloc);
+    for c in network {
+        if lang.scope(c.scope)[0] == v {
+            list.push(*c)?;
+        }
+    }
+    Ok(list)
+}
+
+/// Those of each variable.
+fn lists_of(
+    alloc: Global,
+    lang: &Language,
+    network: &[Candidate],
+) -> Result<Vec<Vec<Candidate>>, AllocError>
+    requires { IsNetwork lang.now network.now }
+    ensures { IfOk result (λ lists. map vec_items lists.items ≡ listed lang.now network.now) }
+{
+    let mut lists = Vec::new(alloc);
+    for v in 0..MOST_VARIABLES {
+        lists.push(list_of(alloc, lang, network, v)?)?;
+    }
+    Ok(lists)
+}
+
+/// Whether a question violates none of these candidates.
+fn accepts_all(lang: &Language, list: &[Candidate], q: &Partial) -> bool
+    requires network { IsNetwork lang.now list.now }
+    requires question { IsQuestion lang.now q.now }
+    ensures { result ≡ accepts lang.now list.now q.now }
+{
+    for c in list {
+        if lang.candidate_violated(*c, q) {
+            return false;
+        }
+    }
+    true
+}
+
+/// Whether a question violates none of those that are listed for the variables that it shows.
+fn accepts_listed(lang: &Language, lists: &[Vec<Candidate>], q: &Partial) -> bool
+    requires networks { All (λ list. IsNetwork lang.now list.items) lists.now }
+    requires whole { length lists.now ≡ 128 }
+    requires question { IsQuestion lang.now q.now }
+    ensures { result ≡ list_all (accepts_at lang.now (map vec_items lists.now) q.now)
+        (variables_of q.now) }
+{
+    let mut left = q.vars();
+    while let Some(v) = left.pop_first() {
+        if !accepts_all(lang, &lists[v as usize], q) {
+            return false;
+        }
+    }
+    true
 }
 
 /// What is said of an answer.
@@ -99,7 +209,7 @@ fn put_answer<K: Sink>(
 }
 
 impl<S: Source, K: Sink> Teacher<S, K> for NetTeacher {
-    ghost fits = { λ owner l. IsNetwork l owner.network };
+    ghost fits = { λ owner l. IsNetwork l owner.network × IsListedFor l owner };
 
     ghost turn = { λ owner. net_turn owner.network owner.quiet };
 
@@ -117,7 +227,7 @@ impl<S: Source, K: Sink> Teacher<S, K> for NetTeacher {
         q: &Partial,
     ) -> Told
         requires question { IsQuestion lang.now q.now }
-        requires fits { IsNetwork lang.now self.old.network }
+        requires fits { IsNetwork lang.now self.old.network × IsListedFor lang.now self.old }
         // nothing is read, whatever comes of it
         ensures unread { source.new ≡ source.old }
         ensures same { self.new ≡ self.old }
@@ -128,7 +238,7 @@ impl<S: Source, K: Sink> Teacher<S, K> for NetTeacher {
         ensures later_sink { K.faults sink.old ≤ K.faults sink.new }
         ensures write { result ≡ Told.WriteFault → Rose (K.faults sink.old) (K.faults sink.new) }
     {
-        let yes = self.network.accepts(lang, q);
+        let yes = self.accepts(lang, q);
         if self.quiet {
             return said(yes);
         }

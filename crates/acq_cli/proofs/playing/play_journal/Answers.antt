@@ -1,4 +1,4 @@
-use Rattle.acq_cli.proofs.Prelude.{Candidate, Err, Event, IfOk, IsAnsweredBy, IsDisk, IsSaid, Language, List, Loses, Ok, OnErr, Plan, ReadsTarget, Result, Saying, SaysNoNetwork, SaysUnplayed, Tries, Unsaid, [], ap, arith, called_as, called_not, false, goes_on_with, inl, inr, net_may_say, net_turn, ok_any, opened_raised, over_opened, over_refused, point_of, question_of, refl, said_as, silent_not, stale_said, standing_on, sym, takes_some_on, terms_with, transport, voc_of, ◌∙◌, ◌≡◌, ◌≤◌}
+use Rattle.acq_cli.proofs.Prelude.{Candidate, Err, Event, IfOk, IsAnsweredBy, IsDisk, IsNetwork, IsSaid, Language, List, Loses, Ok, OnErr, Plan, ReadsTarget, Result, Saying, SaysNoNetwork, SaysUnplayed, Tries, Unsaid, [], ap, arith, called_as, called_not, false, goes_on_with, inl, inr, net_may_say, net_turn, ok_any, opened_raised, over_opened, over_refused, point_of, question_of, refl, said_as, silent_not, stale_said, standing_on, sym, takes_some_on, terms_with, transport, voc_of, ◌∙◌, ◌≡◌, ◌≤◌}
 use Rattle.acq_io.proofs.CallLemmas.{called_on}
 use Rattle.session_store.specs.Keeping.{FailsWith}
 use Rattle.session_store.specs.Store.{lang_of, plan_of, events_of}
@@ -8,6 +8,7 @@ use Rattle.acq_cli.proofs.Targets.{answered, none_at_all}
 use Rattle.acq_cli.proofs.Causes.{ends_read}
 use Rattle.acq_said.specs.declared.said.Unsaid.TheVariants as unsaid
 use Rattle.network.specs.Learned.{Learned}
+use Rattle.target_oracle.specs.Listing.{IsListedFor}
 use Rattle.acq_cli.proofs.playing.play_journal.Goals as goal
 
 abbrev Targeted : Type 0
@@ -71,16 +72,16 @@ returns-in-Ok-read_target-clause-plays g c =
     let after = c.ask_on.new.keep in
     let l : Language = lang_of store in
     let terms = terms_with (plan_of store) c.args.budget in
-    let target : List Candidate = c.new-teacher.result.network in
+    let target : List Candidate = c.of-teacher.result.network in
     let left = g.S.Source.left c.args.input.now in
     let written = g.K.Sink.written c.args.out.now in
     let left' = g.S.Source.left c.ask_on.new.input in
     let written' = g.K.Sink.written c.ask_on.new.out in
     let fresh : standing_on l (events_of store) ≡ [] = none_at_all (standing_on l (events_of store)) (let few = c.if-count-ge1.false in let is = c.answers_of-count.ensures.is in omega (arith, few, is)) in
-    let quiet = c.new-teacher.ensures.quiet in
+    let quiet = c.of-teacher.ensures.quiet in
     -- nothing is read behind the target
     let rest : g.S.Source.left c.read_target.new.input ≡ left' = sym (ap g.S.Source.left (c.ask_on.ensures.unread refl)) in
-    let reads = transport (λ i. ReadsTarget (c.lang_of.ensures.is i) left (rest i) (sym c.new-teacher.ensures.network i)) c.in-Ok-read_target.ensures.target in
+    let reads = transport (λ i. ReadsTarget (c.lang_of.ensures.is i) left (rest i) (sym c.of-teacher.ensures.network i)) c.in-Ok-read_target.ensures.target in
     let tries = transport (λ i. IfOk c.ask_on.result (Tries (net_turn target (quiet i)) l terms (events_of store) (events_of after) (rest i) written left' written')) c.ask_on.ensures.asked.tries in
     let part = transport (λ i. OnErr c.ask_on.result (BreaksRun (net_turn target (quiet i)) l terms (events_of store) (events_of after) (rest i) written left' written')) c.ask_on.ensures.asked.part in
     let fails = transport (λ i. IsDisk c.ask_on.result → FailsWith D store.journal.raised c.ask_on.ensures.keeps.grown.more (plan_of store) (voc_of store) (events_of store) (events_of after) (question_of after)
@@ -95,6 +96,15 @@ returns-in-Ok-read_target-clause-plays g c =
     (λ no bytes told. c.ask_on.ensures.keeps.persists refl bytes told no) fails tries part
     (fresh, reads, answered (net_turn target false) l terms target (events_of store) (events_of after) left' written left' written' c.ask_on.result reads.lawful fresh c.ask_on.ensures.taught.added c.ask_on.ensures.taught.said tries) in
     inr (record { target = target; on = on.0; fresh = on.1.0; reads = on.1.1; answered = on.1.2 })
+
+pub of-requires : goal.of-requires
+of-requires g c = transport (λ i. IsNetwork (let same = c.lang_of.ensures.is ∙ sym c.lang_of-2.ensures.is in same i) c.in-Ok-read_target.target.list) c.in-Ok-read_target.ensures.target.lawful
+
+pub ask_on-requires-clause-fits : goal.ask_on-requires-clause-fits
+ask_on-requires-clause-fits g c = (
+  transport (λ i. IsNetwork (c.lang_of.ensures.is i) (sym c.of-teacher.ensures.network i)) c.in-Ok-read_target.ensures.target.lawful,
+  transport (λ i. IsListedFor (c.lang_of-2.ensures.is i) c.of-teacher.result) c.of-teacher.ensures.listed,
+)
 
 pub returns-in-Ok-read_target-clause-takes : goal.returns-in-Ok-read_target-clause-takes
 returns-in-Ok-read_target-clause-takes g c = takes_some_on _ _ _ c.read_target.ensures.takes c.ask_on.ensures.faults.read.takes
