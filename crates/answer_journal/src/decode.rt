@@ -39,16 +39,15 @@ pub(crate) fn question_of(pairs: &[u8]) -> Option<Partial>
 {
     let mut question = Partial::blank(128);
     let mut rest = pairs;
-    for v in 0..128u8 {
-        if let [w, x, after @ ..] = rest {
-            if *w == v {
-                if *x >= 64 {
-                    return None;
-                }
-                question.set(v, *x);
-                rest = after;
-            }
+    // The variables rise: the next one is this or a later one.
+    let mut least = 0;
+    while let [v, x, after @ ..] = rest {
+        if *v < least || *v >= 128 || *x >= 64 {
+            return None;
         }
+        question.set(*v, *x);
+        least = *v + 1;
+        rest = after;
     }
     if rest.is_empty() {
         Some(question)

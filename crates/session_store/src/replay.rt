@@ -14,15 +14,16 @@ ghost use Rattle.session_store.specs.Replay.{IsStrayIn, HavePlaces, NamesStray};
 
 use crate::SFault;
 use answer_journal::Events;
-use assign::{Event, MOST_VARIABLES, Partial};
+use assign::{Event, Partial, VarSet};
 use session_core::{Asking, Idle, Session};
 use std::alloc::Global;
 
 /// Whether a variable past the first n has a value.
 fn is_past(question: &Partial, n: u8) -> bool
+    requires { n ≤ 128 }
     ensures { result ≡ is_past n question.now }
 {
-    (0..MOST_VARIABLES).any(|v| v >= n && question.get(v).is_some())
+    !question.vars().within(VarSet::all(n))
 }
 
 /// The session after an answer to a new question, if that is lawful.
