@@ -3,9 +3,9 @@ use Rattle.answer_journal.proofs.Prelude.{◌≡◌, ℕ, zero, suc, ◌+◌, �
 use Rattle.std.proofs.lemmas.List.{take-take}
 use Rattle.std.proofs.lemmas.List.Concat.{flat_map-append}
 use Rattle.std.proofs.lemmas.List.Elements.{All-nil, All-cons, All-append}
-use Rattle.std.proofs.lemmas.Bool.{and_from, and_parts, le-leb, leb-true, lt-ltb, ltb-true}
-use Rattle.std.specs.Prelude.{slice_range, nat_le, nat_lt, ◌==◌, ◌&&◌}
-use Rattle.answer_journal.specs.EventList.{EventList, is_back, entry_bytes, answer_saying, event_in, events_from, ends_from, AreKept}
+use Rattle.std.proofs.lemmas.Bool.{and_parts, leb-true, ltb-true}
+use Rattle.std.specs.Prelude.{slice_range, nat_le, nat_lt, ◌&&◌}
+use Rattle.answer_journal.specs.EventList.{EventList, entry_bytes, answer_saying, event_in, events_from, ends_from, AreKept}
 
 -- ---- one entry
 
@@ -124,17 +124,6 @@ entry_at bytes ends events i d from to kept low f t =
     let one : i + 1 ≡ suc i = omega arith in
     ap (λ (l : List ℕ). slice_range l from to) kept.bytes_are ∙ entry_from events i d from to low f (t ∙ ap (λ (k : ℕ). place_after k events) one)
 
--- ---- the first byte of an entry
-
-pub entry_some : (e : Event) → 1 ≤ length (entry_bytes e)
-entry_some (Answer q said) = omega arith
-entry_some Back = omega arith
-
-pub first_says : (e : Event) (d : ℕ) → (get_or (entry_bytes e) 0 d == 2) ≡ is_back e
-first_says (Answer q true) d = refl
-first_says (Answer q false) d = refl
-first_says Back d = refl
-
 -- ---- the fields
 
 -- they keep what is seen of them
@@ -148,12 +137,6 @@ room_in bytes ends len most size room seen is there =
     let both = and_parts (nat_lt len most) (nat_le (size + 257) room) (ap (λ (x : EventList). x.has_room) is ∙ there) in
     (ltb-true len most both.0, leb-true (size + 257) room both.1)
 
-pub room_from : (len most size room : ℕ) → len < most → size + 257 ≤ room → (nat_lt len most && nat_le (size + 257) room) ≡ true
-room_from len most size room low fits = and_from (nat_lt len most) (nat_le (size + 257) room) (lt-ltb len most low) (le-leb (size + 257) room fits)
-
-pub kept_none : (bytes ends : List ℕ) → bytes ≡ [] → ends ≡ [] → AreKept bytes ends []
-kept_none bytes ends none no_ends = record { bytes_are = none; ends_are = no_ends; storable = All-nil IsStorableEvent }
-
 pub kept_more : (bytes ends bytes' ends' : List ℕ) (events : List Event) (e : Event) (end : ℕ) → AreKept bytes ends events → IsStorableEvent e
     → bytes' ≡ bytes ++ entry_bytes e → end ≡ length bytes' → ends' ≡ ends ++ end ∷ [] → AreKept bytes' ends' (events ++ e ∷ [])
 kept_more bytes ends bytes' ends' events e end kept fits more place ended =
@@ -163,6 +146,3 @@ kept_more bytes ends bytes' ends' events e end kept fits more place ended =
       ends_are = ended ∙ ap (λ (n : ℕ). ends ++ n ∷ []) (place ∙ ap length more) ∙ pushed.ends_are;
       storable = pushed.storable;
     }
-
-pub kept_same : (bytes ends bytes' ends' : List ℕ) (events : List Event) → AreKept bytes ends events → bytes' ≡ bytes → ends' ≡ ends → AreKept bytes' ends' events
-kept_same bytes ends bytes' ends' events kept same same_ends = record { bytes_are = same ∙ kept.bytes_are; ends_are = same_ends ∙ kept.ends_are; storable = kept.storable }

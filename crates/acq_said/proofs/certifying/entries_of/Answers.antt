@@ -6,8 +6,8 @@ use Rattle.acq_said.proofs.certifying.entries_of.Goals as goal
 pub overflow_sub-event : goal.overflow_sub-event
 overflow_sub-event c = (record_at c.args.events.now.items c.args.records.now c.loop-record.record-index 0 event.Back no_record c.requires.records c.loop-record-test.true).low
 
-pub get-requires : goal.get-requires
-get-requires c =
+pub get-event-requires : goal.get-event-requires
+get-event-requires c =
     let at = record_at c.args.events.now.items c.args.records.now c.loop-record.record-index 0 event.Back no_record c.requires.records c.loop-record-test.true in
     let low = at.low in
     let high = at.high in

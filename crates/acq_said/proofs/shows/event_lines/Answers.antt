@@ -12,8 +12,8 @@ few_numbers events numbers i is low few =
 pub overflow_sub-event : goal.overflow_sub-event
 overflow_sub-event c = (record_at c.args.events.now.items c.args.records.now c.loop-i.i 0 event.Back no_record c.requires.records c.loop-i-test.true).low
 
-pub get-requires : goal.get-requires
-get-requires c =
+pub get-event-requires : goal.get-event-requires
+get-event-requires c =
     let at = record_at c.args.events.now.items c.args.records.now c.loop-i.i 0 event.Back no_record c.requires.records c.loop-i-test.true in
     let low = at.low in
     let high = at.high in

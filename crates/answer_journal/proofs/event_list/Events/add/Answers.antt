@@ -1,4 +1,4 @@
-use Rattle.answer_journal.proofs.Prelude.{◌≡◌, ◌≤◌, ◌<◌, ◌+◌, ◌*◌, ◌++◌, ◌∷◌, [], ◌∙◌, ap, arith, length, length-append, flat_map, List, ℕ}
+use Rattle.answer_journal.proofs.Prelude.{◌≡◌, ◌++◌, ◌∙◌, ap, arith, length, List, ℕ}
 use Rattle.std.proofs.lemmas.Bool.{cond-true}
 use Rattle.std.specs.Prelude.{vec_len, vec_capacity}
 use Rattle.answer_journal.specs.EventList.{entry_bytes}

@@ -1,4 +1,4 @@
-use Rattle.answer_journal.proofs.Prelude.{◌≡◌, ◌∙◌, sym, ap, arith, length}
+use Rattle.answer_journal.proofs.Prelude.{◌∙◌, ap, arith, length}
 use Rattle.answer_journal.proofs.EventLists.{count_kept, end_at, kept_in}
 use Rattle.answer_journal.proofs.event_list.Events.end_of.Goals as goal
 
