@@ -179,12 +179,12 @@ empty_back_is events number e =
 -- ---- counting the records
 
 pub an_answer : (e : Event) → is_back e ≡ false → (q : Assignment) × (y : Bool) × (e ≡ variant.Answer q y)
-an_answer (variant.Answer q y) no = (q, y, refl)
-an_answer variant.Back no = absurd (let bad : true ≡ false = no in cc)
+an_answer (variant.Answer q y) is = (q, y, refl)
+an_answer variant.Back is = absurd (let bad : true ≡ false = is in cc)
 
 pub a_back : (e : Event) → is_back e ≡ true → e ≡ variant.Back
-a_back (variant.Answer q y) yes = absurd (let bad : false ≡ true = yes in cc)
-a_back variant.Back yes = refl
+a_back (variant.Answer q y) is = absurd (let bad : false ≡ true = is in cc)
+a_back variant.Back is = refl
 
 pub none_counted : (events : List Event) → AreStandingNumbers events 0 []
 none_counted events = record { before = []; is = refl; stand = refl; backs = refl }

@@ -8,7 +8,7 @@ pub loop-i-preserved : goal.loop-i-preserved
 loop-i-preserved c =
     let events : List Event = c.args.events.now.items in
     let i : ℕ = c.loop-i.i in
-    let low : i < length events = omega (arith, c.loop-i-test.true, c.len.ensures.len) in
+    let low : i < length events = omega (arith, c.loop-i-test.true, c.len-i-end.ensures.len) in
     let Counted : List ℕ → Type 0 = λ xs. AreStandingNumbers events (i + 1) xs in
     elim c.if-is_back.branch [
       | then-is_back+else-is_none w ↦
@@ -21,10 +21,10 @@ loop-i-preserved c =
 
 pub returns-clause-records : goal.returns-clause-records
 returns-clause-records c =
-    let end : length c.args.events.now.items ≤ c.loop-i.i = omega (arith, c.loop-i-test.false, c.len.ensures.len) in
+    let end : length c.args.events.now.items ≤ c.loop-i.i = omega (arith, c.loop-i-test.false, c.len-i-end.ensures.len) in
     (all_counted c.args.events.now.items c.loop-i.i c.loop-i.records.items end c.loop-i.invariant).0
 
 pub returns-clause-found : goal.returns-clause-found
 returns-clause-found c =
-    let end : length c.args.events.now.items ≤ c.loop-i.i = omega (arith, c.loop-i-test.false, c.len.ensures.len) in
+    let end : length c.args.events.now.items ≤ c.loop-i.i = omega (arith, c.loop-i-test.false, c.len-i-end.ensures.len) in
     (all_counted c.args.events.now.items c.loop-i.i c.loop-i.records.items end c.loop-i.invariant).1
