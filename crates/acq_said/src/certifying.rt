@@ -62,7 +62,8 @@ fn entries_of(
 {
     let mut entries = Vec::new(alloc);
     for record in records {
-        let event = events.get(*record as usize - 1);
+        let place = *record as usize - 1;
+        let event = events.get(place);
         entries.push(entry_of(lang, &event))?;
     }
     Ok(entries)

@@ -118,7 +118,8 @@ fn event_lines(
 {
     let mut text = String::new(alloc);
     for (i, record) in records.iter().enumerate() {
-        let event = events.get(*record as usize - 1);
+        let place = *record as usize - 1;
+        let event = events.get(place);
         push_event(alloc, &mut text, lang, i as u32 + 1, &event)?;
     }
     Ok(text)

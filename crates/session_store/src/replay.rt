@@ -137,7 +137,8 @@ pub(crate) fn replay_records(
 {
     let mut session = session;
     for record in records {
-        let event = events.get(*record as usize - 1);
+        let place = *record as usize - 1;
+        let event = events.get(place);
         match with_event(session, &event) {
             Some(next) => session = next,
             None => return Err(*record),

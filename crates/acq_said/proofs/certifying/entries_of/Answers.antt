@@ -3,8 +3,8 @@ use Rattle.assign.specs.declared.events.Event.TheVariants as event
 use Rattle.acq_said.proofs.Showing.{is_answer, no_record}
 use Rattle.acq_said.proofs.certifying.entries_of.Goals as goal
 
-pub overflow_sub-event : goal.overflow_sub-event
-overflow_sub-event c = (record_at c.args.events.now.items c.args.records.now c.loop-record.record-index 0 event.Back no_record c.requires.records c.loop-record-test.true).low
+pub overflow_sub-place : goal.overflow_sub-place
+overflow_sub-place c = (record_at c.args.events.now.items c.args.records.now c.loop-record.record-index 0 event.Back no_record c.requires.records c.loop-record-test.true).low
 
 pub get-event-requires : goal.get-event-requires
 get-event-requires c =

@@ -9,8 +9,8 @@ few_numbers events numbers i is low few =
     let most = few_recorded [] 1 events in
     omega (arith, size, low, few, most)
 
-pub overflow_sub-event : goal.overflow_sub-event
-overflow_sub-event c = (record_at c.args.events.now.items c.args.records.now c.loop-i.i 0 event.Back no_record c.requires.records c.loop-i-test.true).low
+pub overflow_sub-place : goal.overflow_sub-place
+overflow_sub-place c = (record_at c.args.events.now.items c.args.records.now c.loop-i.i 0 event.Back no_record c.requires.records c.loop-i-test.true).low
 
 pub get-event-requires : goal.get-event-requires
 get-event-requires c =

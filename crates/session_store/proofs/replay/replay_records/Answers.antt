@@ -11,8 +11,8 @@ none = record { answer = answer_to [] false; number = 0 }
 pub loop-record-init : goal.loop-record-init
 loop-record-init c = replay_none c.args.session (recorded c.args.events.now.items) c.requires.starts c.requires.idle
 
-pub overflow_sub-event : goal.overflow_sub-event
-overflow_sub-event c = (record_at c.args.events.now.items c.args.records.now c.loop-record.record-index 0 variant.Back none c.requires.records c.loop-record-test.true).low
+pub overflow_sub-place : goal.overflow_sub-place
+overflow_sub-place c = (record_at c.args.events.now.items c.args.records.now c.loop-record.record-index 0 variant.Back none c.requires.records c.loop-record-test.true).low
 
 pub get-event-requires : goal.get-event-requires
 get-event-requires c =
