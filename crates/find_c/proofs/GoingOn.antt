@@ -1,5 +1,5 @@
 -- Behind a reply the search for a tuple goes on in the row of the one that was asked about.
-use Rattle.find_c.proofs.Prelude.{◌≡◌, ℕ, zero, suc, ◌+◌, ◌-◌, ◌*◌, ◌%◌, ◌<◌, ◌≤◌, ◌^◌, Bool, true, false, cond, ◌&&◌, ◌||◌, not, List, [], ◌∷◌, length, drop, get_or, Option, Some, refl, sym, ◌∙◌, ap, subst, arith, pow-suc, mul_comm, find, filter, list_any, place, tuples, length-tuples, Language, IsLanguage, scope_at, scene_of, Choice, Scene, allows, tells_apart, splitting_tuple, TellingRun, IsRun, IsAtRow, IsFoundFrom}
+use Rattle.find_c.proofs.Prelude.{◌≡◌, ℕ, zero, suc, ◌+◌, ◌-◌, ◌*◌, ◌%◌, ◌<◌, ◌≤◌, ◌^◌, Bool, true, false, cond, ◌&&◌, ◌||◌, not, List, [], ◌∷◌, length, drop, get_or, Option, Some, None, refl, sym, ◌∙◌, ap, subst, arith, pow-suc, mul_comm, find, filter, list_any, place, tuples, length-tuples, Language, IsLanguage, scope_at, scene_of, Choice, Scene, allows, tells_apart, splitting_tuple, TellingRun, IsRun, IsAtRow, IsFoundFrom}
 use Rattle.std.proofs.Common.{◌/◌}
 use Rattle.std.proofs.Math.Bool.{and-false}
 use Rattle.std.proofs.Math.Nat.{add-mul, div-lt_iff_lt-mul}
@@ -15,7 +15,7 @@ pub record IsFirst {X : Type 0} (t : X → Bool) (xs : List X) (x d : X) : Type 
   pub before : (k : ℕ) → k < at → t (get_or xs k d) ≡ false
 
 found_at : {X : Type 0} (t : X → Bool) (xs : List X) (x d : X) → find t xs ≡ Some x → IsFirst t xs x d
-found_at t [] x d e = absurd (let is : ⊥ = cc in is)
+found_at t [] x d e = absurd (let no : None ≡ Some x = e in cc)
 found_at t (y ∷ xs) x d e = go (t y) refl e (found_at t xs x d)
   where
     behind : t y ≡ false → (first : IsFirst t xs x d) (k : ℕ) → k < suc first.at → t (get_or (y ∷ xs) k d) ≡ false
@@ -23,7 +23,7 @@ found_at t (y ∷ xs) x d e = go (t y) refl e (found_at t xs x d)
     behind off first (suc k) low = first.before k (omega arith)
 
     go : (b : Bool) → t y ≡ b → cond b (Some y) (find t xs) ≡ Some x → (find t xs ≡ Some x → IsFirst t xs x d) → IsFirst t (y ∷ xs) x d
-    go true on here rest = record { at = 0; low = omega arith; there = cc; before = λ k low. absurd (omega arith) }
+    go true on here rest = record { at = 0; low = omega arith; there = (let same : Some y ≡ Some x = here in cc); before = λ k low. absurd (omega arith) }
     go false off later rest =
         let first = rest later in
         let within = first.low in
@@ -36,7 +36,7 @@ none_more f q [] e = e
 none_more f q (x ∷ xs) e = go (f x) (q x) refl e (none_more f q xs)
   where
     go : (a b : Bool) → f x ≡ a → (a || list_any f xs) ≡ false → (list_any f xs ≡ false → list_any f (filter q xs) ≡ false) → list_any f (cond b (x ∷ filter q xs) (filter q xs)) ≡ false
-    go true b is e rest = absurd (let no : ⊥ = cc in no)
+    go true b is e rest = absurd (let no : true ≡ false = e in cc)
     go false true is e rest = ap (λ a. a || list_any f (filter q xs)) is ∙ rest e
     go false false is e rest = rest e
 

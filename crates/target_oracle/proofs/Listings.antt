@@ -1,14 +1,14 @@
 -- The candidates by first variables: together they are the network.
-use Rattle.target_oracle.proofs.Prelude.{◌≡◌, ℕ, zero, suc, ◌+◌, ◌<◌, ◌≤◌, Bool, true, false, cond, not, ◌&&◌, ◌||◌, ◌==◌, List, [], ◌∷◌, ◌++◌, length, map, get_or, ◌⊎◌, Option, Some, None, refl, sym, ◌∙◌, ap, subst, arith, inl, inr, All, filter, list_all, numbers, IsNetwork, Language, IsCandidate, Candidate, accepts, violates, scope_of}
+use Rattle.target_oracle.proofs.Prelude.{◌≡◌, ℕ, zero, suc, ◌+◌, ◌<◌, ◌≤◌, Bool, true, false, cond, not, ◌&&◌, ◌||◌, ◌==◌, List, [], ◌∷◌, ◌++◌, length, drop, map, get_or, ◌⊎◌, Option, Some, None, refl, sym, ◌∙◌, ap, subst, arith, inl, inr, All, filter, list_all, numbers, IsNetwork, Language, IsCandidate, Candidate, accepts, violates, scope_of}
 use Rattle.std.proofs.Common.{Global, Vec}
 use Rattle.std.specs.Prelude.{is_some, vec_items}
 use Rattle.std.specs.Option.{option_map}
 use Rattle.std.proofs.lemmas.Bool.{and_parts, cases_eq, eq-eqb, ne_eqb, not-false}
 use Rattle.std.proofs.lemmas.List.{get_or-map, length-map, map-append}
 use Rattle.std.proofs.lemmas.List.Elements.{All-filter}
-use Rattle.std.proofs.lemmas.List.FromFn.{get_or-map-range_with_len, get_or-range_with_len, length-range_with_len, map-range_with_len_more}
+use Rattle.std.proofs.lemmas.List.FromFn.{get_or-map-range_with_len, get_or-range_with_len, length-map-range_with_len, length-range_with_len, map-range_with_len_more}
 use Rattle.assign.specs.Assignment.{Assignment, value_of, variables_of, covers}
-use Rattle.assign.specs.Sets.{MOST, has}
+use Rattle.assign.specs.Sets.{MOST, has, least_of}
 unfoldable use Rattle.assign.specs.Sets.{set_where}
 use Rattle.assign.specs.SetLemmas.{has-set_where}
 use Rattle.language.specs.Language.{IsLanguage, IsScope}
@@ -70,6 +70,24 @@ violated_shown l lawful c candidate q violated =
     has-set_where (λ v. is_some (value_of q v)) (first_of l c) (known (length l.names) (scope_of l c) scope lawful.few_variables)
     ∙ shown q (scope_of l c) scope.not_empty covered
 
+-- ---- lists by number
+
+zero_more : (v : ℕ) → 0 + v ≡ v
+zero_more v = omega arith
+
+all_below : (n : ℕ) → All (λ v. v < n) (numbers n)
+all_below n k d low =
+    let size = length-range_with_len 0 n in
+    let here : k < n = omega (arith, size, low) in
+    let is = get_or-range_with_len 0 n k d here in
+    omega (arith, is, here)
+
+all_made : (P : List Candidate → Type 0) (f : ℕ → List Candidate) → ((v : ℕ) → P (f v)) → (n : ℕ) → All P (map f (numbers n))
+all_made P f each n k d low =
+    let size = length-map-range_with_len f 0 n in
+    let here : k < n = omega (arith, size, low) in
+    subst P (sym (get_or-map-range_with_len f 0 n k k d here (zero_more k))) (each k)
+
 -- ---- all candidates
 
 module _ (l : Language) (lawful : IsLanguage l) (q : Assignment) where
@@ -90,10 +108,10 @@ module _ (l : Language) (lawful : IsLanguage l) (q : Assignment) where
 
   below : All (λ v. v < 128) (variables_of q)
   unfolding set_where
-  below = All-filter (λ v. is_some (value_of q v)) (λ v. v < 128) (numbers 128) (λ k d low. let size = length-range_with_len 0 128 in let is = get_or-range_with_len 0 128 k d (omega (arith, size, low)) in omega (arith, is, size, low))
+  below = All-filter (λ v. is_some (value_of q v)) (λ v. v < 128) (numbers 128) (all_below 128)
 
   list_at : (network : List Candidate) (v : ℕ) → v < 128 → get_or (listed l network) v [] ≡ filter (is_first l v) network
-  list_at network v low = get_or-map-range_with_len (λ v. filter (is_first l v) network) 0 128 v v [] low (omega arith)
+  list_at network v low = get_or-map-range_with_len (λ w. filter (is_first l w) network) 0 128 v v [] low (zero_more v)
 
   -- those that are listed for the variables that are shown
   pub by_lists : (network : List Candidate) (lists : List (List Candidate)) → IsNetwork l network → lists ≡ listed l network → list_all (accepts_at l lists q) (variables_of q) ≡ accepts l network q
@@ -103,29 +121,47 @@ module _ (l : Language) (lawful : IsLanguage l) (q : Assignment) where
       ∙ by_firsts network candidates
 
 -- each list is of candidates
-pub all_networks : (l : Language) (network : List Candidate) → IsNetwork l network → All (IsNetwork l) (listed l network)
-all_networks l network candidates k d low =
-    let size = length-map (numbers 128) (λ v. filter (is_first l v) network) in
-    let count = length-range_with_len 0 128 in
-    let here : k < 128 = omega (arith, size, count, low) in
-    subst (IsNetwork l) (sym (get_or-map-range_with_len (λ v. filter (is_first l v) network) 0 128 k k d here (omega arith))) (All-filter (is_first l k) (IsCandidate l) network candidates)
-
-pub count_listed : (l : Language) (network : List Candidate) → length (listed l network) ≡ 128
-count_listed l network = length-map (numbers 128) (λ v. filter (is_first l v) network) ∙ length-range_with_len 0 128
+all_networks : (l : Language) (network : List Candidate) → IsNetwork l network → All (IsNetwork l) (listed l network)
+all_networks l network candidates = all_made (IsNetwork l) (λ v. filter (is_first l v) network) (λ v. All-filter (is_first l v) (IsCandidate l) network candidates) 128
 
 -- ---- the lists as they are made and taken
 
 pub list_more : (f : ℕ → List Candidate) (v : ℕ) (items new : List (Vec Candidate Global)) (list : Vec Candidate Global) → new ≡ items ++ list ∷ [] → list.items ≡ f v → map vec_items items ≡ map f (numbers v) →
     map vec_items new ≡ map f (numbers (v + 1))
 list_more f v items new list more is so_far =
-    ap (map vec_items) more ∙ map-append (λ (s : Vec Candidate Global). vec_items s) items (list ∷ []) ∙ (λ i. so_far i ++ is i ∷ []) ∙ sym (map-range_with_len_more f 0 v v (omega arith))
+    ap (map vec_items) more ∙ map-append (λ (s : Vec Candidate Global). vec_items s) items (list ∷ []) ∙ (λ i. so_far i ++ is i ∷ []) ∙ sym (map-range_with_len_more f 0 v v (zero_more v))
+
+all_items : (P : List Candidate → Type 0) (lists : List (Vec Candidate Global)) → All P (map vec_items lists) → All (λ (list : Vec Candidate Global). P list.items) lists
+all_items P lists all k d low =
+    let size = length-map lists (λ (x : Vec Candidate Global). vec_items x) in
+    subst P (get_or-map (λ (x : Vec Candidate Global). vec_items x) lists k d [] low) (all k [] (omega (arith, size, low)))
 
 -- each of them is of candidates
 pub networks_listed : (l : Language) (network : List Candidate) (lists : List (Vec Candidate Global)) → IsNetwork l network → map vec_items lists ≡ listed l network → All (λ (list : Vec Candidate Global). IsNetwork l list.items) lists
-networks_listed l network lists candidates are k d low =
-    let size = length-map lists (λ (x : Vec Candidate Global). vec_items x) in
-    let here = subst (All (IsNetwork l)) (sym are) (all_networks l network candidates) in
-    subst (IsNetwork l) (get_or-map (λ (x : Vec Candidate Global). vec_items x) lists k d [] low) (here k [] (omega (arith, size, low)))
+networks_listed l network lists candidates are = all_items (IsNetwork l) lists (subst (All (IsNetwork l)) (sym are) (all_networks l network candidates))
+
+-- there is one for each variable
+pub count_listed : (l : Language) (network : List Candidate) (lists : List (Vec Candidate Global)) → map vec_items lists ≡ listed l network → length lists ≡ 128
+count_listed l network lists are =
+    sym (length-map lists (λ (x : Vec Candidate Global). vec_items x)) ∙ ap length are ∙ length-map-range_with_len (λ v. filter (is_first l v) network) 0 128
+
+-- ---- one variable after another
+
+pub left_first : (f : ℕ → Bool) (left rest : List ℕ) (v : ℕ) → Some v ≡ least_of left → rest ≡ drop 1 left → list_all f left ≡ (f v && list_all f rest)
+left_first f [] rest v h rests = absurd (let no : Some v ≡ None = h in cc)
+left_first f (w ∷ left) rest v h rests = let same : v ≡ w = cc in (λ i. f (sym same i) && list_all f (sym rests i))
+
+pub left_fewer : (left rest : List ℕ) (v : ℕ) → Some v ≡ least_of left → rest ≡ drop 1 left → length left ≡ length rest + 1
+left_fewer [] rest v h rests = absurd (let no : Some v ≡ None = h in cc)
+left_fewer (w ∷ left) rest v h rests = let same = ap length rests in omega (arith, same)
+
+pub none_left : (f : ℕ → Bool) (left : List ℕ) → None ≡ least_of left → list_all f left ≡ true
+none_left f [] h = refl
+none_left f (w ∷ left) h = absurd (let no : None ≡ Some w = h in cc)
+
+-- what the list of a variable says
+pub said_at : (l : Language) (lists : List (Vec Candidate Global)) (q : Assignment) (v : ℕ) (d : Vec Candidate Global) → v < length lists → accepts_at l (map vec_items lists) q v ≡ accepts l (get_or lists v d).items q
+said_at l lists q v d low = ap (λ (list : List Candidate). accepts l list q) (get_or-map (λ (x : Vec Candidate Global). vec_items x) lists v d [] low)
 
 -- those of a teacher that has them
 pub lists_are : (l : Language) (network : List Candidate) (some : Option (Vec (Vec Candidate Global) Global)) (lists : Vec (Vec Candidate Global) Global) → AreListed l network (option_map (λ ls. map vec_items ls.items) some) → some ≡ Some lists

@@ -23,5 +23,5 @@ returns-in-Some c =
     let are = lists_are l c.self.inside.network.list c.self.inside.lists c.in-Some.lists listed c.in-Some.is in
     c.accepts_listed.ensures
     ∙ ap (λ lists. list_all (accepts_at l (map vec_items lists) q) (variables_of q)) c.deref.ensures.value
-    ∙ by_lists l c.n-_variables.ensures.lawful q c.self.inside.network.list (map vec_items c.in-Some.lists.items) candidates are
+    ∙ by_lists l c.n-variables.ensures.lawful q c.self.inside.network.list (map vec_items c.in-Some.lists.items) candidates are
     ∙ ap (λ (x : Owner). accepts l x.network q) c.self.view_is
