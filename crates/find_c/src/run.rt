@@ -169,10 +169,10 @@ impl RelRun {
 
     /// Where the reply leads, given the place of the tuple and the relations that accept it. The
     /// choices that are left didn't differ before the tuple, so the search goes on in its row.
-    fn told(self, lang: &Language, place: u32, accepting: u64, yes: bool) -> RelNext
+    fn told(self, lang: &Language, tuple_place: u32, accepting: u64, yes: bool) -> RelNext
         requires run { IsRun lang.now self }
-        requires place { place ≡ place lang.now.value_count self.tuple }
-        requires below { place < lang.now.value_count ^ length (scope_at lang.now self.scope) }
+        requires place { tuple_place ≡ place lang.now.value_count self.tuple }
+        requires below { tuple_place < lang.now.value_count ^ length (scope_at lang.now self.scope) }
         requires accepting { (c : Choice) → is_accepting accepting c
             ≡ allows_at (scene_of lang.now self.scope) (place lang.now.value_count self.tuple) c }
         ensures settled { LeavesChoices lang.now self.scope
@@ -183,7 +183,7 @@ impl RelRun {
         ensures some { result ≢ RelNext.Nothing }
     {
         let size = u32::from(lang.d());
-        let row = place - place % size;
+        let row = tuple_place - tuple_place % size;
         let RelRun { scope, choices, .. } = self;
         settle(lang, scope, choices.agreeing(accepting, yes), Some(row))
     }

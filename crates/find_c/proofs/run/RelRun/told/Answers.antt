@@ -28,11 +28,11 @@ pub settle-requires-clause-from : goal.settle-requires-clause-from
 settle-requires-clause-from c =
     let l = c.args.lang.now in
     let run = run_of c.self.inside in
-    let at : c.args.place ≡ place l.value_count c.self.inside.tuple = c.requires.place ∙ ap (λ (r : TellingRun). place l.value_count r.tuple) (sym c.self.view_is) in
-    let low : c.args.place < l.value_count ^ length (scope_at l c.self.inside.scope) = subst (λ (r : TellingRun). c.args.place < l.value_count ^ length (scope_at l r.scope)) (sym c.self.view_is) c.requires.below in
-    subst (λ d. IsFoundFrom l run.scope c.agreeing.result (c.args.place - c.args.place % d)) (sym (c.from-size.ensures ∙ c.d.ensures.is))
-    (subst (λ cs. IsFoundFrom l run.scope cs (c.args.place - c.args.place % l.value_count)) (sym c.agreeing.ensures)
-    (goes_on l c.d.ensures.lawful run (sound l c.self.inside c.args.self c.self.view_is c.requires.run) (λ x. beq (is_accepting c.args.accepting x) c.args.yes) c.args.place at low))
+    let at : c.args.tuple_place ≡ place l.value_count c.self.inside.tuple = c.requires.place ∙ ap (λ (r : TellingRun). place l.value_count r.tuple) (sym c.self.view_is) in
+    let low : c.args.tuple_place < l.value_count ^ length (scope_at l c.self.inside.scope) = subst (λ (r : TellingRun). c.args.tuple_place < l.value_count ^ length (scope_at l r.scope)) (sym c.self.view_is) c.requires.below in
+    subst (λ d. IsFoundFrom l run.scope c.agreeing.result (c.args.tuple_place - c.args.tuple_place % d)) (sym (c.from-size.ensures ∙ c.d.ensures.is))
+    (subst (λ cs. IsFoundFrom l run.scope cs (c.args.tuple_place - c.args.tuple_place % l.value_count)) (sym c.agreeing.ensures)
+    (goes_on l c.d.ensures.lawful run (sound l c.self.inside c.args.self c.self.view_is c.requires.run) (λ x. beq (is_accepting c.args.accepting x) c.args.yes) c.args.tuple_place at low))
 
 pub returns-clause-settled : goal.returns-clause-settled
 returns-clause-settled c =
