@@ -172,7 +172,8 @@ impl RelRun {
     fn told(self, lang: &Language, tuple_place: u32, accepting: u64, yes: bool) -> RelNext
         requires run { IsRun lang.now self }
         requires place { tuple_place ≡ place lang.now.value_count self.tuple }
-        requires below { tuple_place < lang.now.value_count ^ length (scope_at lang.now self.scope) }
+        requires below { tuple_place
+            < lang.now.value_count ^ length (scope_at lang.now self.scope) }
         requires accepting { (c : Choice) → is_accepting accepting c
             ≡ allows_at (scene_of lang.now self.scope) (place lang.now.value_count self.tuple) c }
         ensures settled { LeavesChoices lang.now self.scope
