@@ -15,8 +15,8 @@ returns-then-rejects_first c =
 pub at-requires-clause-place : goal.at-requires-clause-place
 at-requires-clause-place c = one-le-pow (length c.scope.result.now) c.d-value_count.result (let some = c.d-value_count.ensures.lawful.some_value in let is = c.d-value_count.ensures.is in omega arith)
 
-pub tuple_searched-2-requires-clause-from : goal.tuple_searched-2-requires-clause-from
-tuple_searched-2-requires-clause-from c = from_first_row c.args.lang.now c.args.s c.args.choices.now (c.d-value_count.ensures.lawful.scopes c.args.s [] c.requires.scope).not_empty
+pub tuple_searched-requires-2-clause-from : goal.tuple_searched-requires-2-clause-from
+tuple_searched-requires-2-clause-from c = from_first_row c.args.lang.now c.args.s c.args.choices.now (c.d-value_count.ensures.lawful.scopes c.args.s [] c.requires.scope).not_empty
 
 pub tuple_searched-requires-clause-from : goal.tuple_searched-requires-clause-from
 tuple_searched-requires-clause-from c =
