@@ -78,7 +78,7 @@ def passed_over() -> list[str]:
 
 def called(*words: str) -> None:
     """Calls apt-get, which may fail: what is missing then is passed over."""
-    subprocess.run(["apt-get", "-o", "DPkg::Lock::Timeout=300", *words],
+    subprocess.run(["apt-get", *words, "-o", "DPkg::Lock::Timeout=300"],
                    env={**os.environ, "DEBIAN_FRONTEND": "noninteractive"}, stdin=subprocess.DEVNULL,
                    stdout=subprocess.DEVNULL, stderr=subprocess.DEVNULL, check=False)
 

@@ -55,7 +55,7 @@ def install() -> None:
         return
     print(f"web: installing by apt-get, which NO_INSTALL=1 would forbid: {' '.join(packages)}", flush=True)
     for words in (["update"], *(["install", "-y", "--no-install-recommends", package] for package in packages)):
-        subprocess.run(["apt-get", "-o", "DPkg::Lock::Timeout=300", *words],
+        subprocess.run(["apt-get", *words, "-o", "DPkg::Lock::Timeout=300"],
                        env={**os.environ, "DEBIAN_FRONTEND": "noninteractive"}, stdin=subprocess.DEVNULL,
                        stdout=subprocess.DEVNULL, stderr=subprocess.DEVNULL, check=False)
     importlib.invalidate_caches()

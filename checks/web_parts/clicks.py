@@ -396,6 +396,8 @@ def week(program: str) -> Faults:
                 browser.leads(lambda: browser.clicks("main li a"))
                 if browser.all("input[name=ask]:checked")[-1].get_property("value") != "Mon early - Tue early" or "(1 ticked)" not in browser.text("#words"):
                     yield f"what would explain a wrong plan isn't ticked: {browser.text('#ask')[-300:]!r}"
+                if "Not saved yet." not in browser.text("#comes-live"):
+                    yield "a form with what would explain a wrong plan is shown as if it were saved"
                 browser.go(told)
                 browser.settled()
             elif not browser.all(".clash"):
@@ -588,6 +590,7 @@ PLANTED = (
      "  table.shape { font-size: .8rem; }\n  table.shape td, table.shape th { padding: .1rem .2rem; min-width: 1.4rem; }\n",
      "", week),
     ("templates/base.html", "{{ name.removesuffix('.case') }}", "{{ name }}", week),
+    ("cases.py", "text = forms.written(shown, stored.text)", "text = stored.text", week),
     ("templates/unsayable.html", "{{ line|quoted }}", "{{ line }}", week),
     ("templates/done.html", "{% if sheet.judged %}.{% elif sheet.solver %}",
      "{% if sheet.solver %}", week),

@@ -185,7 +185,8 @@ def show(name: str) -> str:
     )
     shown = dataclasses.replace(form, words=(*form.words, *add), ask=(*form.ask, *group))
     if add or group:
-        judged = dataclasses.replace(judged, form=shown)
+        text = forms.written(shown, stored.text)
+        judged = dataclasses.replace(faults.judged(text, name), form=shown)
     return rendered(
         Page(name, stored, judged, fields.sent_of(shown), saved="saved" in request.args)
     )
