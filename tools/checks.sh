@@ -1,6 +1,7 @@
 #!/bin/sh
-# Runs the checks of checks/ on a built program, as many side by side as there are processors. What one prints comes in one piece when it
-# ends, and the last line counts. .ci/run and check-quick call it.
+# Runs the checks of checks/ on a built program, as many side by side as there are processors; desk.py before the others, since it
+# reads terminals while they are drawn. What one prints comes in one piece when it ends, and the last line counts. .ci/run and
+# check-quick call it.
 #
 # usage: tools/checks.sh PROGRAM [LEFT-OUT]
 #
@@ -9,6 +10,7 @@
 set -u
 [ $# -eq 1 ] || [ $# -eq 2 ] || { sed -n '2,/^set/s/^#.\{0,1\}//p' "$0"; exit 2; }
 home=$(cd -P -- "$(dirname -- "$0")/.." && pwd) || exit 2
+program=$1
 room=$(mktemp -d) || exit 2
 trap 'rm -rf "$room"' EXIT
 trap 'exit 130' HUP INT TERM
@@ -24,7 +26,8 @@ trap 'exit 130' HUP INT TERM
 
 # The words of the shell that runs a check are the folder, the program, what is kept between runs, and the file of the check.
 # shellcheck disable=SC2016
-xargs -0 -n 1 -P "$(nproc)" sh -c '
+side_by_side() {
+    xargs -0 -n 1 -P "$1" sh -c '
     name=$(basename "$3")
     case $name in
     wrong_bodies.py) "$3" --room "$2" ;;
@@ -33,7 +36,10 @@ xargs -0 -n 1 -P "$(nproc)" sh -c '
     echo "$?" >"$0/$name.status"
     echo "== $name: $(grep -qx 0 "$0/$name.status" && echo passed || echo "failed, with status $(cat "$0/$name.status")")
 $(cat "$0/$name.said")"
-' "$room" "$1" "$home/.ci/out/wrong_bodies" <"$room/checks"
+' "$room" "$program" "$home/.ci/out/wrong_bodies"
+}
+grep -z '/desk\.py$' <"$room/checks" | side_by_side 1
+grep -zv '/desk\.py$' <"$room/checks" | side_by_side "$(nproc)"
 
 count=$(tr -cd '\0' <"$room/checks" | wc -c)
 passed=$(cat "$room"/*.status 2>/dev/null | grep -cx 0)
