@@ -27,7 +27,7 @@ trap 'exit 130' HUP INT TERM
 # The words of the shell that runs a check are the folder, the program, what is kept between runs, and the file of the check.
 # shellcheck disable=SC2016
 side_by_side() {
-    xargs -0 -n 1 -P "$1" sh -c '
+    xargs -0 -r -n 1 -P "$1" sh -c '
     name=$(basename "$3")
     case $name in
     wrong_bodies.py) "$3" --room "$2" ;;
