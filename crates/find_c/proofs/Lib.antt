@@ -8,5 +8,6 @@ pub mod Between
 pub mod Differences
 pub mod Replies
 pub mod Filling
+pub mod GoingOn
 pub mod Starting
 pub mod Told

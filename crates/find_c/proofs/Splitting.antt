@@ -13,8 +13,8 @@ pub agreeing_is : (scene : Scene) (cs next : List Choice) (u : List ℕ) (p mask
     next ≡ filter (λ c. beq (is_accepting mask c) reply) cs → next ≡ after_reply scene u reply cs
 agreeing_is scene cs next u p mask reply e each is = is ∙ (λ i. filter (λ c. beq ((each c ∙ allows_there scene u p e c) i) reply) cs)
 
-there : (d a p : ℕ) → p < d ^ a → place d (get_or (tuples d a) p []) ≡ p
-there d a p low = ap (place d) (get_or-tuples d a p low) ∙ place-tuple_at d a p low
+pub place_there : (d a p : ℕ) → p < d ^ a → place d (get_or (tuples d a) p []) ≡ p
+place_there d a p low = ap (place d) (get_or-tuples d a p low) ∙ place-tuple_at d a p low
 
 find_from : {X : Type 0} (t : X → Bool) (xs : List X) (k : ℕ) (x : X) → k < length xs → find t (drop k xs) ≡ cond (t (get_or xs k x)) (Some (get_or xs k x)) (find t (drop (k + 1) xs))
 find_from t xs k x low = ap (find t) (drop-cons xs k x low) ∙ ap (λ j. cond (t (get_or xs k x)) (Some (get_or xs k x)) (find t (drop j xs))) (let e : suc k ≡ k + 1 = omega arith in e)
@@ -27,8 +27,8 @@ module _ (scene : Scene) (cs : List Choice) where
 
   pub tells_there : (p : ℕ) → p < scene.value_count ^ scene.arity → differ_at scene cs p ≡ tells_apart scene cs (get_or us p [])
   tells_there p low = λ i.
-      list_any (λ c. allows_there scene (get_or us p []) p (there scene.value_count scene.arity p low) c i) cs
-      && list_any (λ c. not (allows_there scene (get_or us p []) p (there scene.value_count scene.arity p low) c i)) cs
+      list_any (λ c. allows_there scene (get_or us p []) p (place_there scene.value_count scene.arity p low) c i) cs
+      && list_any (λ c. not (allows_there scene (get_or us p []) p (place_there scene.value_count scene.arity p low) c i)) cs
 
   turn : (p : ℕ) → p < scene.value_count ^ scene.arity → find (tells_apart scene cs) (drop p us) ≡ cond (differ_at scene cs p) (Some (get_or us p [])) (find (tells_apart scene cs) (drop (p + 1) us))
   turn p low =

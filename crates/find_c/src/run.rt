@@ -1,7 +1,7 @@
 //! Telling the choices on a scope apart, a reply at a time.
 
 ghost use Rattle.std.specs.Prelude.{ℕ, ◌≡◌, ◌≢◌, ◌↔◌, ◌⊎◌, ◌^◌, ◌<◌, Bool, true, false, List, []};
-ghost use Rattle.std.specs.Prelude.{◌∷◌, ◌++◌, length, Some, None, slice_index_or, All};
+ghost use Rattle.std.specs.Prelude.{◌∷◌, ◌++◌, length, Some, None, slice_index_or, All, IfSome};
 ghost use Rattle.rel_table.specs.Relation.{place, tuples};
 ghost use Rattle.language.specs.Language.{is_whole, scope_at, IsQuestion};
 ghost use Rattle.bias_store.specs.KeptSet.{IsMadeFor};
@@ -72,7 +72,7 @@ impl RelRun {
             ↔ (violated_choices lang.now kept.now.members e.now s ≡ []) }
         ensures no_free { result ≢ RelNext.Free }
     {
-        settle(lang, s, violated_choices(lang, kept, s, e), false)
+        settle(lang, s, violated_choices(lang, kept, s, e), None)
     }
 
     /// Begins with all kept candidates on a scope, and none of them as a further choice.
@@ -83,7 +83,7 @@ impl RelRun {
         ensures stands { RelStandsFor result lang.now s (free_choices kept.now.members s) [] }
         ensures some { result ≢ RelNext.Nothing }
     {
-        settle(lang, s, Choices::new(kept.on_scope(s), true), true)
+        settle(lang, s, Choices::new(kept.on_scope(s), true), None)
     }
 
     /// The run on all kept candidates on a scope, and none of them, where the place of its question
@@ -138,7 +138,7 @@ impl RelRun {
     {
         let place = self.place(lang);
         let mask = lang.accepting(self.scope(), place);
-        self.told(lang, mask, yes)
+        self.told(lang, place, mask, yes)
     }
 
     /// `reply`, for which the tables beside the kept candidates tell at once which relations accept
@@ -155,7 +155,7 @@ impl RelRun {
     {
         let place = self.place(lang);
         let mask = kept.accepting(lang, self.scope(), place);
-        self.told(lang, mask, yes)
+        self.told(lang, place, mask, yes)
     }
 
     /// The place of the tuple that is asked about.
@@ -167,9 +167,13 @@ impl RelRun {
         place_of(lang.d(), self.tuple.values()) as u32
     }
 
-    /// Where the reply leads, given the relations that accept the tuple.
-    fn told(self, lang: &Language, accepting: u64, yes: bool) -> RelNext
+    /// Where the reply leads, given the place of the tuple and the relations that accept it. The
+    /// choices that are left didn't differ before the tuple, so the search goes on in its row.
+    fn told(self, lang: &Language, tuple_place: u32, accepting: u64, yes: bool) -> RelNext
         requires run { IsRun lang.now self }
+        requires place { tuple_place ≡ place lang.now.value_count self.tuple }
+        requires below { tuple_place
+            < lang.now.value_count ^ length (scope_at lang.now self.scope) }
         requires accepting { (c : Choice) → is_accepting accepting c
             ≡ allows_at (scene_of lang.now self.scope) (place lang.now.value_count self.tuple) c }
         ensures settled { LeavesChoices lang.now self.scope
@@ -179,8 +183,10 @@ impl RelRun {
             RelStandsFor result lang.now self.scope choices (replies ++ yes ∷ []) }
         ensures some { result ≢ RelNext.Nothing }
     {
+        let size = u32::from(lang.d());
+        let row = tuple_place - tuple_place % size;
         let RelRun { scope, choices, .. } = self;
-        settle(lang, scope, choices.agreeing(accepting, yes), false)
+        settle(lang, scope, choices.agreeing(accepting, yes), Some(row))
     }
 }
 
@@ -199,11 +205,11 @@ fn violated_choices(lang: &Language, kept: &Kept, s: ScopeId, e: &Partial) -> Ch
     }
 }
 
-/// Where choices on a scope stand. `new` says whether the first tuple may tell them apart: behind a
-/// reply it doesn't any more.
-fn settle(lang: &Language, scope: ScopeId, choices: Choices, new: bool) -> RelNext
+/// Where choices on a scope stand. Behind a reply it is known from which row on they may differ.
+fn settle(lang: &Language, scope: ScopeId, choices: Choices, from: Option<u32>) -> RelNext
     requires scope { scope < length lang.now.scopes }
     requires known { All (IsChoiceOn lang.now scope) choices }
+    requires from { IfSome from (IsFoundFrom lang.now scope choices) }
     ensures settled { LeavesChoices lang.now scope choices result }
     ensures stands { RelStandsFor result lang.now scope choices [] }
     ensures nothing { (result ≡ RelNext.Nothing) ↔ (choices ≡ []) }
@@ -211,7 +217,7 @@ fn settle(lang: &Language, scope: ScopeId, choices: Choices, new: bool) -> RelNe
     if choices.is_empty() {
         return RelNext::Nothing;
     }
-    if let Some(tuple) = splitting_tuple(lang, scope, &choices, new) {
+    if let Some(tuple) = splitting_tuple(lang, scope, &choices, from) {
         return RelNext::Wants(RelRun {
             scope,
             choices,
@@ -226,27 +232,34 @@ fn settle(lang: &Language, scope: ScopeId, choices: Choices, new: bool) -> RelNe
 
 /// The least tuple on which two choices differ. Where nothing is answered yet and none of the
 /// relations is a choice too, mostly it is the first one, which one relation tells.
-fn splitting_tuple(lang: &Language, s: ScopeId, choices: &Choices, new: bool) -> Option<Tuple>
+fn splitting_tuple(
+    lang: &Language,
+    s: ScopeId,
+    choices: &Choices,
+    from: Option<u32>,
+) -> Option<Tuple>
     requires scope { s < length lang.now.scopes }
     requires known { All (IsChoiceOn lang.now s) choices.now }
+    requires from { IfSome from (IsFoundFrom lang.now s choices.now) }
     ensures { result ≡ splitting_tuple (scene_of lang.now s) choices.now }
 {
-    if !new {
-        return tuple_searched(lang, s, choices);
+    if let Some(row) = from {
+        return tuple_searched(lang, s, choices, row);
     }
     let value_count = lang.d();
     if choices.rejects_first(lang, s) {
         return Some(Tuple::at(value_count, lang.scope(s).len() as u8, 0));
     }
-    tuple_searched(lang, s, choices)
+    tuple_searched(lang, s, choices, 0)
 }
 
-/// The same, looked for among all values of the last variable at once.
+/// The same, looked for from a row on, among all values of the last variable at once.
 // Always inlined: what each reply leads to would be moved from it.
 #[inline(always)]
-fn tuple_searched(lang: &Language, s: ScopeId, choices: &Choices) -> Option<Tuple>
+fn tuple_searched(lang: &Language, s: ScopeId, choices: &Choices, from: u32) -> Option<Tuple>
     requires scope { s < length lang.now.scopes }
     requires known { All (IsChoiceOn lang.now s) choices.now }
+    requires from { IsFoundFrom lang.now s choices.now from }
     ensures { result ≡ splitting_tuple (scene_of lang.now s) choices.now }
 {
     if choices.is_single() {
@@ -256,7 +269,7 @@ fn tuple_searched(lang: &Language, s: ScopeId, choices: &Choices) -> Option<Tupl
     let row = u32::from(value_count);
     let size = lang.scope(s).len() as u8;
     let places = place_count(value_count, size);
-    let mut place = first_row(lang, s, choices, places);
+    let mut place = first_row(lang, s, choices, places, from);
     while place < places {
         // 64, which is no value of a row, where they don't differ.
         let y = choices.differences(lang, s, place).trailing_zeros();
@@ -268,27 +281,30 @@ fn tuple_searched(lang: &Language, s: ScopeId, choices: &Choices) -> Option<Tupl
     None
 }
 
-/// A row such that no two choices differ before it. Where one relation alone is told apart from
-/// none, on a scope whose variables have all values, it is the first on which the relation rejects
-/// a tuple, or the end: there may be thousands before it. Else it is the first row.
-fn first_row(lang: &Language, s: ScopeId, choices: &Choices, places: u32) -> u32
+/// From a row such that no two choices differ before it, a further one. Where one relation alone is
+/// told apart from none, on a scope whose variables have all values, it is the first from there on
+/// in which the relation rejects a tuple, or the end: there may be thousands before it. Else it is
+/// the same row.
+fn first_row(lang: &Language, s: ScopeId, choices: &Choices, places: u32, from: u32) -> u32
     requires scope { s < length lang.now.scopes }
     requires known { All (IsChoiceOn lang.now s) choices.now }
     requires places { places ≡ lang.now.value_count ^ length (scope_at lang.now s) }
+    requires from { IsFoundFrom lang.now s choices.now from }
     ensures found { IsFoundFrom lang.now s choices.now result }
     ensures furthest { (r : ℕ) → beside_none choices.now ≡ Some r → is_whole lang.now s ≡ true →
         IsFurthest lang.now s choices.now result }
-    ensures first { (beside_none choices.now ≡ None) ⊎ (is_whole lang.now s ≡ false) → result ≡ 0 }
+    ensures first { (beside_none choices.now ≡ None) ⊎ (is_whole lang.now s ≡ false) →
+        result ≡ from }
 {
     let row = u32::from(lang.d());
     let Some(r) = choices.beside_none() else {
-        return 0;
+        return from;
     };
     if !lang.is_whole(s) {
-        return 0;
+        return from;
     }
     let table = lang.table_on(s, r);
-    let mut place = 0;
+    let mut place = from;
     while place < places {
         let y = (!table.row(place)).trailing_zeros();
         if y < row {

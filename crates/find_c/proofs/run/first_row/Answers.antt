@@ -1,15 +1,6 @@
-use Rattle.find_c.proofs.Prelude.{◌+◌, ◌^◌, ◌<◌, get_or, length, false, [], inl, inr, sym, ◌∙◌, ap, arith, bit_not, trailing_zeros, w64, scope_at, scene_of}
-use Rattle.find_c.proofs.Splitting.{from_first_row, from_next_row, at_end, lowest_is, rejecting_row}
+use Rattle.find_c.proofs.Prelude.{◌+◌, ◌^◌, ◌<◌, get_or, length, false, inl, inr, sym, ◌∙◌, ap, arith, bit_not, trailing_zeros, w64, scope_at, scene_of}
+use Rattle.find_c.proofs.Splitting.{from_next_row, at_end, lowest_is, rejecting_row}
 use Rattle.find_c.proofs.run.first_row.Goals as goal
-
-pub returns-in_default-clause-found : goal.returns-in_default-clause-found
-returns-in_default-clause-found c = from_first_row c.args.lang.now c.args.s c.args.choices.now (c.d.ensures.lawful.scopes c.args.s [] c.requires.scope).not_empty
-
-pub returns-then-not-is_whole-clause-found : goal.returns-then-not-is_whole-clause-found
-returns-then-not-is_whole-clause-found c = from_first_row c.args.lang.now c.args.s c.args.choices.now (c.d.ensures.lawful.scopes c.args.s [] c.requires.scope).not_empty
-
-pub loop-place-init : goal.loop-place-init
-loop-place-init c = from_first_row c.args.lang.now c.args.s c.args.choices.now (c.d.ensures.lawful.scopes c.args.s [] c.requires.scope).not_empty
 
 pub returns-then-y-row-clause-furthest : goal.returns-then-y-row-clause-furthest
 returns-then-y-row-clause-furthest c = λ r is whole.

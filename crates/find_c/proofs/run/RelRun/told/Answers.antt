@@ -1,4 +1,5 @@
-use Rattle.find_c.proofs.Prelude.{◌≡◌, ℕ, Bool, List, [], sym, ◌∙◌, ap, subst, refl, All, beq, filter, Language, place, Choice, after_reply, scene_of, is_accepting, allows_at, TellingRun, IsRun, IsChoiceOn, LeavesChoices, RelStandsFor, Inside}
+use Rattle.find_c.proofs.Prelude.{◌≡◌, ◌-◌, ◌%◌, ◌<◌, ◌^◌, ℕ, length, scope_at, IsFoundFrom, Bool, List, [], sym, ◌∙◌, ap, subst, refl, All, beq, filter, Language, place, Choice, after_reply, scene_of, is_accepting, allows_at, TellingRun, IsRun, IsChoiceOn, LeavesChoices, RelStandsFor, Inside}
+use Rattle.find_c.proofs.GoingOn.{goes_on}
 use Rattle.find_c.proofs.Splitting.{agreeing_is}
 use Rattle.find_c.proofs.Replies.{run_leaves_some, known_after, stands_after}
 use Rattle.find_c.proofs.run.RelRun.told.Goals as goal
@@ -22,6 +23,16 @@ pub settle-requires-clause-known : goal.settle-requires-clause-known
 settle-requires-clause-known c =
     let is = left c.args.lang.now c.self.inside c.args.self c.agreeing.result c.args.accepting c.args.yes c.self.view_is c.requires.accepting c.agreeing.ensures in
     subst (λ cs. All (IsChoiceOn c.args.lang.now c.self.inside.scope) cs) (sym is) (known_after c.args.lang.now _ (sound _ c.self.inside _ c.self.view_is c.requires.run) c.args.yes)
+
+pub settle-requires-clause-from : goal.settle-requires-clause-from
+settle-requires-clause-from c =
+    let l = c.args.lang.now in
+    let run = run_of c.self.inside in
+    let at : c.args.tuple_place ≡ place l.value_count c.self.inside.tuple = c.requires.place ∙ ap (λ (r : TellingRun). place l.value_count r.tuple) (sym c.self.view_is) in
+    let low : c.args.tuple_place < l.value_count ^ length (scope_at l c.self.inside.scope) = subst (λ (r : TellingRun). c.args.tuple_place < l.value_count ^ length (scope_at l r.scope)) (sym c.self.view_is) c.requires.below in
+    subst (λ d. IsFoundFrom l run.scope c.agreeing.result (c.args.tuple_place - c.args.tuple_place % d)) (sym (c.from-size.ensures ∙ c.d.ensures.is))
+    (subst (λ cs. IsFoundFrom l run.scope cs (c.args.tuple_place - c.args.tuple_place % l.value_count)) (sym c.agreeing.ensures)
+    (goes_on l c.d.ensures.lawful run (sound l c.self.inside c.args.self c.self.view_is c.requires.run) (λ x. beq (is_accepting c.args.accepting x) c.args.yes) c.args.tuple_place at low))
 
 pub returns-clause-settled : goal.returns-clause-settled
 returns-clause-settled c =
