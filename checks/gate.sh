@@ -71,6 +71,14 @@ report "how many proofs go side by side" "gate: $(tools/lanes.sh) proofs side by
 report "where the time went" "processor minutes proof second proof edits compile run sum" "$(grep '^processor minutes' "$room/printed" | tr -s ' ')"
 report "that is kept" 0 "$(sed -n '/^processor minutes/,$p' "$room/printed" | cmp -s - .ci/out/minutes; echo $?)"
 report "nothing is said" "" "$(cat "$room/said")"
+mkdir -p "$room/looked/checks"
+printf '#!/bin/sh\nsleep 4\n' >"$room/looked/rattle"
+printf '#!/bin/sh\n"%s" --crate-name lent\n' "$room/looked/rattle" >"$room/looked/checks/one"
+chmod +x "$room/looked/rattle" "$room/looked/checks/one"
+sh -c "'$room/looked/rattle' --crate-name own & '$room/looked/checks/one' & wait" &
+tools/minutes.py $! "$room/table"
+report "what a check builds is no crate of the gate" "own all checks, one" \
+    "$(sed '1d; s/,.*:/,/' "$room/table" | awk '{ print $1, $1 == "checks," ? $2 : "" }' | xargs)"
 rm "$kit/bin/asked"
 report "acquire proves nothing again" "one $here j run 6 0" "$(start)"
 report "rt isn't asked" "" "$(cat "$kit/bin/asked" 2>/dev/null)"

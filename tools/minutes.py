@@ -88,9 +88,9 @@ class Minutes:
         if self.top not in found:
             return False
         for number, process in found.items():
-            if not self.is_below(number, found):
+            if not self.is_below(number, found) or self.is_of_check(process.parent, found):
                 continue
-            if (check := check_of(process)) and not self.is_of_check(process.parent, found):
+            if check := check_of(process):
                 self.checks[number, process.begun] = check, process.with_ended
             elif step := step_of(process):
                 self.steps[number, process.begun] = step, process.own
@@ -102,7 +102,7 @@ class Minutes:
         return number == self.top
 
     def is_of_check(self, number, found):
-        """Whether a process works for a check. What this starts in its turn is none."""
+        """Whether a process works for a check. What this starts in its turn is no check, and no step of a crate."""
         while number in found and number != self.top:
             if check_of(found[number]):
                 return True
