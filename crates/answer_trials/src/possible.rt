@@ -1,5 +1,6 @@
 //! What is still possible, beside a plain list.
 
+ghost use Rattle.std.specs.Prelude.{◌<◌, length};
 ghost use Rattle.language.specs.Language.{IsQuestion};
 ghost use Rattle.bias_store.specs.KeptSet.{IsMadeFor};
 
@@ -156,6 +157,43 @@ fn strike(lang: &Language, kept: &mut Kept, list: &mut Vec<Plain>, q: &Partial) 
     strikes_any == (violated != 0) && struck == violated && is_listed(lang, kept, list)
 }
 
+/// The mask of the relations that accept the tuple at a place, by what each accepts.
+fn mask_at(truths: &[u8], place: u32) -> u64 {
+    let mut mask = 0;
+    for (rel, accepted) in truths.iter().enumerate() {
+        if rel < 64 && place < 8 && (*accepted >> place) & 1 == 1 {
+            mask |= 1u64 << rel;
+        }
+    }
+    mask
+}
+
+/// Whether the store tells which relations on a scope accept what the question has there, of those
+/// that are kept and of the others.
+fn is_told_on(lang: &Language, kept: &Kept, truths: &[u8], q: &Partial, scope: u16) -> bool
+    requires made { IsMadeFor lang.now kept.now }
+    requires scope { scope < length lang.now.scopes }
+    requires question { IsQuestion lang.now q.now }
+{
+    match lang.place_on(scope, q) {
+        None => true,
+        Some(place) => kept.accepting(lang, scope, place) == mask_at(truths, place),
+    }
+}
+
+/// The same on each scope.
+fn is_told(lang: &Language, kept: &Kept, truths: &[u8], q: &Partial) -> bool
+    requires made { IsMadeFor lang.now kept.now }
+    requires question { IsQuestion lang.now q.now }
+{
+    for scope in 0..lang.scopes() as u16 {
+        if !is_told_on(lang, kept, truths, q, scope) {
+            return false;
+        }
+    }
+    true
+}
+
 /// Drops a scope in both. Whether they then are the same.
 fn drop_scope(lang: &Language, kept: &mut Kept, list: &mut Vec<Plain>, scope: u16) -> bool
     requires { IsMadeFor lang.now kept.old }
@@ -174,6 +212,7 @@ fn round(
     lang: &Language,
     kept: &mut Kept,
     list: &mut Vec<Plain>,
+    truths: &[u8],
     numbers: &mut Numbers,
     tally: &mut Tally,
 )
@@ -187,7 +226,7 @@ fn round(
         let asked = numbers.below(questions);
         let values = numbers.below(questions);
         let q = question(lang, u128::from(asked), u128::from(values));
-        tally.take(strike(lang, kept, list, &q));
+        tally.take(strike(lang, kept, list, &q) && is_told(lang, kept, truths, &q));
         let scope = numbers.below(u64::from(lang.scopes())) as u16;
         tally.take(drop_scope(lang, kept, list, scope));
     }
@@ -207,7 +246,7 @@ fn rounds(
     let mut tally = Tally::new();
     for _ in 0..count {
         let mut list = all(alloc, lang.n(), truths)?;
-        round(lang, kept, &mut list, numbers, &mut tally);
+        round(lang, kept, &mut list, truths, numbers, &mut tally);
     }
     Some(tally)
 }

@@ -143,11 +143,24 @@ fn push_filed(text: &mut String, disk: &mut FileDisk<MemFile>, calls: &str) -> O
     Some(())
 }
 
-/// The bytes of a file, 16 at most, from this place on.
-fn push_read(text: &mut String, disk: &mut FileDisk<MemFile>, at: u64) -> Option<()> {
+/// The bytes of a disk, 16 at most, from this place on.
+fn push_read<D: Disk>(text: &mut String, disk: &mut D, at: u64) -> Option<()> {
     let mut buf = [0; 16];
     let count = disk.read(at, &mut buf).ok()?;
     push_bytes(text, &buf[..count])
+}
+
+/// Places: what reads give of a disk with these bytes, from each of them on.
+pub(crate) fn reads(alloc: Global, over: &str, arguments: &str) -> Option<String> {
+    let mut disk = disk_of(alloc, over, "64 0")?;
+    let mut text = String::new(alloc);
+    for word in arguments.split_whitespace() {
+        let at = word.parse::<u64>().ok()?;
+        write!(text, "{at}=").ok()?;
+        push_read(&mut text, &mut disk, at)?;
+        text.push('\n').ok()?;
+    }
+    Some(text)
 }
 
 /// What calls of a file come to that gives a few bytes a read at most, and what is read of it

@@ -24,6 +24,7 @@ use std::io;
 fn below(alloc: Global, over: &str, call: &str, arguments: &str) -> Option<String> {
     match call {
         "disk" => disks::disk(alloc, over, arguments),
+        "reads" => disks::reads(alloc, over, arguments),
         "fuse" => disks::fuse(alloc, over, arguments),
         "named" => disks::named(alloc, over, arguments),
         "left" => disks::left(alloc, over, arguments),
