@@ -30,6 +30,7 @@ if DESK not in sys.path:
 PATIENCE = 120.0        # seconds until something that has to come counts as lost; machines may be busy
 MOST_SHEETS = 2500      # of a sitting over pipes; one that has more waits for what never comes
 QUESTION = re.compile(r"question (\d+)")
+NOBODY = 65534 if os.geteuid() == 0 else None       # who may not do what root may
 Named = dict[str, str]
 Owner = Callable[[Named], bool]
 
@@ -173,6 +174,11 @@ def script(path: str, does: str) -> None:
     with open(path, "w", encoding="utf-8") as file:
         file.write(f"#!/bin/bash\n{does}\n")
     os.chmod(path, 0o755)
+
+
+def passed_over(part: str, what: str) -> None:
+    """Says what a part doesn't look at here; the last line of checks/desk.py counts it."""
+    print(f"PASSED OVER {part}: {what}")
 
 
 def answers(program: str, path: str) -> int:

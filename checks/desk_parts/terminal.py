@@ -50,7 +50,7 @@ def run(program: str) -> list[str]:
     if shutil.which("tmux"):
         faults += at_sizes(program)
     else:
-        print("terminal: tmux isn't installed, so no screen was looked at")
+        hands.passed_over("terminal", "no screen is looked at, since tmux isn't installed")
     rows = [row for row in ROWS if row not in IN_TMUX or shutil.which("tmux")]
     for row in rows:
         try:
@@ -509,7 +509,7 @@ def on_disks(program: str) -> list[str]:
                 ran = subprocess.run([*way, sys.executable, os.path.realpath(__file__), program, folder], stdout=subprocess.PIPE, text=True,
                                      check=False)
                 return list(json.loads(ran.stdout)) if ran.returncode == 0 else [f"the disks: status {ran.returncode}"]
-    print("terminal: nothing may be mounted here, so no disk was full or read-only")
+    hands.passed_over("terminal", "no disk is full or read-only, since nothing may be mounted")
     return []
 
 
