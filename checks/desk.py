@@ -9,7 +9,8 @@ Each part is a file in checks/desk_parts and says in a line what it looked at. D
 and times the comparison of plans for smaller cases as well, DESK_CASES=1000 lets that many cases change, and DESK_KILLS=200 kills as
 often. What the parts need is installed by apt-get where that is possible: python3-rich, tmux, a SAT solver, chromium and poppler-utils.
 That is said before, and NO_INSTALL=1 forbids it; what can't be had is passed over. Parts run side by side, each in a
-process of its own, and the last line says how much time of a processor all took, and what was passed over.
+process of its own, and the last line says how much time of a processor all took, and what was passed over; things within a part
+are counted there, and each has a line of its own above.
 """
 
 from __future__ import annotations
@@ -22,6 +23,7 @@ import shutil
 import subprocess
 import sys
 import tempfile
+from collections import Counter
 from concurrent.futures import ThreadPoolExecutor
 
 HERE = os.path.dirname(os.path.realpath(__file__))
@@ -33,7 +35,7 @@ CLIENT = os.path.join(os.path.dirname(HERE), "python")     # through which desk 
 PARTS = ("terminal", "kept", "captured", "pages", "changes", "refusals", "suspects", "known", "bounds", "sitting",
          "cases", "starts", "lacking", "taught", "plans", "screens", "says", "unseen", "meanings", "runs", "faults",
          "forecast", "pace", "bare")
-NEEDS_RICH = ("terminal", "captured", "pages", "sitting", "taught", "screens", "says", "pace")
+NEEDS_RICH = ("terminal", "captured", "screens", "pace")
 # the bugs that the gate plants: a part, and which of its list
 GATE = (("bounds", 0), ("bounds", 1), ("suspects", 1), ("meanings", 0), ("meanings", 2), ("known", 0), ("changes", 0), ("kept", 0), ("runs", 0),
         ("faults", 0), ("starts", 0), ("unseen", 0), ("screens", 0), ("pages", 0), ("bare", 3))
@@ -47,6 +49,7 @@ WANTED = {
     "pdfinfo": "no page is counted",
 }
 PATIENCE = 1800     # seconds for a part
+OVER = "PASSED OVER "   # how a line of a part begins that says what it can't look at here
 
 
 def install() -> None:
@@ -76,6 +79,17 @@ def passed_over() -> list[str]:
     return found
 
 
+def summary(over: list[str], in_parts: list[str]) -> str:
+    """The end of the last line: what the machine lacks, and how much of which parts was passed
+    over."""
+    said = list(over)
+    counts = Counter(line.partition(":")[0] for line in in_parts)
+    if counts:
+        things = ", ".join(f"{name} {count}" for name, count in counts.items())
+        said.append(f"within parts, each in a line above: {things}")
+    return f"; passed over: {'; '.join(said)}" if said else ""
+
+
 def called(*words: str) -> None:
     """Calls apt-get, which may fail: what is missing then is passed over."""
     subprocess.run(["apt-get", *words, "-o", "DPkg::Lock::Timeout=300"],
@@ -83,8 +97,10 @@ def called(*words: str) -> None:
                    stdout=subprocess.DEVNULL, stderr=subprocess.DEVNULL, check=False)
 
 
-def part(name: str, program: str, call: str = "run", folder: str = DESK, enough: int = 20) -> tuple[str, list[str]]:
-    """Runs a part in a process of its own: what it said, and its faults."""
+def part(
+    name: str, program: str, call: str = "run", folder: str = DESK, enough: int = 20
+) -> tuple[str, list[str], list[str]]:
+    """Runs a part in a process of its own: what it said, its faults, and what it passed over."""
     code = (f"import sys; sys.path[:0] = [{folder!r}, {PARTS_FOLDER!r}]; import {name} as it\n"
             f"faults = (getattr(it, {call!r}, None) or it.run)({program!r})\n"
             "print(*('FAULT ' + str(fault).replace(chr(10), ' | ') for fault in faults), sep=chr(10))")
@@ -93,12 +109,14 @@ def part(name: str, program: str, call: str = "run", folder: str = DESK, enough:
     try:
         ran = subprocess.run([sys.executable, "-c", code], env=environment, stdin=subprocess.DEVNULL, capture_output=True, text=True, timeout=PATIENCE, check=False)
     except subprocess.TimeoutExpired:
-        return "", [f"{name}: it isn't done after {PATIENCE} s"]
+        return "", [f"{name}: it isn't done after {PATIENCE} s"], []
     lines = ran.stdout.splitlines()
     faults = [line.removeprefix("FAULT ") for line in lines if line.startswith("FAULT ")]
     if ran.returncode:
         faults.append(f"{name} broke off: {ran.stderr.strip()[-600:]}")
-    return "\n".join(line for line in lines if line and not line.startswith("FAULT ")), faults
+    over = [line.removeprefix(OVER) for line in lines if line.startswith(OVER)]
+    said = "\n".join(line for line in lines if line and not line.startswith(("FAULT ", OVER)))
+    return said, faults, over
 
 
 def planted(program: str, bugs: list[tuple[str, int]]) -> list[str]:
@@ -116,7 +134,7 @@ def planted(program: str, bugs: list[tuple[str, int]]) -> list[str]:
                 return f"{name} plants a bug in {file} where there is no such text any more: {old.strip()}"
             with open(path, "w", encoding="utf-8") as source:
                 source.write(text.replace(old, new, 1))
-            _, faults = part(name, program, "quick", copy, 0)
+            _, faults, _ = part(name, program, "quick", copy, 0)
         return None if faults else f"{name} doesn't notice that in {file} `{old.strip()}` is `{new.strip()}`"
     # The parts are imported here: threads that import side by side may see a module that isn't whole yet.
     changes = [(name, importlib.import_module(name).PLANTED[place]) for name, place in bugs]
@@ -152,11 +170,15 @@ def main() -> int:
     plants = "planted" in wanted or "all-planted" in wanted
     names = [] if plants else [name for name in wanted or PARTS if rich or name not in NEEDS_RICH]
     faults: list[str] = []
+    in_parts: list[str] = []
     with ThreadPoolExecutor(4) as pool:
-        for said, found in pool.map(lambda name: part(name, program), names):
+        for said, found, passed in pool.map(lambda name: part(name, program), names):
             if said:
                 print(said, flush=True)
+            for what in passed:
+                print(f"desk: passed over: {what}", flush=True)
             faults += found
+            in_parts += passed
     if plants or not wanted:
         bugs = bugs_of(wanted)
         unnoticed = planted(program, bugs)
@@ -166,7 +188,7 @@ def main() -> int:
         print(f"FAULT {fault}", file=sys.stderr)
     used = resource.getrusage(resource.RUSAGE_CHILDREN)
     seconds = used.ru_utime + used.ru_stime
-    said = f"; passed over: {'; '.join(over)}" if over else ""
+    said = summary(over, in_parts)
     print(f"desk: {len(faults)} faults, after {seconds:.0f} s of a processor{said}")
     return 1 if faults else 0
 

@@ -69,15 +69,28 @@ PLANTED = [
 ]
 
 
+def libraries() -> str:
+    """PYTHONPATH as it is."""
+    return os.environ.get("PYTHONPATH", "")
+
+
+def hiding(top: str) -> str:
+    """PYTHONPATH with which Python doesn't find what is hidden, by a folder that is made in
+    another one."""
+    folder = os.path.join(top, "python")
+    os.mkdir(folder)
+    with open(os.path.join(folder, "sitecustomize.py"), "w", encoding="ascii") as file:
+        file.write(HIDES)
+    return os.pathsep.join(filter(None, (folder, libraries())))
+
+
 @contextlib.contextmanager
 def machine() -> Iterator[dict[str, str]]:
-    """The environment in which a command runs on such a machine."""
+    """The environment in which a command runs on such a machine, whoever runs it."""
     with tempfile.TemporaryDirectory(prefix="bare-") as top:
-        commands, hides = os.path.join(top, "bin"), os.path.join(top, "python")
+        os.chmod(top, 0o755)
+        commands = os.path.join(top, "bin")
         os.mkdir(commands)
-        os.mkdir(hides)
-        with open(os.path.join(hides, "sitecustomize.py"), "w", encoding="ascii") as file:
-            file.write(HIDES)
         for folder in os.get_exec_path():
             with contextlib.suppress(OSError):
                 for name in os.listdir(folder):
@@ -88,11 +101,10 @@ def machine() -> Iterator[dict[str, str]]:
                             os.symlink(os.path.join(folder, name), os.path.join(commands, name))
         left_out = ("NO_INSTALL", "BROWSER", "DISPLAY", "WAYLAND_DISPLAY", "DESK_WEB_PYTHON")
         environment = {name: value for name, value in os.environ.items() if name not in left_out}
-        paths = [hides, *filter(None, [os.environ.get("PYTHONPATH")])]
         yield {
             **environment,
             "PATH": commands,
-            "PYTHONPATH": os.pathsep.join(paths),
+            "PYTHONPATH": hiding(top),
             "LC_ALL": "C.UTF-8",
         }
 
@@ -108,9 +120,10 @@ class There:
         self.program, self.path = program, path
 
     def ran(
-        self, *words: str, given: str = "", without: str = ""
+        self, *words: str, given: str = "", without: str = "", user: int | None = None
     ) -> subprocess.CompletedProcess[str]:
-        """What a command comes to; one variable of the environment may be left out."""
+        """What a command comes to; one variable of the environment may be left out, and another
+        user may run it."""
         environment = {name: value for name, value in self.environment.items() if name != without}
         return subprocess.run(
             words,
@@ -120,6 +133,7 @@ class There:
             text=True,
             encoding="utf-8",
             timeout=PATIENCE,
+            user=user,
             check=False,
         )
 
@@ -139,20 +153,18 @@ class There:
 
 
 def nothing_is_there(it: There) -> Iterator[str]:
-    """No command and no library that is hidden can be found."""
+    """No command and no library that is hidden can be found, by nobody either where root runs
+    this."""
     names = "', '".join(MODULES)
-    found = it.ran(
-        "/usr/bin/python3",
-        "-c",
-        f"import importlib.util as u; print([one for one in ('{names}') if u.find_spec(one)])",
-    ).stdout
-    if found != "[]\n":
-        yield f"libraries are there: {found}"
-    found = it.ran(
-        "/bin/sh", "-c", f"for it in {' '.join(COMMANDS)}; do command -v $it; done"
-    ).stdout
-    if found or not it.ran("/bin/sh", "-c", "command -v python3 bash").stdout:
-        yield f"commands are there: {found!r}, or none at all"
+    code = f"import importlib.util as u; print([one for one in ('{names}') if u.find_spec(one)])"
+    line = f"for it in {' '.join(COMMANDS)}; do command -v $it; done"
+    for user in (None, *([hands.NOBODY] if hands.NOBODY else [])):
+        found = it.ran("/usr/bin/python3", "-c", code, user=user).stdout
+        if found != "[]\n":
+            yield f"libraries are there for {user}: {found}"
+        found = it.ran("/bin/sh", "-c", line, user=user).stdout
+        if found or not it.ran("/bin/sh", "-c", "command -v bash", user=user).stdout:
+            yield f"commands are there for {user}: {found!r}, or none at all"
 
 
 def checked(it: There) -> Iterator[str]:
@@ -230,18 +242,22 @@ OVER = (
     "desk: 0 faults, after [0-9]+ s of a processor; passed over: tmux isn't installed, so no"
     " terminal is looked at; chromium isn't installed, so no browser is looked at; poppler-utils"
     " isn't installed, so no page is counted; no SAT solver is installed, so no plan is drawn;"
-    " python3-rich isn't installed, so the parts terminal, .*, pace aren't run"
+    " python3-rich isn't installed, so the parts terminal, captured, screens, pace aren't run"
 )
+IN_PARTS = "; within parts, each in a line above: plans 1"
 
 
 def of_desk(it: There) -> Iterator[str]:
     """checks/desk.py looks at what it can, plants what it can, and its last line says what it passed
     over."""
-    for words in (("faults", "terminal"), ("planted", "faults", "pace")):
+    for words in (("faults", "terminal", "plans"), ("planted", "faults", "pace")):
         ran = it.check("desk.py", *words)
         last = ran.stdout.splitlines()[-1:]
-        if ran.returncode or ran.stderr or not re.fullmatch(OVER, "".join(last)):
+        over = OVER + (IN_PARTS if "plans" in words else "")
+        if ran.returncode or ran.stderr or not re.fullmatch(over, "".join(last)):
             yield f"desk.py {' '.join(words)}: {ran.returncode}, {last}, {ran.stderr[-300:]!r}"
+        if "plans" in words and "passed over: plans: no solver draws a plan" not in ran.stdout:
+            yield f"desk.py {' '.join(words)}: {ran.stdout!r}"
         if (
             "planted" in words
             and "1 bugs in desk, one at a time, and 1 were noticed" not in ran.stdout

@@ -12,11 +12,12 @@ import itertools
 import os
 import re
 import subprocess
+import tempfile
 from dataclasses import dataclass
 
 import hands  # desk's folder is on the path now
 from planners_desk.case import casefile
-from planners_desk.hints import sentences
+from planners_desk.hints import sentences, solver
 from planners_desk.sitting import session
 from planners_desk.program import talk
 from hands import Named, Owner
@@ -205,11 +206,16 @@ def judged(
 
 
 def ends(
-    program: str, path: str, owner: Owner, plan: str, keys: str = ""
+    program: str,
+    path: str,
+    owner: Owner,
+    plan: str,
+    keys: str = "",
+    env: Named | None = None,
 ) -> tuple[int, list[list[str]]]:
     """How many questions are answered until another sheet comes, and that sheet with those after
     some keys."""
-    it = hands.Piped(path, program, *(["--plan", plan] if plan else []))
+    it = hands.Piped(path, program, *(["--plan", plan] if plan else []), env=env)
     typed = 0
     sheets = []
     while (sheet := it.sheet()) is not None and hands.is_question(sheet):
@@ -226,25 +232,31 @@ def ends(
 
 def missing_word(program: str) -> list[str]:
     """The dinner: the missing word is told, at the rule that nobody saw kept or at the clash, and
-    `carry` mends the session with it."""
+    `carry` mends the session with it. A rule that nobody saw kept is judged in a plan, which a
+    solver draws."""
     faults, told = [], []
+    undrawn = []  # plans in which nothing leads to the word, for want of a solver
     for plan in ("scopes", "multi", "quacq"):
         with hands.room("seats", SEATS) as path:
             first, sheets = ends(program, path, seats, plan)
             text = "\n".join(sheets[0])
-            if sheets[0] and sheets[0][0] == "Your answers clash":
-                offered = re.search(r"words would explain it: (.*?)\.", text)
-            else:
+            clashes = sheets[0][:1] == ["Your answers clash"]
+            if not clashes:
                 if "Cy and Dürr are next to each other (never seen yet)" not in text:
                     faults.append(
                         f"cases: seats, {plan}: the rule that isn't so isn't marked: {text}"
                     )
-                _, sheets = ends(program, path, seats, "", "gn")
+                faults += [f"cases: seats, {plan}: {it}" for it in without_solver(program, path)]
+            if not clashes and solver.name() is None:
+                undrawn.append(plan)
+            else:
+                if not clashes:
+                    _, sheets = ends(program, path, seats, "", "gn")
                 offered = re.search(r"words would explain it: (.*?)\.", "\n".join(sheets[-1]))
-            words = offered[1].split(", ") if offered else []
-            if words[:1] != ["`different table`"]:
-                faults.append(f"cases: seats, {plan}: {words} are offered, in {sheets[-1]}")
-                continue
+                words = offered[1].split(", ") if offered else []
+                if words[:1] != ["`different table`"]:
+                    faults.append(f"cases: seats, {plan}: {words} are offered, in {sheets[-1]}")
+                    continue
             with open(path, "a", encoding="utf-8") as file:
                 file.write("words: different table\n")
             carried = subprocess.run(
@@ -268,8 +280,20 @@ def missing_word(program: str) -> list[str]:
                     f"cases: seats, {plan}: after carry {carried.stderr} {sheets[0][:1]}, "
                     f"other rules on {wrong[:3]}"
                 )
+    if undrawn:
+        hands.passed_over("cases", f"no plan leads to the missing word in {' and '.join(undrawn)}")
     print(f"cases: the dinner, whose word is missing: questions {'; '.join(told)} with the word")
     return faults
+
+
+def without_solver(program: str, path: str) -> list[str]:
+    """Where no solver is installed the rules lead on to no plans, and it is said what to install."""
+    with tempfile.TemporaryDirectory() as nowhere:
+        _, sheets = ends(program, path, seats, "", env={"PATH": nowhere})
+    wanted = "For plans to look at, install a SAT solver: cadical, minisat or clasp."
+    if sheets[0][-1:] == ["q stop:"] and wanted in "\n".join(sheets[0]):
+        return []
+    return [f"without a solver it ends with {sheets[0][-2:]}"]
 
 
 def count(program: str) -> list[str]:

@@ -5,6 +5,7 @@ beside something reckoned in another way."""
 from __future__ import annotations
 
 import contextlib
+import importlib.util
 import io
 import itertools
 import math
@@ -13,8 +14,10 @@ import re
 import tempfile
 import time
 import types
+from collections.abc import Iterator
 
 import drawn  # desk's folder is on the path now
+import hands
 from planners_desk.case import casefile
 from planners_desk.commands import check
 from planners_desk.hints import offers
@@ -334,7 +337,7 @@ def counts(program: str) -> list[str]:
 
 def dull(text: str) -> list[str]:
     """What no answer can forbid on two things, and what can't be forbidden alone, by trial of all
-    that words say."""
+    that words say. A table draws the first choice; where nothing draws tables, lines say it."""
     words = Vocabulary(casefile.parse(text, "dull"))
     names = list(words.case.values)
     every = list(itertools.product(range(len(names)), repeat=2))
@@ -346,10 +349,12 @@ def dull(text: str) -> list[str]:
     ]
     free = [pair for pair in every if not any(pair in one for one in refused)]
     said = " ".join(check.cannot_say(words, 100))
+    between = " " if importlib.util.find_spec("rich") else ": "
     faults = []
     if free and (
         f"{len(free)} of {len(every)} choices can never be forbidden" not in said
-        or f" a {names[free[0][0]]} b {names[free[0][1]]} " not in " ".join(said.split())
+        or f" a{between}{names[free[0][0]]} b{between}{names[free[0][1]]} "
+        not in " ".join(said.split())
     ):
         faults.append(f"of {text!r} it doesn't draw {free[0]}, one of {len(free)}: {said}")
     if not free and "never be forbidden" in said:
@@ -371,6 +376,19 @@ def dull(text: str) -> list[str]:
         if "Whatever forbids" in said:
             faults.append(f"of {text!r} it says that something can't be forbidden alone")
     return faults
+
+
+@contextlib.contextmanager
+def without_rich() -> Iterator[None]:
+    """The library that draws tables isn't found."""
+    real = importlib.util.find_spec
+    importlib.util.find_spec = lambda name, package=None: (
+        None if name == "rich" else real(name, package)
+    )
+    try:
+        yield
+    finally:
+        importlib.util.find_spec = real
 
 
 def whole(program: str) -> list[str]:
@@ -434,6 +452,11 @@ def run(program: str) -> list[str]:
     )
     for text in texts:
         faults += dull(text)
+    if importlib.util.find_spec("rich"):
+        with without_rich():
+            faults += [f"without a table: {fault}" for text in texts for fault in dull(text)]
+    else:
+        hands.passed_over("forecast", "what can't be forbidden is drawn in no table")
     print(
         "forecast: 12 made-up owners, 4 words with their prices, 8 counts, "
         f"{len(texts)} cases with what can't be forbidden"

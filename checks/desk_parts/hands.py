@@ -30,6 +30,7 @@ if DESK not in sys.path:
 PATIENCE = 120.0        # seconds until something that has to come counts as lost; machines may be busy
 MOST_SHEETS = 2500      # of a sitting over pipes; one that has more waits for what never comes
 QUESTION = re.compile(r"question (\d+)")
+NOBODY = 65534 if os.geteuid() == 0 else None       # who may not do what root may
 Named = dict[str, str]
 Owner = Callable[[Named], bool]
 
@@ -173,6 +174,11 @@ def script(path: str, does: str) -> None:
     with open(path, "w", encoding="utf-8") as file:
         file.write(f"#!/bin/bash\n{does}\n")
     os.chmod(path, 0o755)
+
+
+def passed_over(part: str, what: str) -> None:
+    """Says what a part doesn't look at here; the last line of checks/desk.py counts it."""
+    print(f"PASSED OVER {part}: {what}")
 
 
 def answers(program: str, path: str) -> int:
@@ -352,13 +358,25 @@ class Terminal:
 
     def answer(self, key: str, number: int) -> bool:
         """Types a key once the guard is over, until question `number` is there. None is typed where an earlier one was taken late."""
+        return self.press(key, f"question {number}", 10.0)
+
+    def told(self) -> bool:
+        """Types a wrong key until that is told: all keys before it have been read then."""
+        return self.press("#", "# isn't one of the keys", 1.0)
+
+    def press(self, key: str, text: str, patience: float) -> bool:
+        """Types a key once the guard is over, and again where it was dropped, until a text comes."""
         time.sleep(0.2)
         place = self.type(key)
         for _ in range(20):
-            if self.wait_for(f"question {number}", place, 10.0):
+            if self.wait_for(text, place, patience):
                 return True
             self.type(key)
         return False
+
+    def drawn(self, head: str) -> bool:
+        """Waits until a question with this in its first line is drawn to its end, the last key."""
+        return self.wait_for(head) and self.wait_for("? help", self.seen.rindex(head.encode()))
 
     def ended(self) -> bool:
         """Whether the program has ended."""
@@ -402,22 +420,32 @@ class Tmux:
         return subprocess.run(["tmux", "-u", "-L", self.socket, *rest], stdout=subprocess.PIPE, text=True, encoding="utf-8", check=False,
                               env={**os.environ, "LANG": "C.UTF-8"}).stdout
 
-    def capture(self) -> str:
-        """What stands on the screen."""
-        return self._tmux("capture-pane", "-p", "-t", "it")
+    def looked(self) -> tuple[str, bool]:
+        """What stands on the screen, and whether it is drawn to its end. A screen of desk's is drawn
+        from the top to the last line, whose end the cursor stays behind; both are asked for in one
+        call, between which and the other nothing is drawn."""
+        cursor = "#{alternate_on} #{cursor_x} #{cursor_y} #{pane_width} #{pane_height}"
+        call = ("display-message", "-p", "-t", "it", cursor, ";", "capture-pane", "-p", "-t", "it")
+        where, _, shown = self._tmux(*call).partition("\n")
+        if not where:
+            return "", False
+        its_own, x, y, width, height = map(int, where.split())
+        return shown, not its_own or (x, y) == (width, height - 1)
 
     def title(self) -> str:
         """The title of the window."""
         return self._tmux("display-message", "-p", "-t", "it", "#{pane_title}")
 
     def wait_for(self, pattern: str, patience: float = PATIENCE) -> str:
-        """The screen once the pattern is on it and it stays as it is; what is there where it never comes."""
-        shown = [""]
+        """The screen once it is drawn to its end with the pattern on it and stays as it is; what is
+        there where that never comes."""
+        now = ("", False)
         def there() -> bool:
-            before, shown[0] = shown[0], self.capture()
-            return before == shown[0] and re.search(pattern, shown[0]) is not None
+            nonlocal now
+            before, now = now, self.looked()
+            return now[1] and before == now and re.search(pattern, now[0]) is not None
         until(there, patience)
-        return shown[0]
+        return now[0]
 
     def type(self, key: str) -> None:
         """Types a key."""

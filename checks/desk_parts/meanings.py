@@ -229,9 +229,13 @@ def loose(program: str) -> list[str]:
             outside += [values for values in [sitting.question.values] if any(value not in case.things[thing].allowed for thing, value in values.items())]
             sitting.answer(len(set(sitting.question.values.values())) == len(sitting.question.values))
             sitting.advance()
-        plans = solver.plans(session.program, session.vocabulary, session.journal, 3) if solver.name() else [{0: 0, 1: 1, 2: 2, 3: 5, 4: 5, 5: 5}]
+        plans = solver.plans(session.program, session.vocabulary, session.journal, 3)
         outside += [plan for plan in plans if any(value not in case.things[thing].allowed for thing, value in plan.items())]
-        if outside or not plans:
+        if solver.name() is None:
+            hands.passed_over("meanings", "no plan is drawn that might have a value that isn't allowed")
+        elif not plans:
+            faults.append("loose: there are no plans")
+        if outside:
             faults.append(f"loose: a thing has a value that `only` forbids: {outside[:2]}, in {len(plans)} plans")
     return faults
 

@@ -78,7 +78,13 @@ def run(program: str) -> list[str]:
             faults += [f"pages: {name} in {plan}, {ending}: {fault}" for fault in one_page(program, path, ending, browser if looked != 4 else None)]
     for row in (hostile, clash, given, unwritable, no_session):
         faults += [f"pages: {row.__name__}: {fault}" for fault in row(program)]
-    print(f"pages: {looked} pages" + ("" if browser else "; no chromium is installed, so no browser looked at them"))
+    if browser is None:
+        hands.passed_over("pages", "no browser looks at them, since no chromium is installed")
+    elif not (shutil.which("pdfinfo") and shutil.which("pdftotext")):
+        hands.passed_over("pages", "their PDF isn't looked at, since poppler-utils isn't installed")
+    if solver.name() is None:
+        hands.passed_over("pages", "no plan is drawn on them, since no solver is installed")
+    print(f"pages: {looked} pages")
     return faults
 
 
@@ -215,9 +221,12 @@ def answers(one: session.Session, page: Page) -> list[str]:
 
 
 def plans(one: session.Session, page: Page, state: object) -> list[str]:
-    """Each plan that is drawn, cell by cell: allowed ones first, then for each sentence one that breaks it."""
+    """Each plan that is drawn, cell by cell: allowed ones first, then for each sentence one that breaks it. Without a solver it is
+    said why there is none."""
     if solver.name() is None:
-        return []
+        said = "None are drawn, since no SAT solver is installed: cadical, minisat or clasp."
+        good = said in page.texts["p"] and "figcaption" not in page.texts
+        return [] if good else [f"without a solver it says {page.texts['p']}"]
     assert hasattr(state, "learned")
     found, read = [], [read_plan(one, table) for table in page.tables]
     drawn = [plan for plan in read if plan is not None]

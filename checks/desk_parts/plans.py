@@ -83,6 +83,8 @@ def run(program: str) -> list[str]:
     if installed:
         faults += [f"plans: a solver that lies: {fault}" for fault in lying(program)]
         faults += [f"plans: a solver that is stuck: {fault}" for fault in stuck(program)]
+    else:
+        hands.passed_over("plans", "no solver draws a plan that is looked at")
     missing = [name for name in solver.SOLVERS if name not in installed]
     print(f"plans: {counts[0]} plans and {counts[1]} broken rules by {', '.join(installed) or 'no solver'}"
           + (f"; not installed: {', '.join(missing)}" if missing else ""))
@@ -222,6 +224,7 @@ def stuck(program: str) -> list[str]:
     found: list[str] = []
     before, real = os.environ["PATH"], shutil.which("cadical")
     if real is None:
+        hands.passed_over("plans", "cadical isn't there to be stuck")
         return []
     with tempfile.TemporaryDirectory() as folder, hands.room("small", SMALL) as path:
         hands.answered(path, program, lambda q: len(set(q.values())) == len(q))

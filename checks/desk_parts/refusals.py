@@ -23,7 +23,7 @@ DESK = ["/usr/bin/python3", os.path.join(hands.DESK, "desk")]
 MOST_SECONDS = 3.0      # of processor time for a refusal, on a machine that does much else
 MOST_MEMORY = 160       # million bytes
 MOST_ROOM = 3_000_000   # thousand bytes of addresses, for whatever is tried
-NOBODY = 65534 if os.geteuid() == 0 else None       # who may not do what root may
+NO_SOLVER = "no SAT solver is installed (cadical, minisat or clasp)"
 BEARS = "title: Bären\nthings: Bär Müller\nvalues: 1 2 3\nask: all\nwords: different, before\nplan: scopes\n"
 PLANTED = [
     ("case/casefile.py", "        if cells > most:\n", "        if False:\n"),
@@ -237,7 +237,7 @@ def files(program: str) -> list[str]:
             for command in ("check", "ask --plain", "carry", "report"):
                 line = f"desk {command} {place}" + (f" {path}.html" if command == "report" else "")
                 found += [f"{line}: {fault}" for fault in wrong(ran(line, program), said)]
-        found += [f"locked: {fault}" for fault in wrong(ran(f"desk check {locked}", program, user=NOBODY), "Permission denied")]
+        found += [f"locked: {fault}" for fault in wrong(ran(f"desk check {locked}", program, user=hands.NOBODY), "Permission denied")]
     for end in (".journal", ".session"):
         for what, said in (("folder", "folder|Is a directory"), ("pipe", "is a pipe")):
             with folder() as path:
@@ -279,13 +279,16 @@ def rights(program: str) -> list[str]:
     found = []
     with tempfile.TemporaryDirectory() as home:
         copy = shutil.copy(program, os.path.join(home, "acquire"))
+        solver = os.path.join(home, "solver")
+        os.mkdir(solver)
+        hands.script(os.path.join(solver, "cadical"), "exit 20")
         path = os.path.join(home, "bears.case")
         with open(path, "w", encoding="utf-8") as file:
             file.write(BEARS)
         def told(what: str, said: str, *commands: str) -> None:
             for command in commands:
                 line = f"desk {command} {path}" + (f" {home}/page.html" if command == "report" else "")
-                found.extend(f"{what}, {command}: {fault}" for fault in wrong(ran(line, copy, user=NOBODY), said))
+                found.extend(f"{what}, {command}: {fault}" for fault in wrong(ran(line, copy, user=hands.NOBODY), said))
         os.chmod(home, 0o555)
         told("no session, and none may be made", "bears.journal: Permission denied", "ask --plain")
         os.chmod(home, 0o755)
@@ -294,7 +297,14 @@ def rights(program: str) -> list[str]:
         os.chmod(home, 0o555)
         told("a journal that may not be written", "may not be read and written", "ask --plain", "report", "carry")
         os.chmod(journal_of(path), 0)
-        told("a journal that may not be read", "bears.journal: Permission denied", "ask --plain", "check", "report", "carry")
+        what = "a journal that may not be read"
+        told(what, "bears.journal: Permission denied", "ask --plain", "report", "carry")
+        # `check` looks into it for plans alone, which a solver draws
+        it = ran(f"desk check {path}", copy, {"PATH": solver}, user=hands.NOBODY)
+        found += [f"{what}, check: {fault}" for fault in wrong(it, "bears.journal: Permission denied")]
+        it = ran(f"desk check {path}", copy, {"PATH": home}, user=hands.NOBODY)
+        if it.returncode or it.stderr or NO_SOLVER not in it.stdout:
+            found.append(f"{what}, check without a solver: {it.returncode}, {it.stderr!r}")
         os.chmod(home, 0o755)
     return found
 
@@ -403,6 +413,7 @@ def full_disk(program: str) -> list[str]:
                 told, *left = it.stderr.splitlines()
                 good = "No space left on device" in told and left == ["status 1", "bears.case", "filler"]
                 return [] if good else [f"{it.stdout[-200:]!r}, {it.stderr[-400:]!r}"]
+    hands.passed_over("refusals", "no disk is full, since nothing may be mounted")
     return []
 
 

@@ -77,7 +77,7 @@ def quick(program: str) -> list[str]:
                             behind_sentences, from_answers, step_by_step, never_seen, pointed))
 
 
-def looked(program: str, rows: Iterable[object]) -> list[str]:
+def looked(program: str, rows: tuple[object, ...]) -> list[str]:
     """The faults of some rows."""
     faults = []
     count = 0
@@ -90,7 +90,10 @@ def looked(program: str, rows: Iterable[object]) -> list[str]:
             faults += [f"sitting: {name}: {fault}" for fault in row(program)]     # type: ignore[operator]
         except Exception as error:      # a row that breaks is a fault of what it looks at
             faults.append(f"sitting: {name}: {error!r}")
-    print(f"sitting: {count} rows over pipes" + ("" if solver.name() else "; no plan is judged, since no solver is installed"))
+    if count < len(rows):
+        over = f"{len(rows) - count} of {len(rows)} rows, in which plans are judged"
+        hands.passed_over("sitting", f"{over}, since no solver is installed")
+    print(f"sitting: {count} rows over pipes")
     return faults
 
 

@@ -5,13 +5,16 @@ from __future__ import annotations
 
 import contextlib
 import importlib.util
+import itertools
 import os
 import re
 import shutil
 import subprocess
+import sys
 import tempfile
 from collections.abc import Iterator
 
+import bare
 import hands        # desk's folder is on the path now
 from planners_desk import __main__
 
@@ -194,21 +197,25 @@ def hands_out(program: str) -> list[str]:
 
 def installs(_program: str) -> list[str]:
     """checks/desk.py says what it installs before it does so, NO_INSTALL=1 forbids it, and what it passes over stands in lines of their
-    own. Its tools aren't on the path, and apt-get is one that notes what was said when it was called."""
+    own. Its tools aren't on the path, and apt-get is one that notes what was said when it was called. Libraries are those of this
+    Python, and then none."""
     found = []
     with tempfile.TemporaryDirectory() as folder:
         said = os.path.join(folder, "said")
+        without = bare.hiding(folder)
         hands.script(os.path.join(folder, "apt-get"), f'echo "$1" >>"{folder}/called"; [ -e "{folder}/before" ] || /bin/cp "{said}" "{folder}/before"')
-        for no_install in (True, False):
-            named = {"PATH": folder, **({"NO_INSTALL": "1"} if no_install else {})}
+        for no_install, path in itertools.product((True, False), (bare.libraries(), without)):
+            named = {"PATH": folder, "PYTHONPATH": path}
+            named.update({"NO_INSTALL": "1"} if no_install else {})
             with open(said, "w", encoding="utf-8") as file:
                 code = f"import sys; sys.path.insert(0, {CHECKS!r}); import desk; desk.install()"
                 code += "; print(*desk.passed_over(), sep='\\n')"
-                subprocess.run(["/usr/bin/python3", "-c", code],
+                subprocess.run([sys.executable, "-c", code],
                                env=named, stdout=file, timeout=hands.PATIENCE, check=True)
             with open(said, encoding="utf-8") as file:
                 lines = file.read().splitlines()
-            rich = [] if importlib.util.find_spec("rich") else ["python3-rich"]
+            there = importlib.util.find_spec("rich") is not None and path != without
+            rich = [] if there else ["python3-rich"]
             wanted = ["tmux", "cadical", "minisat", "clasp", "chromium", "poppler-utils", *rich]
             installed = not no_install and os.geteuid() == 0
             head = "installing by apt-get, which NO_INSTALL=1 would forbid:" if installed else \
@@ -224,12 +231,14 @@ def installs(_program: str) -> list[str]:
 
 
 def calls(folder: str) -> list[str]:
-    """What apt-get was called for."""
+    """What apt-get was called for since this was asked last."""
     path = os.path.join(folder, "called")
     if not os.path.exists(path):
         return []
     with open(path, encoding="utf-8") as file:
-        return file.read().split()
+        words = file.read().split()
+    os.remove(path)
+    return words
 
 
 # ---------------------------------------------------------------- words

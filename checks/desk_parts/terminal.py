@@ -5,6 +5,7 @@ usage: checks/desk.py PROGRAM terminal
 
 from __future__ import annotations
 
+import contextlib
 import json
 import os
 import random
@@ -25,6 +26,7 @@ SIZES = ((200, 50), (80, 24), (60, 20), (40, 12))
 # which sessions are looked at at each size: the case, the plan, and at most how many questions
 SESSIONS = (("bicycle", "scopes", 99), ("team", "multi", 99), ("school", "quacq", 14), ("ward", "quacq", 14))
 KILLS = 8
+SLOWLY = os.path.join(hands.TOP, "checks", "desk_parts", "slowly.py")
 # a session is at its end
 OVER = r"Done after|clash|ended \d"
 # which page of how many stands at the foot of a screen
@@ -50,7 +52,7 @@ def run(program: str) -> list[str]:
     if shutil.which("tmux"):
         faults += at_sizes(program)
     else:
-        print("terminal: tmux isn't installed, so no screen was looked at")
+        hands.passed_over("terminal", "no screen is looked at, since tmux isn't installed")
     rows = [row for row in ROWS if row not in IN_TMUX or shutil.which("tmux")]
     for row in rows:
         try:
@@ -88,10 +90,13 @@ def at_sizes(program: str) -> list[str]:
     return faults
 
 
-def one_session(program: str, name: str, plan: str, most: int, size: tuple[int, int]) -> list[str]:
-    """Each cell that a question asks about stands on the screen, and no other."""
+def one_session(
+    program: str, name: str, plan: str, most: int, size: tuple[int, int], through: tuple[str, ...] = ()
+) -> list[str]:
+    """Each cell that a question asks about stands on the screen, and no other. A command may stand
+    between desk and the terminal."""
     with room(name) as path:
-        tmux = Tmux(hands.words(path, program, "--plan", plan), *size)
+        tmux = Tmux([*through, *hands.words(path, program, "--plan", plan)], *size)
         try:
             number = 0
             while number < most:
@@ -107,7 +112,7 @@ def one_session(program: str, name: str, plan: str, most: int, size: tuple[int, 
                 if "at most" not in shown.replace("\n", " ") or "groups finished" not in shown:
                     return [f"question {number} doesn't say how far it is:\n{shown}"]
                 press(tmux, "y" if CASES[name][1](wanted) else "n", rf"{beyond(number)}|{OVER}")
-            return [] if number > 8 else [f"only {number} questions came:\n{tmux.capture()}"]
+            return [] if number > 8 else [f"only {number} questions came:\n{shown}"]
         finally:
             tmux.close()
 
@@ -117,15 +122,20 @@ def beyond(number: int) -> str:
     return rf"question (?!{number}\b)\d+"
 
 
-def press(tmux: Tmux, key: str, pattern: str) -> None:
-    """Types a key until it is taken: one within the guard isn't. None is typed where an earlier one was taken late."""
+def press(tmux: Tmux, key: str, pattern: str) -> str:
+    """Types a key until it is taken, and what is shown then: one within the guard isn't. None is typed where an earlier one was
+    taken late."""
+    shown = ""
     for _ in range(20):
         time.sleep(0.17)
-        if re.search(pattern, tmux.capture()):
-            return
+        shown = tmux.wait_for("", 10.0)
+        if re.search(pattern, shown):
+            break
         tmux.type(key)
-        if re.search(pattern, tmux.wait_for(pattern, 10.0)):
-            return
+        shown = tmux.wait_for(pattern, 10.0)
+        if re.search(pattern, shown):
+            break
+    return shown
 
 
 def expected(program: str, path: str) -> tuple[int, hands.Named]:
@@ -147,7 +157,7 @@ def all_pages(tmux: Tmux, wanted: hands.Named) -> tuple[hands.Named, str]:
     """The values that all pages of a question show together."""
     found: hands.Named = {}
     screens: dict[int, str] = {}
-    shown = tmux.capture()
+    shown = tmux.wait_for("")
     for _ in range(20):
         pages = PAGES.search(shown)
         here, count = (int(pages[1]), int(pages[2])) if pages else (1, 1)
@@ -225,15 +235,16 @@ def guard_at_terminal(program: str) -> list[str]:
     with room() as path:
         it = Terminal(hands.words(path, program, "--plan", "scopes"))
         try:
+            it.wait_for("question 1")
             for _ in range(6):
-                it.wait_for("question 1")
-                it.type("yyyyyyyy")
-                if not it.wait_for("question 2", 0, 1.0):
-                    break
-                it.answer("b", 1)
-            else:
-                return ["a key that came with the question was taken six times"]
-            return [] if it.answer("y", 2) else ["a key after the guard isn't taken"]
+                place = it.type("yyyyyyyy")
+                if not it.told():
+                    return [f"a wrong key isn't told: {it.seen[-400:]!r}"]
+                if b"question 2" not in it.seen[place:]:
+                    return [] if it.answer("y", 2) else ["a key after the guard isn't taken"]
+                if not it.answer("b", 1):
+                    return ["question 1 doesn't come again"]
+            return ["a key that came with the question was taken six times"]
         finally:
             it.close()
 
@@ -244,15 +255,18 @@ def all_of_it(program: str) -> list[str]:
         tmux = Tmux(hands.words(path, program, "--plan", "quacq"), 40, 12)
         try:
             tmux.wait_for("question 1.*")
-            press(tmux, "y", "look at all|Done after 1")
-            first = tmux.capture()
+            first = press(tmux, "y", "look at all|Done after 1")
             press(tmux, "Space", "2/2")
-            press(tmux, "y", "Done after 1")
-            second = tmux.capture()
+            second = press(tmux, "y", "Done after 1")
             found = [] if "look at all" in first else [f"yes was taken on the first page:\n{first}"]
             return found + ([] if "Done after 1" in second else [f"yes isn't taken on the last page:\n{second}"])
         finally:
             tmux.close()
+
+
+def in_pieces(program: str) -> list[str]:
+    """Over a slow line a screen is looked at when all of it has come, and not before."""
+    return one_session(program, "school", "quacq", 9, (200, 50), (sys.executable, SLOWLY))
 
 
 def resized(program: str) -> list[str]:
@@ -264,7 +278,6 @@ def resized(program: str) -> list[str]:
             _, wanted = expected(program, path)
             for width, height in ((44, 14), (120, 30), (40, 12)):
                 tmux.resize(width, height)
-                hands.until(lambda: read_cells(tmux.capture(), wanted) != {} and all_pages(tmux, wanted)[0] == wanted)
                 got, shown = all_pages(tmux, wanted)
                 if got != wanted:
                     return [f"after a change to {width}x{height}: {got}\n{shown}"]
@@ -301,8 +314,12 @@ def acquire_killed(program: str) -> list[str]:
                     os.kill(pid, signal.SIGKILL)
                 except ProcessLookupError:
                     pass
-        time.sleep(0.2)
-        os.write(it.file, b"y")
+        for _ in range(40):     # a key that comes within the guard is dropped
+            time.sleep(0.2)
+            if it.ended():
+                break
+            with contextlib.suppress(OSError):      # it may have ended since
+                it.type("y")
     return killed_somehow(program, stop, lambda status: status == 1)
 
 
@@ -357,9 +374,7 @@ def dumb(program: str) -> list[str]:
                 it.close()
         it = Terminal(hands.words(path, program, "--plan", "scopes"), env={"LC_ALL": "C", "LANG": "C"})
         try:
-            it.wait_for("at most")
-            time.sleep(0.3)
-            it.read()
+            it.drawn("question 1")
             if max(it.seen) > 127 or b"+" not in it.seen:
                 found.append(f"LC_ALL=C: {it.seen!r}")
         finally:
@@ -376,9 +391,9 @@ def uncoloured(program: str) -> list[str]:
             try:
                 it.wait_for("question 1")
                 it.answer("y", 2)
-                it.wait_for("has changed")
-                time.sleep(0.3)
-                it.read()
+                it.drawn("question 2")
+                if b"has changed" not in it.seen:
+                    found.append(f"{env}: nothing is marked in {it.seen[-600:]!r}")
                 if (RED.search(it.seen) is not None) != wanted:
                     found.append(f"{env}: {RED.findall(it.seen)} in {it.seen[-600:]!r}")
             finally:
@@ -436,8 +451,8 @@ def wrong_keys(program: str) -> list[str]:
             for turn in range(100):
                 time.sleep(0.002)
                 it.type("xj5!\x1b[Aö\x1b[C\t\r"[turn % 8:] * 2)
-            time.sleep(0.5)
-            it.read()
+            if not it.told():
+                return [f"a wrong key isn't told: {it.seen[-400:]!r}"]
             if hands.answers(program, path) != 0 or b"question 2" in it.seen:
                 return ["a wrong key was taken for an answer"]
             return [] if it.answer("y", 2) else [f"no answer is taken any more: {it.seen[-400:]!r}"]
@@ -479,8 +494,7 @@ def suspended(program: str) -> list[str]:
         line = "set -m; " + " ".join(hands.words(path, program, "--plan", "scopes")) + "; echo BETWEEN; sleep 0.3; fg"
         it = Terminal(["/bin/bash", "--norc", "-i", "-c", line], env={"PS1": "$ "})
         try:
-            it.wait_for("question 1")
-            time.sleep(0.3)
+            it.drawn("question 1")
             place = it.type("\x1a")
             if not it.wait_for("BETWEEN", place):
                 return [f"Ctrl-Z doesn't stop it: {it.seen[-300:]!r}"]
@@ -495,8 +509,8 @@ def suspended(program: str) -> list[str]:
 
 
 ROWS = (guard, guard_at_terminal, all_of_it, resized, interrupted, desk_killed, acquire_killed, dumb, uncoloured, piped, broken_output, wrong_keys,
-        plain_at_terminal, two_desks, suspended)
-IN_TMUX = (all_of_it, resized)
+        plain_at_terminal, two_desks, suspended, in_pieces)
+IN_TMUX = (all_of_it, resized, in_pieces)
 
 
 # ---------------------------------------------------------------- disks of its own
@@ -509,7 +523,7 @@ def on_disks(program: str) -> list[str]:
                 ran = subprocess.run([*way, sys.executable, os.path.realpath(__file__), program, folder], stdout=subprocess.PIPE, text=True,
                                      check=False)
                 return list(json.loads(ran.stdout)) if ran.returncode == 0 else [f"the disks: status {ran.returncode}"]
-    print("terminal: nothing may be mounted here, so no disk was full or read-only")
+    hands.passed_over("terminal", "no disk is full or read-only, since nothing may be mounted")
     return []
 
 

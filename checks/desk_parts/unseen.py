@@ -188,9 +188,13 @@ def at_a_terminal(program: str) -> list[str]:
 def run(program: str) -> list[str]:
     """Faults of all of these."""
     faults = quick(program)
+    where = f"{len(LINES)} kinds of lines, in calls, in sessions"
     if shutil.which("tmux"):
         faults += [f"at_a_terminal: {fault}" for fault in at_a_terminal(program)]
-    print(f"unseen: {len(hidden())} letters in {len(LINES)} kinds of lines, in calls, in sessions, at a terminal")
+        where += ", at a terminal"
+    else:
+        hands.passed_over("unseen", "no title of a terminal is looked at, since tmux isn't there")
+    print(f"unseen: {len(hidden())} letters in {where}")
     return faults
 
 
