@@ -256,10 +256,11 @@ def all_of_it(program: str) -> list[str]:
         try:
             tmux.wait_for("question 1.*")
             first = press(tmux, "y", "look at all|Done after 1")
+            if "look at all" not in first:
+                return [f"yes was taken on the first page:\n{first}"]
             press(tmux, "Space", "2/2")
             second = press(tmux, "y", "Done after 1")
-            found = [] if "look at all" in first else [f"yes was taken on the first page:\n{first}"]
-            return found + ([] if "Done after 1" in second else [f"yes isn't taken on the last page:\n{second}"])
+            return [] if "Done after 1" in second else [f"yes isn't taken on the last page:\n{second}"]
         finally:
             tmux.close()
 
