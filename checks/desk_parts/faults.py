@@ -98,7 +98,7 @@ FAULTS = [
     (WARD + "ask: same day\nwords: diferent\n", ":4: the word `diferent` isn't in the catalogue; the nearest is `different`"),
     (WARD + "ask: same day\nwords: different, never An\n", ":4: the word `never An` isn't in the catalogue; the nearest is `never Ann`"),
     ("things: a b\nvalues: day Mon Tue x hour 1 2\nask: all\nwords: at least 2 apart\n",
-     ":4: the word `at least 2 apart` isn't in the catalogue; in a grid it is counted in a part: `at least 2 day apart`"),
+     ":4: the word `at least 2 apart` isn't in the catalogue; in a grid it is counted in a part: `at least 2 days apart`"),
     ("thing a: x y\nthing b: z\nwords: a=x not with b=zz\n", ":3: b has no value zz; the nearest is `z`"),
     ("thing a: x y\nthing b: z\nwords: a=x not with c=z\n", ":3: no such thing: c; there are a, b"),
     (LIST + "ask: all\nwords: same, all three different\n", ": `all three different` speaks of 3 things, and `ask` puts no more than 2 together: "

@@ -4,6 +4,7 @@ the form, and answers that are taken over."""
 from __future__ import annotations
 
 import contextlib
+import fcntl
 import html
 import html.parser
 import os
@@ -214,6 +215,108 @@ def at_fields(program: str) -> Faults:
                     yield f"{more}: {text!r} isn't on the page any more"
             if reply.status != 303 and text_of(web, "x.case") != THREE:
                 yield f"{more}: a form that can't be written was written: {text_of(web, 'x.case')!r}"
+
+
+class Marked(html.parser.HTMLParser):
+    """The fields of a page that are wrong, each with what is said of it."""
+
+    def __init__(self, page: str) -> None:
+        super().__init__()
+        self.fields: list[dict[str, str]] = []
+        self.texts: dict[str, str] = {}         # of what has a name on the page
+        self._open: list[str] = []
+        self.feed(page)
+
+    def handle_starttag(self, tag: str, attrs: list[tuple[str, str | None]]) -> None:
+        """One element."""
+        of = {name: value or "" for name, value in attrs}
+        if tag in ("input", "textarea", "select"):
+            self.fields.append(of)
+        if tag in ("div", "p"):
+            self._open.append(of.get("id", ""))
+
+    def handle_endtag(self, tag: str) -> None:
+        """The end of one."""
+        if tag in ("div", "p") and self._open:
+            self._open.pop()
+
+    def handle_data(self, data: str) -> None:
+        """A text, of all that it is in."""
+        for name in filter(None, self._open):
+            self.texts[name] = self.texts.get(name, "") + data
+
+    def wrong(self) -> dict[str, str]:
+        """What is said of each field that is wrong, by its name on the page, and of each tick by
+        what it ticks."""
+        wrong = [of for of in self.fields if of.get("aria-invalid") == "true"]
+        told = (self.texts.get(of["aria-describedby"], "") for of in wrong)
+        said = (re.sub("[\u201c\u201d]", "`", text) for text in told)
+        return dict(zip((of.get("id") or of["value"] for of in wrong), said, strict=True))
+
+
+def marked(program: str) -> Faults:
+    """What is wrong is marked at its own field or tick, with why, and what is right isn't."""
+    grid = ROSTER.replace("only Mon: Ann Ben\n", "")
+    faulty = grid
+    for right, wrong in (("ask: same day,", "ask: same day, alll,"),
+                         ("never Ann", "never Dan, diferent"),
+                         ("always: different on same day",
+                          "always: different on same day, same on nothing"),
+                         ("note: keep", "known: at most 2 of them Zed")):
+        faulty = faulty.replace(right, wrong)
+    sides = [f"things-side-{k}-{what}" for k in range(2) for what in ("name", "text")]
+    rows: tuple[tuple[str, dict[str, str], dict[str, str]], ...] = (
+        (grid, {}, {}),
+        (faulty, {}, {"alll": "`alll` isn't a way", "never Dan": "the word `never Dan`",
+                      "diferent": "the word `diferent`", "always-1": "`nothing` isn't a way",
+                      "known-0": "no such value: Zed"}),
+        (grid.replace("same day, late", "same day triples, late"), {},
+         {"same day triples": "no things of the case stand so"}),
+        (grid, {"things-side-1-name": ""}, dict.fromkeys(sides[2:], "a side has no name")),
+        (grid, {"things-side-0-text": "Mon Mon"}, dict.fromkeys(sides, "stands twice")),
+        (grid, {"values-text": "Ann Ann"}, {"values-text": "stands twice"}),
+        (grid, {"group-a": "Mon early"}, {f"group-{part}": "chosen by half" for part in "abcd"}),
+        (grid, {"rule-word": "different"},
+         dict.fromkeys(("rule-word", "rule-on"), "chosen by half")),
+        (grid, {"notes": "a # b"}, {"notes-text": "a `#` behind a blank"}),
+    )
+    with Web(program, {"x.case": THREE}) as web:
+        web.enter()
+        for text, more, due in rows:
+            with open(os.path.join(web.folder, "x.case"), "w", encoding="utf-8") as file:
+                file.write(text)
+            page = web.get("/case/x.case")
+            if more:
+                reply = web.post("/case/x.case", changed(fields(page.text), more))
+                page = web.get("/case/x.case") if reply.status == 303 else reply
+            found = Marked(page.text).wrong()
+            if found.keys() != due.keys() or any(due[name] not in found[name] for name in due):
+                yield f"{more or text!r}: marked as wrong are {found}, and not {due}"
+
+
+def locked(program: str) -> Faults:
+    """What can't be done since another desk works on the case is told with the case, and leads back
+    to it."""
+    name, path = "my%20ward.case", "/case/my%20ward.case"
+    with Web(program, {"my ward.case": THREE}) as web:
+        web.enter()
+        web.does(name, "y", web.begin(name).number)
+        web.does(name, "q", web.settled(name).number)
+        web.post(path, [*fields(web.get(path).text), ("words", "next to")])
+        sent = {"mark": mark(web.get(path).text)}
+        with open(os.path.join(web.folder, "my ward.journal"), "rb+") as held:
+            fcntl.flock(held, fcntl.LOCK_EX)
+            reply = web.post(f"{path}/carry", sent)
+        said = html.unescape(re.sub(r"<.*?>", " ", reply.text))
+        if reply.status != 409 or "another desk works on it" not in said:
+            yield f"beside another desk taking over has status {reply.status}: {said[-400:]!r}"
+        if not reply.head.endswith(": my ward") or "<title>my ward.case: " not in reply.text:
+            yield f"what can't be done doesn't name the case: {reply.head!r}"
+        if web.folder in said or f'class="button" href="{web.path}{path}"' not in reply.text:
+            yield f"what can't be done doesn't lead back to the case: {reply.text[-900:]!r}"
+        reply = web.post(f"{path}/carry", sent)
+        if reply.status != 200:
+            yield f"after the other desk taking over has status {reply.status}: {reply.head!r}"
 
 
 def as_text(program: str) -> Faults:
@@ -447,7 +550,8 @@ def labels(program: str) -> Faults:
                 yield f"{path}: what is spoken of isn't there: {sorted(gone)}"
 
 
-TESTS = (labels, unchanged, ticked, by_ticks, at_fields, as_text, meanwhile, names, copies, sizes, taken_over, reckoned)
+TESTS = (labels, unchanged, ticked, by_ticks, at_fields, marked, locked, as_text, meanwhile, names,
+         copies, sizes, taken_over, reckoned)
 PLANTED = (
     # a field that nobody can name
     ("templates/fields.html", '<label for="{{ field }}">', "<label>", labels),
@@ -465,6 +569,23 @@ PLANTED = (
     ("faults.py", "return sum(one.field == field for one in lines[:at])", "return 1", at_fields),
     ("templates/fields.html", "{%- for one in found.at(field, place) %}",
      "{%- for one in found.every %}", at_fields),
+    # a tick, a side or a choice that is wrong looks like one that is right, and all do where one is
+    ("templates/fields.html", "{% if on %} checked{% endif %}{{ is_wrong }}> <span>",
+     "{% if on %} checked{% endif %}> <span>", marked),
+    ("templates/fields.html", "{{ faults(field, place) }}</div>\n{% else %}", "</div>\n{% else %}",
+     marked),
+    ("templates/fields.html", "found.at(field, k) + (found.whole(field) if filled else [])",
+     "found.at(field)", marked),
+    ("templates/fields.html", '{% if kind == "grid" %} aria-describedby=',
+     "{% if false %} aria-describedby=", marked),
+    ("templates/fields.html", "{% if found.half(name) %}", "{% if false %}", marked),
+    ("templates/fields.html", '<div class="pieces">\n{{ rest(field) }}\n',
+     '<div class="pieces">\n<div id="{{ field }}-faults"></div>\n', marked),
+    ("templates/case.html", 'rows="2"{{ make.wrong("notes") }}', 'rows="2"', marked),
+    # what can't be done is told without the case
+    ("app.py", '(request.view_args or {}).get("name", "")', '""', locked),
+    ("app.py", '.replace(os.path.join(pages.folder().path, ""), "")', "", locked),
+    ("templates/wrong.html", "{% if undone %}<a", "{% if false %}<a", locked),
     # the newer file of the disk is overwritten
     ("store.py", "if now.mark != mark:", "if False:", meanwhile),
     # names that lead out of the folder, and names that are there

@@ -47,6 +47,14 @@ ask: same day
 words: different
 plan: scopes
 """
+REPORTED = """title: A week with long names
+things: day Mon .. Sun x shift early late
+values: Annegret Bernhard Cassandra
+ask: same day
+words: different, never Annegret
+plan: scopes
+"""
+UNDECIDED = WARD.replace("plan: scopes", "plan: quacq")
 QUARREL = """title: Seats
 things: Ada Bo Cy Eve
 values: table left right x seat 1 2
@@ -423,6 +431,82 @@ def week(program: str) -> Faults:
             yield f"of eight names {hidden} pixels are hidden"
 
 
+# what of a report is wider than its place; whether its patterns name the day in a cell, and whether
+# the days stand at the top
+HIDDEN = """return [...document.querySelectorAll('figure, .wide')]
+    .filter(one => one.checkVisibility() && one.scrollWidth > one.clientWidth)
+    .map(one => one.innerText.slice(0, 60));"""
+PATTERNS = """return [document.querySelector('table.pattern').innerText.includes('Sun:'),
+    document.querySelector('table.pattern thead').checkVisibility()];"""
+# how many answers there are, how many of them can be seen, and whether it is said what to do where
+# a browser doesn't unfold them
+SEEN = """const every = [...document.querySelectorAll('table.answers tbody tr')];
+return [every.length, every.filter(one => one.checkVisibility()).length,
+    document.querySelector('.unfold').checkVisibility()];"""
+
+
+def paper(program: str) -> Faults:
+    """The report of a week, as a page and as the file that is saved: on a phone nothing of it is
+    hidden, its pictures stand in columns, and paper has all answers."""
+    with opened(program, {"x.case": REPORTED}, "x.case") as (web, browser):
+        while "question" in browser.head():
+            one, other = (part.split()[-1] for part in browser.text(".said").split(", "))
+            browser.does("No" if one == other else "Yes")
+        browser.does("Report")
+        saved = os.path.join(web.folder, "saved.html")
+        with open(saved, "w", encoding="utf-8") as file:
+            file.write(web.get("/ask/x.case/report.html").text)
+        for what, address in (("the report", browser.driver.current_url),
+                              ("the saved page", f"file://{saved}")):
+            browser.go(address)
+            browser.wait(lambda: browser.all("table.answers"))
+            every, seen, hint = browser.driver.execute_script(SEEN)
+            if every < 7 or seen or hint:
+                yield f"{what} shows {seen} of {every} answers before they are unfolded; {hint}"
+            browser.driver.execute_cdp_cmd("Emulation.setEmulatedMedia", {"media": "print"})
+            every, seen, hint = browser.driver.execute_script(SEEN)
+            if seen < every or hint:
+                yield f"on paper {what} shows {seen} of {every} answers; {hint}"
+            browser.driver.execute_script("document.querySelector('details').open = true")
+            for width in WIDTHS:
+                browser.sized(width, 900)
+                if hidden := browser.driver.execute_script(HIDDEN):
+                    yield f"at {width} of {what} this is hidden in part: {hidden}"
+                days = browser.driver.execute_script(PATTERNS)
+                if days != [width == 360, width > 360]:
+                    yield f"at {width} in {what} days are named in a cell, and at the top: {days}"
+            browser.sized(1000, 900)
+            if wide := browser.driver.execute_script(CAPTIONS.replace(".report ", "")):
+                yield f"in {what} {wide} plans are made wider by what is said above them"
+
+
+REACHED = """return [...document.querySelectorAll('main .buttons button')]
+    .map(one => one.checkVisibility() ? one.getBoundingClientRect().bottom : Infinity);"""
+
+
+def undecided(program: str) -> Faults:
+    """Where much isn't settled, the buttons are on the first screen all the same."""
+    with Web(program, {"x.case": UNDECIDED}, "--no-browser", "--budget", "1") as web, \
+            Browser() as browser:
+        browser.go(f"file://{web.file}")
+        browser.at("#new-name")
+        browser.go(f"http://{web.host}{web.path}/ask/x.case")
+        browser.click("Begin the questions")
+        browser.wait(lambda: browser.stands() and browser.number() and not browser.all("#share"))
+        while "question" in browser.head():
+            browser.does("Yes")
+        lines = len(browser.all("main li"))
+        if "couldn't be settled" not in browser.head() or lines < 40:
+            yield f"with a small budget the page is {browser.head()!r}, with {lines} lines"
+            return
+        yield from looked_at(browser, "rules that couldn't be settled")
+        for width, height in ((360, 640), (1000, 500)):
+            browser.sized(width, height)
+            bottoms = browser.driver.execute_script(REACHED)
+            if len(bottoms) != 2 or max(bottoms) > height:
+                yield f"at {width} by {height} the buttons end at {bottoms}"
+
+
 def month(program: str) -> Faults:
     """A plan of a month, which is wider than each page, moves in its own place: the page stands
     still, and its last day is reached."""
@@ -436,6 +520,16 @@ def month(program: str) -> Faults:
                 return [document.documentElement.scrollWidth, hidden, last];""")
             if wide > width or hidden <= 0 or last > width:
                 yield f"at {width} a month is {wide} wide, {hidden} of it hidden, and ends at {last}"
+
+
+# what is left of the place of the ways of asking, were they as narrow as they can be
+ROOM = """
+const ways = document.querySelector('table.ways'), place = ways.parentElement.clientWidth;
+ways.style.width = '1px';
+const narrow = ways.getBoundingClientRect().width;
+ways.style.width = '';
+return place - narrow;"""
+LEAST_ROOM = 40         # pixels: bars that move a page and a part of it take as many
 
 
 def on_a_phone(program: str) -> Faults:
@@ -458,8 +552,13 @@ def on_a_phone(program: str) -> Faults:
         browser.go(f"http://{web.host}{web.path}/case/c0.case")
         browser.click("Work it out")
         browser.wait(lambda: browser.all("table.ways"))
-        if wide := browser.driver.execute_script(SIDEWAYS):
-            yield f"on a phone what the questions come to is {wide} pixels wider than its place"
+        for width in WIDTHS:
+            browser.sized(width, 700)
+            if wide := browser.driver.execute_script(SIDEWAYS):
+                yield f"at {width} what the questions come to is {wide} wider than its place"
+            if (room := browser.driver.execute_script(ROOM)) < LEAST_ROOM:
+                yield f"at {width} the ways of asking leave {room} pixels of their place"
+        browser.sized(360, 700)
         browser.go(f"http://{web.host}{web.path}/case/bad.case")
         browser.settled()
         browser.sized(1000, 900)
@@ -555,7 +654,8 @@ def judged(browser: Browser) -> Faults:
     yield from looked_at(browser, "the report")
 
 
-TESTS = (presses, tabs, foreign, names, keyboard, read, cases, week, month, on_a_phone, too_large, breaks_off)
+TESTS = (presses, tabs, foreign, names, keyboard, read, cases, week, paper, undecided, month,
+         on_a_phone, too_large, breaks_off)
 PLANTED = (
     ("static/page.js", "event.repeat || ", "", presses),
     ("sittings.py", "            if number != self._number or self._over:\n",
@@ -583,9 +683,27 @@ PLANTED = (
     ("static/style.css", ".report .side figcaption { width: 0; min-width: 100%; }", "", week),
     ("static/style.css", "@media (min-width: 46rem) {", "@media (min-width: 64rem) {", week),
     ("static/case.css", "#fields textarea { field-sizing: content;", "#fields textarea {", week),
-    ("static/case.css",
-     "  table.ways { font-size: .8rem; }\n  table.ways td, table.ways th { padding: .2rem .3rem; }\n",
-     "", on_a_phone),
+    ("templates/forecast.html", '<tr><th scope="row">questions</th><td>',
+     '<tr><th>questions</th><th>never more than</th><th>slips noticed</th><th>advised</th><td>',
+     on_a_phone),
+    # pictures that captions pull apart, what a phone hides, and paper without answers
+    ("../report/style.py", ".side figcaption{{width:0;min-width:100%}}\n", "", paper),
+    ("../report/style.py", "min-width:0;overflow-wrap:anywhere}}", "min-width:0}}", paper),
+    ("../report/style.py", ".pattern td{{display:inline-block;", ".pattern td{{", paper),
+    ("../report/style.py", ".where{{display:inline}}\n", "", paper),
+    ("../report/style.py", "details::details-content{{content-visibility:visible}}\n", "", paper),
+    ("../report/style.py",
+     "@supports selector(details::details-content){{.unfold{{display:none}}}}\n", "", paper),
+    ("static/style.css", "  .report .plan td, .report .plan th { overflow-wrap: anywhere; }\n", "",
+     paper),
+    ("static/style.css", "  .report .pattern td { display: inline-block;",
+     "  .report .pattern td {", paper),
+    ("static/style.css",
+     "  .report details::details-content { content-visibility: visible; }\n", "", paper),
+    # the buttons below all that isn't settled
+    ("templates/undecided.html", "<h1>{{ sheet.head }}</h1>\n",
+     "<h1>{{ sheet.head }}</h1>\n{% for one in sheet.open %}<p>{{ one }}</p>{% endfor %}\n",
+     undecided),
     ("static/case.css",
      "  table.shape { font-size: .8rem; }\n  table.shape td, table.shape th { padding: .1rem .2rem; min-width: 1.4rem; }\n",
      "", week),

@@ -349,6 +349,40 @@ def seen(program: str) -> Faults:
                 yield f"at {width} by {height} the bar comes after {steps} steps"
 
 
+WRONG = "return [...document.querySelectorAll('[aria-invalid]')].map(one => one.id || one.value)"
+# of a tick: its colours, and whether what is said of it can be seen within it or below it
+TICK = """
+const one = document.querySelector(`input[name=words][value="${arguments[0]}"]`);
+const box = one.closest('label'), style = getComputedStyle(box);
+const end = box.getBoundingClientRect().bottom;
+const said = document.getElementById(one.getAttribute('aria-describedby') || '-');
+const seen = said !== null && said.checkVisibility() && said.getBoundingClientRect().top - end < 20;
+return [style.backgroundColor, style.outlineStyle,
+    getComputedStyle(box.querySelector('strong')).color, seen];"""
+
+
+def marks(program: str) -> Faults:
+    """While somebody types, a field is marked as soon as it is wrong, and no longer once it is
+    right; a tick that is wrong is told from a right one by its colour, and by what stands below."""
+    with Web(program, {"x.case": THREE.replace("before", "befor")}) as web, \
+            Browser(1200, 1000) as browser:
+        browser.go(f"file://{web.file}")
+        browser.at("#new-name")
+        browser.go(f"http://{web.host}{web.path}/case/x.case")
+        browser.settled()
+        for dark in (False, True):
+            browser.sized(1200, 1000, dark)
+            right, wrong = (browser.driver.execute_script(TICK, text)
+                            for text in ("different", "befor"))
+            if any(one == other for one, other in zip(right, wrong, strict=True)) or not wrong[-1]:
+                yield f"dark {dark}: a tick that is wrong is {wrong}, and a right one {right}"
+        for text, due in (("a b c a", ["things-text"]), ("a b c", ["befor"])):
+            browser.types("#things-text", text)
+            browser.settled()
+            if (now := browser.driver.execute_script(WRONG)) != due:
+                yield f"with the things {text!r} marked as wrong are {now}, and not {due}"
+
+
 FOLDED = "return [...document.querySelectorAll('#ask details[data-fold]')].map(one => [one.dataset.fold, one.open])"
 
 
@@ -411,7 +445,8 @@ def without_scripts(program: str) -> Faults:
                 yield f"without scripts the file says {made!r}"
 
 
-TESTS = (seats, conference, holidays, store, choir, duty, menu, by_keys, seen, on_a_phone, without_scripts)
+TESTS = (seats, conference, holidays, store, choir, duty, menu, by_keys, seen, marks, on_a_phone,
+         without_scripts)
 PLANTED = (
     # a word that is ticked isn't written
     ("fields.py", "several[builder.field].append(made)", "several[builder.field] = [made]", duty),
@@ -419,6 +454,11 @@ PLANTED = (
     ("static/case.js", "if (again) again.focus({preventScroll: true});", "", by_keys),
     # the bar that saves covers what the keyboard leads to
     ("static/case.css", "html:has(.save) { scroll-padding: 1rem 0 6rem; }", "", seen),
+    # what is wrong looks as what is right, and what is typed isn't marked before it is saved
+    ("static/case.css", "label.tick:has(input[aria-invalid]) { background: var(--clash-ground);",
+     "label.tick:has(input[aria-invalid]) {", marks),
+    ("static/case.js", "  marked(page);\n", "", marks),
+    ("static/case.js", '    else if (now) field.removeAttribute("aria-invalid");\n', "", marks),
     # groups are never folded, and what was opened is folded again
     ("static/case.js", "  fold(form, new Map());\n", "", on_a_phone),
     ("static/case.js", "seen.has(head) ? seen.get(head) : ", "", on_a_phone),

@@ -296,13 +296,9 @@ class Faults(unittest.TestCase):
         rows = (
             (Form(title="Room # 3"), "title", None),
             (Form(things=Listed(sides=(Row("day", "Mon"),))), "things", None),
-            (Form(values=Listed(sides=(Row("day", "Mon"), Row("", "a b")))), "values", None),
-            (
-                Form(values=Listed(sides=(Row("day", "Mon"), Row("my shift", "a b")))),
-                "values",
-                None,
-            ),
-            (Form(values=Listed(sides=(Row("day", "Mon"), Row("shift", "")))), "values", None),
+            (Form(values=Listed(sides=(Row("day", "Mon"), Row("", "a b")))), "values", 1),
+            (Form(values=Listed(sides=(Row("my day", "Mon"), Row("shift", "a")))), "values", 0),
+            (Form(values=Listed(sides=(Row("day", "Mon"), Row("shift", "")))), "values", 1),
             (Form(own=(Row("a", "1"), Row("b:c", "2"))), "own", 1),
             (Form(only=(Row("", "1"),)), "only", 0),
             (Form(always=("same on all", "same on #1")), "always", 1),

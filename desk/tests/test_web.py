@@ -73,16 +73,78 @@ class Tables(unittest.TestCase):
 class Offered(unittest.TestCase):
     """What the form offers to be ticked."""
 
-    def test_days_in_a_row_are_several(self) -> None:
-        """A tick says `3 days in a row`, and writes what the case has."""
-        from planners_desk.web import choices
+    def ticks(self, text: str) -> list[tuple[str, str]]:
+        """What is to be ticked in the form of a case, each with what it is called."""
+        from planners_desk.web import choices, forms
 
-        text = "things: day Mon .. Sun x shift early late\nvalues: Ann Ben\n"
-        case = casefile.parse(text + "ask: each\nwords: same\n", "x.case")
-        ticks = [tick for family in choices.ask_families(case) for tick in family.ticks]
-        self.assertIn(
-            ("3 day in a row", "3 days in a row"), [(tick.text, tick.label) for tick in ticks]
+        offered = choices.choices(forms.read(text), "x.case")
+        return [
+            (tick.text, tick.label)
+            for family in (*offered.ask, *offered.words)
+            for tick in family.ticks
+        ]
+
+    def test_days_in_a_row_are_several(self) -> None:
+        """Each phrase of a case that is offered is one of the ticks, however it is spelled there:
+        none of its own says the same once more. Each is called what a new case gets."""
+        text = (
+            "things: day Mon .. Sun x shift early late\nvalues: table left right x seat 1 2 3 4\n"
+            "ask: {}\nwords: {}\n"
         )
+        for ask, words in (
+            ("3 days in a row", "at least 2 seats apart"),
+            ("3 day in a row", "at least 2 seat apart"),
+            ("all", "same table"),
+            ("all pairs", "same tables"),
+            ("same day", "at most 1 seat apart"),
+            ("same days pairs", "at most 1 seats apart"),
+        ):
+            ticks = dict(self.ticks(text.format(ask, words)))
+            for phrase in (ask, words):
+                self.assertIn(phrase, ticks)
+            fresh = [
+                ("all", "all"),
+                ("same day", "same day"),
+                ("3 days in a row", "3 days in a row"),
+                ("at least 2 seats apart", "at least 2 seats apart"),
+                ("at most 1 seat apart", "at most 1 seat apart"),
+                ("same table", "same table"),
+            ]
+            called = list(ticks.values())
+            for _, label in fresh:
+                self.assertEqual(called.count(label), 1, f"{label} in {called}")
+        new = self.ticks(text.format("all", "same"))
+        for tick in fresh:
+            self.assertIn(tick, new)
+
+    def test_a_case_that_has_both_spellings(self) -> None:
+        """The one that a new case gets is the tick; the other one stays, and is shown beside."""
+        text = "things: day Mon .. Sun x shift early late\nvalues: Ann Ben\nwords: same\n"
+        ticks = self.ticks(text + "ask: 3 day in a row, 3 days in a row\n")
+        self.assertEqual([one for one in ticks if one[1] == "3 days in a row"], [ticks[6]])
+        self.assertEqual(ticks[6][0], "3 days in a row")
+
+
+class Reckoned(unittest.TestCase):
+    """How many questions a way of asking had, in words."""
+
+    def test_what_is_known_is_said(self) -> None:
+        """Of a way that wasn't tried to the end only what says something."""
+        from planners_desk.hints.trials import Figures
+        from planners_desk.web.forecast import questions
+
+        for counts, late, beyond, said in (
+            ((17, 58, 79), False, None, "17 / 58 / 79"),
+            ((17, 58, 79), True, 0, "17 / 58 / 79, in 3 of 12 cases"),
+            ((17, 58, 79), True, 79, "17 / 58 / 79, in 3 of 12 cases"),
+            ((17, 58, 79), True, None, "17 / 58 / 79, in 3 of 12 cases"),
+            ((17,), True, 80, "17 / 17 / 17, in 1 of 12 cases, and more than 80 in the next"),
+            ((), True, 45, "more than 45 in the first case"),
+            ((), True, 0, "not tried: the time was over"),
+            ((), True, None, "not tried: the time was over"),
+        ):
+            one = Figures("quacq", counts, 2, 2, 9, 99, 0, 0, late, beyond)
+            self.assertEqual(questions(one, 12), said)
 
 
 class Owners(unittest.TestCase):

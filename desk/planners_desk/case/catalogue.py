@@ -322,13 +322,14 @@ def _of_parts(setting: Setting, text: str) -> Word | None:
         part = setting.part(m[3])
         if part is None:
             return None
+        far = f"are at {m[1]} {setting.value_parts[part].counted(int(m[2]))} apart"
         return _word(
             setting,
             text,
             2,
             _apart(m[1], int(m[2]), setting.seen(part)),
-            "{0} and {1} are " + text,
-            "are " + text,
+            "{0} and {1} " + far,
+            far,
         )
     m = re.fullmatch(r"(same|different|earlier|later) (.+)", text)
     part = setting.part(m[2]) if m else None
@@ -576,7 +577,9 @@ def _forms(setting: Setting) -> Iterator[str]:
             else [entry.form]
         )
         for form in forms + [form.replace("three", "four") for form in forms if "three" in form]:
-            if "PART" in form:
+            if "2 PART" in form:
+                yield from (form.replace("2 PART", part.counted(2)) for part in setting.value_parts)
+            elif "PART" in form:
                 yield from (form.replace("PART", part.name) for part in setting.value_parts)
             elif re.search(r"\b[VW]\b", form):
                 other = setting.values[-1]
@@ -602,9 +605,9 @@ def _near(setting: Setting, text: str) -> str:
     meant = _meant(setting, text)
     if meant:
         return synonyms.hint(meant)
-    if setting.value_parts and re.fullmatch(r"at (least|most) \d+ apart", text):
+    if setting.value_parts and (m := re.fullmatch(r"at (least|most) (\d{1,3}) apart", text)):
         return (
             "; in a grid it is counted in a part: "
-            f"`{text.removesuffix(' apart')} {setting.value_parts[0].name} apart`"
+            f"`at {m[1]} {setting.value_parts[0].counted(int(m[2]))} apart`"
         )
     return names.nearest(text, _forms(setting))

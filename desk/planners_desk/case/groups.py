@@ -59,7 +59,7 @@ def _near(things: Sequence[Thing], parts: Sequence[Part], phrase: str) -> str:
             f"same {part.name}",
             f"same {part.name} triples",
             f"next {part.name}",
-            f"3 {part.name} in a row",
+            f"{part.counted(3)} in a row",
         ]
         others = [member for other in parts if other is not part for member in other.members][:12]
         forms += [
@@ -72,7 +72,7 @@ def _near(things: Sequence[Thing], parts: Sequence[Part], phrase: str) -> str:
     return names.nearest(
         phrase, forms
     ) or f"; there are `all`, `each`, `{things[0].name} - {things[-1].name}`" + (
-        f", `same {parts[0].name}`, `next {parts[0].name}`, `3 {parts[0].name} in a row`"
+        f", `same {parts[0].name}`, `next {parts[0].name}`, `{parts[0].counted(3)} in a row`"
         if parts
         else ""
     )

@@ -52,6 +52,15 @@ class Part:
     name: str
     members: tuple[str, ...]
 
+    @property
+    def several(self) -> str:
+        """Its name for more than one: `days`."""
+        return self.name if self.name.endswith("s") else self.name + "s"
+
+    def counted(self, count: int) -> str:
+        """So many of it: `1 day`, `2 days`."""
+        return f"{count} {self.name if count == 1 else self.several}"
+
 
 @dataclass(frozen=True)
 class Thing:

@@ -285,9 +285,9 @@ def _row(one: Figures) -> tuple[str, ...]:
     """A way of asking in the table."""
     slips = f"{one.noticed} of {one.slips}" if one.slips else "not tried"
     counts = f"{one.questions[0]} / {one.middle} / {one.questions[-1]}" if one.questions else ""
-    if one.beyond is not None:
+    if one.more_than is not None:
         counts += (
-            f"{', in the next ' if counts else ''}more than {one.beyond} when the time was over"
+            f"{', in the next ' if counts else ''}more than {one.more_than} when the time was over"
         )
     elif one.late:
         counts += f"{', then the time was over' if counts else 'not tried: the time was over'}"

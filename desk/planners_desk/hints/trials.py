@@ -84,6 +84,12 @@ class Figures:
         """Questions in the middle trial."""
         return self.questions[len(self.questions) // 2]
 
+    @property
+    def more_than(self) -> int | None:
+        """Questions so far of the trial under way when the time was over, where that says more than
+        the trials before; else None."""
+        return self.beyond if (self.beyond or 0) > max(self.questions, default=0) else None
+
 
 @dataclass(frozen=True)
 class Price:

@@ -342,11 +342,17 @@ def grid_table(grid: Grid) -> Html:
 
 
 def grid_cell(lines: Cells) -> Html:
-    """What stands at one place, a line each."""
-    inside = [piece for cell in lines if cell.text for piece in (element("br"), cell.text)][1:]
-    return element(
-        "td", *inside, class_="clash" if any(cell.kind == CLASH for cell in lines) else None
-    )
+    """What stands at one place, a line each; only what clashes is marked."""
+    clash = [cell.kind == CLASH for cell in lines]
+    if all(clash) or not any(clash):
+        texts = [cell.text for cell in lines]
+    else:
+        texts = [
+            element("span", cell.text, class_="clash") if marked else cell.text
+            for cell, marked in zip(lines, clash, strict=True)
+        ]
+    inside = [piece for text in texts if text for piece in (element("br"), text)][1:]
+    return element("td", *inside, class_="clash" if all(clash) else None)
 
 
 # ---------------------------------------------------------------- the pattern view
@@ -370,7 +376,7 @@ def pattern_view(session: Session) -> Iterator[Html]:
             element(
                 "tr",
                 element("th", row.name, scope="row"),
-                *(pattern_cell(row, member) for member in range(len(members))),
+                *(pattern_cell(row, place, member) for place, member in enumerate(members)),
             )
             for row in mine
         ]
@@ -392,13 +398,17 @@ def pattern_view(session: Session) -> Iterator[Html]:
     )
 
 
-def pattern_cell(row: patterns.Row, member: int) -> Html:
-    """The rules of a pattern at one place."""
-    cell = row.cells.get(member)
+def pattern_cell(row: patterns.Row, place: int, member: str) -> Html:
+    """The rules of a pattern at one place, which is named where the page is too narrow for its
+    column."""
+    cell = row.cells.get(place)
     if cell is None:
         return element("td", class_="none")
     return element(
-        "td", cell.text + (" (odd)" if cell.odd else ""), class_="odd" if cell.odd else None
+        "td",
+        element("span", f"{member}: ", class_="where"),
+        cell.text + (" (odd)" if cell.odd else ""),
+        class_="odd" if cell.odd else None,
     )
 
 
@@ -406,7 +416,8 @@ def pattern_cell(row: patterns.Row, member: int) -> Html:
 
 
 def answers(session: Session) -> Html:
-    """All answers, folded away."""
+    """All answers, folded away on a screen. Paper has them unfolded, and a browser that can't do
+    that by itself says what to do."""
     rows = []
     for answer in session.answers:
         word = yes_no(answer.yes)
@@ -437,7 +448,8 @@ def answers(session: Session) -> Html:
             class_="wide",
         ),
     )
-    return section("What was asked", folded)
+    hint = element("p", "Open this before you print, so that paper has it too.", class_="unfold")
+    return section("What was asked", folded, hint)
 
 
 def proof(certificate: Certificate | None, ended: str) -> Html:

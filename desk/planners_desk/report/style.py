@@ -41,7 +41,9 @@ h2{{margin:2.2rem 0 .6rem;font-size:1.25rem;border-bottom:1px solid var(--line)}
 .dim,figcaption{{color:var(--dim)}}
 figcaption{{font-size:.9rem;margin-bottom:.3rem}}
 figure{{margin:0;max-width:100%;overflow-x:auto}}
-.side{{display:flex;flex-wrap:wrap;gap:1.2rem 2rem;align-items:flex-start}}
+.side{{display:flex;flex-wrap:wrap;gap:1.2rem 2rem;align-items:flex-end}}
+.side figure{{min-width:14rem}}
+.side figcaption{{width:0;min-width:100%}}
 .wide{{overflow-x:auto}}
 table{{border-collapse:collapse;font-size:.9rem;margin-bottom:.8rem}}
 td,th{{border:1px solid var(--line);padding:.15rem .5rem;text-align:left;vertical-align:top}}
@@ -50,20 +52,34 @@ th{{background:var(--head);font-weight:600}}
 thead td{{border:0}}
 .clash{{color:var(--clash);background:var(--clash-ground);font-weight:700}}
 .odd{{background:var(--odd-ground);font-weight:700}}
+span.clash{{padding:0 .25rem}}
 .none{{border-style:dotted}}
+.where{{display:none}}
 .yes{{color:var(--yes);font-weight:700}}
 .no{{color:var(--no);font-weight:700}}
 ul.rules li{{margin:.2rem 0}}
 ul.cells{{columns:11rem;padding:0;list-style:none}}
 pre{{white-space:pre-wrap;overflow-wrap:anywhere}}
 summary{{cursor:pointer}}
+.unfold{{color:var(--dim)}}
+details[open]+.unfold{{display:none}}
+@supports selector(details::details-content){{.unfold{{display:none}}}}
 li,figcaption,h1,h2,p{{overflow-wrap:anywhere}}
 td,th{{overflow-wrap:break-word}}
 @media screen and (max-width:40rem){{.plan{{font-size:.75rem}}\
-.plan td,.plan th,.plan thead th{{padding:.1rem .25rem;min-width:0}}}}
+.plan td,.plan th,.plan thead th{{padding:.1rem .25rem;min-width:0;overflow-wrap:anywhere}}
+.pattern thead,.pattern td.none{{display:none}}
+.pattern,.pattern tbody,.pattern tr,.pattern th{{display:block}}
+.pattern tr{{margin-bottom:.6rem}}
+.pattern td{{display:inline-block;margin:.15rem .3rem .15rem 0}}
+.where{{display:inline}}
+.answers td,.answers th{{padding:.15rem .3rem;overflow-wrap:anywhere}}}}
 @media print{{
 body{{font-size:10.5pt}}main{{max-width:none;padding:0}}\
 figure,tr,li{{break-inside:avoid}}h2{{break-after:avoid}}
 thead{{display:table-header-group}}figure,.wide{{overflow:visible}}
+details::details-content{{content-visibility:visible}}
+.answers{{font-size:8.5pt}}
+summary{{list-style:none}}.unfold{{display:none}}
 }}
 """

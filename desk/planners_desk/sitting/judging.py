@@ -173,8 +173,12 @@ def cells_text(session: Session, values: Values) -> str:
 
 
 def title_of(session: Session, plan: Plan, cells: Things) -> str:
-    """What is wrong, where the words can't say it."""
-    return f"{cells_text(session, plan.meant(cells))} (allowed, and wrong)" if cells else plan.title
+    """What the person says of a plan, where the words can't say it."""
+    if plan.rule is not None:
+        shown = cells_text(session, {thing: plan.values[thing] for thing in plan.rule.things})
+        return f"It isn't always so that {plan.rule.text}: a plan with {shown} is right."
+    what = cells_text(session, plan.meant(cells)) if cells else plan.title
+    return f"{what} (allowed, and wrong)"
 
 
 # ---- answers that clash

@@ -198,15 +198,16 @@ def _of_size(entry: Entry, largest: int) -> list[str]:
 
 def _filled(case: Case, form: str, names: Sequence[str]) -> Iterator[str]:
     """A form of the catalogue with names and numbers for its capitals."""
-    sides = (
-        [(part.name, len(part.members)) for part in case.value_parts]
-        if "PART" in form
-        else [("", len(case.values))]
-    )
-    for name, size in sides:
+    for part in case.value_parts if "PART" in form else [None]:
+        size = len(part.members if part else case.values)
         counts = [str(k) for k in range(1, size)] if "apart" in form else COUNTS
         for count in counts if re.search(r"\bK\b", form) else [""]:
-            text = re.sub(r"\bK\b", count, form.replace("PART", name))
+            text = form
+            if part and "K PART" in form:
+                text = text.replace("K PART", part.counted(int(count)))
+            elif part:
+                text = text.replace("PART", part.name)
+            text = re.sub(r"\bK\b", count, text)
             for v, w in itertools.product(
                 names if re.search(r"\bV\b", text) else [""],
                 names if re.search(r"\bW\b", text) else [""],

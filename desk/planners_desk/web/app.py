@@ -10,6 +10,8 @@ that word, and where nothing asks about its things with `together=THINGS`, which
 
 from __future__ import annotations
 
+import os
+
 from flask import Flask, render_template, request
 from markupsafe import Markup
 from werkzeug.exceptions import HTTPException, InternalServerError
@@ -33,6 +35,9 @@ WHAT_TO_DO = {
     421: "Open the file that `desk web` named when it began.",
     500: "All answers are kept. End desk with Ctrl-C where it was begun, and begin it again.",
 }
+
+# the same of a case with which something can't be done as it is
+UNDONE = "See to that first. Then go back to the case, and do it again."
 
 # what is said of a request where nothing else is told, in place of the library's name for it
 SAID = {404: "There is no such page.", 405: "This address doesn't show a page by itself."}
@@ -77,13 +82,19 @@ def wrong(error: HTTPException) -> tuple[str, int]:
 
 
 def faulty(fault: Fault) -> tuple[str, int]:
-    """The page of what the person has to mend."""
-    return (
-        render_template(
-            "wrong.html", status=409, said="\n".join(fault.texts), todo=WHAT_TO_DO[404]
-        ),
-        409,
+    """The page of what the person has to mend, which names the case that was asked for. Files of
+    the folder are called as its first page calls them."""
+    name = (request.view_args or {}).get("name", "")
+    undone = name != "" and request.method == "POST"
+    page = render_template(
+        "wrong.html",
+        status=409,
+        said="\n".join(fault.texts).replace(os.path.join(pages.folder().path, ""), ""),
+        todo=UNDONE if undone else WHAT_TO_DO[404],
+        name=name,
+        undone=undone,
     )
+    return page, 409
 
 
 def broken(error: Exception) -> tuple[str, int]:

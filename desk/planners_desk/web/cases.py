@@ -19,7 +19,7 @@ from ..hints import trials
 from . import choices, comes, faults, fields, forms, store
 from .faults import At, Judged
 from .forecast import SECONDS as forecasting
-from .forecast import Forecasts
+from .forecast import Forecasts, questions
 from .pages import folder, sittings
 from .standing import Carried, Standing, carried, standing
 from .store import Newer, Stored
@@ -212,6 +212,7 @@ def rendered(page: Page) -> str:
         standing=now,
         carried=_carried(path, judged.case, now),
         forecast=forecasts().of(path, page.stored.mark),
+        asked=questions,
         overview=comes.overview(judged.words) if judged.words else [],
         cant=comes.cannot_say(judged.words) if judged.words else [],
         heads=HEADS,
@@ -233,6 +234,14 @@ class _Faults:
     def at(self, field: str, place: int | None = None) -> list[At]:
         """Those of a field, or of one of what it has several of."""
         return [one for one in self.every if one.field == field and place in (None, one.place)]
+
+    def whole(self, field: str) -> list[At]:
+        """Those of a field that are of none of what it has several of."""
+        return [one for one in self.every if one.field == field and one.place is None]
+
+    def half(self, builder: str) -> bool:
+        """Whether only some of a builder's fields are filled in."""
+        return any(one.builder == builder for one in self.every)
 
 
 class _Sent:
@@ -339,6 +348,7 @@ def forecast(name: str) -> str:
         name=name,
         seconds=SECONDS,
         ways=trials.WAYS,
+        asked=questions,
         forecast=forecasts().of(path, store.load(path).mark),
     )
 

@@ -6,12 +6,12 @@ from __future__ import annotations
 import dataclasses
 import itertools
 import re
-from collections.abc import Iterable, Iterator, Sequence
+from collections.abc import Callable, Iterable, Iterator, Sequence
 from dataclasses import dataclass, field
 
 from ..case import casefile, catalogue, groups
 from ..case.catalogue import Setting
-from ..case.model import Case, Fault, Word
+from ..case.model import Case, Fault, Part, Word
 from . import forms
 from .forms import Form
 
@@ -118,8 +118,10 @@ def choices(form: Form, name: str) -> Choices:
     own = [thing for thing in case.things if len(thing.allowed) < len(case.values)]
     return Choices(
         case,
-        tuple(ask_families(case)),
-        tuple(word_families(seen, max(sizes, default=4))),
+        tuple(as_written(ask_families(case), form.ask, case.thing_parts)),
+        tuple(
+            as_written(word_families(seen, max(sizes, default=4)), form.words, case.value_parts)
+        ),
         max(sizes, default=0),
         tuple(member for part in case.thing_parts for member in part.members),
         seen.labels,
@@ -178,6 +180,30 @@ def parsed(form: Form, name: str) -> Case | None:
         return None
 
 
+def as_written(
+    families: Iterable[Family], written: Sequence[str], parts: Sequence[Part]
+) -> Iterator[Family]:
+    """The families, with each tick spelled as the case has it where it is written otherwise there:
+    a tick of its own would say the same once more."""
+    own = {_bare(text, parts): text for text in reversed(written)}
+    for family in families:
+        ticks = (
+            tick
+            if tick.text in written
+            else dataclasses.replace(tick, text=own.get(_bare(tick.text, parts), tick.text))
+            for tick in family.ticks
+        )
+        yield dataclasses.replace(family, ticks=tuple(ticks))
+
+
+def _bare(text: str, parts: Sequence[Part]) -> str:
+    """A phrase or a word in the one spelling of those that mean the same: `all` of `all pairs`,
+    `3 day in a row` of `3 days in a row`."""
+    for part in parts:
+        text = re.sub(rf"(?<!\S){re.escape(part.several)}(?!\S)", lambda _: part.name, text)
+    return re.sub(r"^(all|same .+) pairs$", r"\1", text)
+
+
 # ---------------------------------------------------------------- which things go together
 
 
@@ -204,7 +230,7 @@ def ask_families(case: Case) -> Iterator[Family]:
         ),
     )
     for part in case.thing_parts:
-        name = part.name
+        name, several = part.name, part.several
         yield Family(
             f"By {name}",
             tuple(
@@ -215,8 +241,8 @@ def ask_families(case: Case) -> Iterator[Family]:
                         (f"same {name} triples", f"three of one {name}"),
                         (f"same {name} fours", f"four of one {name}"),
                         (f"next {name}", f"one and the same on the next {name}"),
-                        (f"3 {name} in a row", f"the same on three {name}s running"),
-                        (f"4 {name} in a row", f"the same on four {name}s running"),
+                        (f"{part.counted(3)} in a row", f"the same on three {several} running"),
+                        (f"{part.counted(4)} in a row", f"the same on four {several} running"),
                     ],
                 )
             ),
@@ -251,8 +277,7 @@ def _ticks(case: Case, some: Iterable[tuple[str, str]]) -> Iterator[Tick]:
             continue
         names = " with ".join(case.things[thing].name for thing in found[0])
         count = f"{len(found)} group{'s' if len(found) != 1 else ''}"
-        label = re.sub(r"(\S+?)s? in a row", r"\1s in a row", phrase)
-        yield Tick(phrase, label, f"{says}: {count}, as {names}")
+        yield Tick(phrase, phrase, f"{says}: {count}, as {names}")
 
 
 def _asked(case: Case, ask: Sequence[str]) -> Iterator[tuple[int, ...]]:
@@ -346,13 +371,13 @@ def word_families(seen: _Seen, largest: int) -> Iterator[Family]:
     """The words about groups of so many things that fit a case."""
     case = seen.case
     if largest > 1:
-        apart = [] if case.value_parts else _apart(len(case.values), "")
+        apart = [] if case.value_parts else _apart(len(case.values), str)
         yield from _some("About two of them", seen.ticks([*TWO, *apart]))
         for part in case.value_parts:
             texts = [f"{form} {part.name}" for form in OF_PART]
             yield from _some(
                 f"About the {part.name} of two",
-                seen.ticks([*texts, *_apart(len(part.members), part.name)]),
+                seen.ticks([*texts, *_apart(len(part.members), part.counted)]),
             )
     if largest > 2:
         for size in range(3, largest + 1):
@@ -374,11 +399,10 @@ def _some(head: str, ticks: tuple[Tick, ...], apart: bool = False) -> Iterator[F
         yield Family(head, ticks, apart=apart)
 
 
-def _apart(size: int, part: str) -> list[str]:
-    """Distances between two of so many values."""
-    of = f" {part}" if part else ""
+def _apart(size: int, counted: Callable[[int], str]) -> list[str]:
+    """Distances between two of so many values, each said as a count of steps."""
     return [
-        f"at {side} {k}{of} apart"
+        f"at {side} {counted(k)} apart"
         for side, first in (("least", 2), ("most", 1))
         for k in range(first, min(size - 1, MOST_STEPS + 1))
     ]

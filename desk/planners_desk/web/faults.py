@@ -44,6 +44,7 @@ class At:
     line: int  # of the text, from 1; 0 where no line has it
     text: str
     missing: bool = False  # whether it is only that nothing is filled in yet
+    builder: str = ""  # fields of which only some are filled in, by their name
 
 
 @dataclass(frozen=True)
@@ -113,13 +114,13 @@ def _of_sides(field: str, sides: Sequence[Row]) -> Iterator[At]:
     """What is wrong with the sides of a grid."""
     if len(sides) == 1:
         yield At(field, None, 0, "a grid has two sides or more; with one it is a list")
-    for side in sides:
+    for place, side in enumerate(sides):
         if not side.name:
-            yield At(field, None, 0, f"a side has no name: what are {side.text}?")
+            yield At(field, place, 0, f"a side has no name: what are {side.text}?")
         elif not side.text:
-            yield At(field, None, 0, f"the side `{side.name}` has no members")
+            yield At(field, place, 0, f"the side `{side.name}` has no members")
         elif " " in side.name:
-            yield At(field, None, 0, f"the name of a side is one word, and `{side.name}` is more")
+            yield At(field, place, 0, f"the name of a side is one word, and `{side.name}` is more")
 
 
 def _of_rows(field: str, rows: Sequence[Row]) -> Iterator[At]:

@@ -79,6 +79,7 @@ def posted(sent: Sent) -> tuple[Form, list[At]]:
                     None,
                     0,
                     "something is chosen by half: choose the rest of it as well, or nothing",
+                    builder=builder.name,
                 )
             )
         elif made:

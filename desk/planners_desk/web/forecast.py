@@ -11,6 +11,7 @@ from dataclasses import dataclass
 from ..case import casefile
 from ..hints import offers, solver, trials
 from ..hints.offers import Offer
+from ..hints.trials import Figures
 from ..program.talk import Clock, Program
 from ..program.vocabulary import Vocabulary
 from ..sitting import outlook
@@ -91,6 +92,20 @@ class Forecasts:
         owner.busy("reading the case", 0.0)
         case = casefile.read(owner.path)
         return reckoned(Vocabulary(case), self._program, _clocks(owner))
+
+
+def questions(one: Figures, cases: int) -> str:
+    """How many questions a way of asking had in some of so many made-up cases, as far as it was
+    tried."""
+    more = one.more_than
+    if not one.questions:
+        known = f"more than {more} in the first case"
+        return "not tried: the time was over" if more is None else known
+    counts = f"{one.questions[0]} / {one.middle} / {one.questions[-1]}"
+    if not one.late:
+        return counts
+    tried = f"{counts}, in {len(one.questions)} of {cases} cases"
+    return tried if more is None else f"{tried}, and more than {more} in the next"
 
 
 def _clocks(owner: Owner) -> Callable[[str], Clock]:

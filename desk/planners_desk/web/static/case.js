@@ -42,10 +42,20 @@ function put(page) {
     }
     fold(part, seen);
   }
+  marked(page);
   if (!active.isConnected) {
     const again = active.id ? document.getElementById(active.id)
       : document.querySelector(`[name="${active.name}"][value="${CSS.escape(active.value)}"]`);
     if (again) again.focus({preventScroll: true});
+  }
+}
+
+// the fields around what is drawn anew are wrong, or are no longer
+function marked(page) {
+  for (const field of form.querySelectorAll("[id][aria-describedby]")) {
+    const now = page.getElementById(field.id);
+    if (now && now.hasAttribute("aria-invalid")) field.setAttribute("aria-invalid", "true");
+    else if (now) field.removeAttribute("aria-invalid");
   }
 }
 
@@ -89,6 +99,7 @@ function longer(target) {
       if (value) one.setAttribute(name, value.replace(`-${place - 1}`, `-${place}`));
     }
     if (one.tagName === "INPUT") one.value = "";
+    one.removeAttribute("aria-invalid");
   }
   for (const fault of next.querySelectorAll(".fault")) fault.remove();
   rows.append(next);
