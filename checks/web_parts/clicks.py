@@ -431,13 +431,16 @@ def week(program: str) -> Faults:
             yield f"of eight names {hidden} pixels are hidden"
 
 
-# what of a report is wider than its place; whether its patterns name the day in a cell, and whether
-# the days stand at the top
+# what of a report is wider than its place; whether its patterns name the day in a cell, whether the
+# days stand at the top, and how wide their narrowest cell is
 HIDDEN = """return [...document.querySelectorAll('figure, .wide')]
     .filter(one => one.checkVisibility() && one.scrollWidth > one.clientWidth)
     .map(one => one.innerText.slice(0, 60));"""
-PATTERNS = """return [document.querySelector('table.pattern').innerText.includes('Sun:'),
-    document.querySelector('table.pattern thead').checkVisibility()];"""
+PATTERNS = """const every = [...document.querySelectorAll('table.pattern td:not(.none)')];
+return [document.querySelector('table.pattern').innerText.includes('Sun:'),
+    document.querySelector('table.pattern thead').checkVisibility(),
+    Math.min(...every.map(one => one.offsetWidth || Infinity))];"""
+LEAST_CELL = 64         # pixels, in which the word for a rule is whole
 # how many answers there are, how many of them can be seen, and whether it is said what to do where
 # a browser doesn't unfold them
 SEEN = """const every = [...document.querySelectorAll('table.answers tbody tr')];
@@ -447,7 +450,7 @@ return [every.length, every.filter(one => one.checkVisibility()).length,
 
 def paper(program: str) -> Faults:
     """The report of a week, as a page and as the file that is saved: on a phone nothing of it is
-    hidden, its pictures stand in columns, and paper has all answers."""
+    hidden, and paper has all answers."""
     with opened(program, {"x.case": REPORTED}, "x.case") as (web, browser):
         while "question" in browser.head():
             one, other = (part.split()[-1] for part in browser.text(".said").split(", "))
@@ -472,12 +475,28 @@ def paper(program: str) -> Faults:
                 browser.sized(width, 900)
                 if hidden := browser.driver.execute_script(HIDDEN):
                     yield f"at {width} of {what} this is hidden in part: {hidden}"
-                days = browser.driver.execute_script(PATTERNS)
+                *days, narrow = browser.driver.execute_script(PATTERNS)
                 if days != [width == 360, width > 360]:
                     yield f"at {width} in {what} days are named in a cell, and at the top: {days}"
-            browser.sized(1000, 900)
+                if narrow < LEAST_CELL:
+                    yield f"at {width} in {what} a cell of a pattern is {narrow} wide"
+
+
+def columns(program: str) -> Faults:
+    """What is said above small plans of a report doesn't pull them out of their columns, on the page
+    nor in the file that is saved."""
+    with opened(program, {"x.case": LIST}, "x.case") as (web, browser):
+        while "question" in browser.head():
+            browser.does("Yes")
+        browser.does("Report")
+        saved = os.path.join(web.folder, "saved.html")
+        with open(saved, "w", encoding="utf-8") as file:
+            file.write(web.get("/ask/x.case/report.html").text)
+        for address in (browser.driver.current_url, f"file://{saved}"):
+            browser.go(address)
+            browser.wait(lambda: len(browser.all(".side figure")) > 2)
             if wide := browser.driver.execute_script(CAPTIONS.replace(".report ", "")):
-                yield f"in {what} {wide} plans are made wider by what is said above them"
+                yield f"{wide} plans are made wider by what is said above them, at {address}"
 
 
 REACHED = """return [...document.querySelectorAll('main .buttons button')]
@@ -654,8 +673,8 @@ def judged(browser: Browser) -> Faults:
     yield from looked_at(browser, "the report")
 
 
-TESTS = (presses, tabs, foreign, names, keyboard, read, cases, week, paper, undecided, month,
-         on_a_phone, too_large, breaks_off)
+TESTS = (presses, tabs, foreign, names, keyboard, read, cases, week, paper, columns, undecided,
+         month, on_a_phone, too_large, breaks_off)
 PLANTED = (
     ("static/page.js", "event.repeat || ", "", presses),
     ("sittings.py", "            if number != self._number or self._over:\n",
@@ -687,7 +706,8 @@ PLANTED = (
      '<tr><th>questions</th><th>never more than</th><th>slips noticed</th><th>advised</th><td>',
      on_a_phone),
     # pictures that captions pull apart, what a phone hides, and paper without answers
-    ("../report/style.py", ".side figcaption{{width:0;min-width:100%}}\n", "", paper),
+    ("../report/style.py", ".side figcaption{{width:0;min-width:100%}}\n", "", columns),
+    ("static/style.css", ".report .side figcaption { width: 0; min-width: 100%; }", "", columns),
     ("../report/style.py", "min-width:0;overflow-wrap:anywhere}}", "min-width:0}}", paper),
     ("../report/style.py", ".pattern td{{display:inline-block;", ".pattern td{{", paper),
     ("../report/style.py", ".where{{display:inline}}\n", "", paper),
