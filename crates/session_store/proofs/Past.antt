@@ -3,17 +3,10 @@ use Rattle.session_store.proofs.Prelude.{◌≡◌, ◌⊎◌, ℕ, zero, suc, �
 use Rattle.std.proofs.Common.{◌||◌, cond, not, List, ◌∷◌}
 use Rattle.std.specs.List.{filter, list_all, list_any, range_with_len}
 use Rattle.std.proofs.Math.Bool.{and-false}
-use Rattle.std.proofs.lemmas.Bool.{lt-ltb, le-ltb}
-use Rattle.std.proofs.lemmas.Bool.Decides.{nat_tests}
+use Rattle.std.proofs.lemmas.Bool.{le-leb, le-ltb, lt-leb, lt-ltb}
 use Rattle.assign.specs.Assignment.{variables_of}
 use Rattle.assign.specs.Sets.{has, is_within, numbers, set_where}
 use Rattle.assign.proofs.Fronts.{has-numbers}
-
-le_where : (n a : ℕ) → n ≤ a → nat_le n a ≡ true
-le_where n a past = grind (arith, nat_tests)
-
-lt_where : (n a : ℕ) → a < n → nat_le n a ≡ false
-lt_where n a low = grind (arith, nat_tests)
 
 module _ (q : Assignment) (n : ℕ) (few : n ≤ 128) where
   abbrev test : ℕ → Bool
@@ -31,10 +24,10 @@ module _ (q : Assignment) (n : ℕ) (few : n ≤ 128) where
           rest ∙ sym (ap (λ t. (nat_le n a && t) || list_any (λ v. nat_le n v && test v) xs) off ∙ ap (λ t. t || list_any (λ v. nat_le n v && test v) xs) (and-false (nat_le n a)))
       go true on (inl below) =
           ap (λ t. not (t && list_all (has (numbers n)) (filter test xs))) (has-numbers n a few low ∙ lt-ltb a n below)
-          ∙ rest ∙ sym (ap (λ t. (t && test a) || list_any (λ v. nat_le n v && test v) xs) (lt_where n a below))
+          ∙ rest ∙ sym (ap (λ t. (t && test a) || list_any (λ v. nat_le n v && test v) xs) (lt-leb n a below))
       go true on (inr past) =
           ap (λ t. not (t && list_all (has (numbers n)) (filter test xs))) (has-numbers n a few low ∙ le-ltb a n past)
-          ∙ sym ((λ i. (le_where n a past i && on i) || list_any (λ v. nat_le n v && test v) xs))
+          ∙ sym ((λ i. (le-leb n a past i && on i) || list_any (λ v. nat_le n v && test v) xs))
 
   all_of : (a k : ℕ) → a + k ≤ 128 → Same (range_with_len a k)
   all_of a zero fits = refl
