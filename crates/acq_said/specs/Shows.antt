@@ -1,7 +1,7 @@
 -- What is shown of a session.
 use Rattle.std.specs.Prelude.{◌∷◌, ◌++◌, if◌then◌else◌}
-use Rattle.acq_said.specs.Prelude.{ℕ, zero, suc, Bool, true, false, List, [], length, codes}
-use Rattle.acq_said.specs.Prelude.{decimal, Answer, Event, Plan, Scopes, Quacq, Multi, Candidate}
+use Rattle.acq_said.specs.Prelude.{ℕ, zero, suc, List, [], length, codes}
+use Rattle.acq_said.specs.Prelude.{decimal, Answer, Plan, Scopes, Quacq, Multi, Candidate}
 use Rattle.acq_said.specs.Prelude.{Language, question_text, network_text, Idle, Over, Course, At}
 use Rattle.acq_said.specs.Prelude.{Stray, state_after}
 

@@ -1,4 +1,4 @@
-use Rattle.acq_said.proofs.Prelude.{◌≡◌, ◌≤◌, ◌+◌, ◌∙◌, sym, ap, arith, List, length, length-take-le, take, get_or, take_all, Event, is_back}
+use Rattle.acq_said.proofs.Prelude.{◌+◌, ◌∙◌, sym, ap, arith, List, length, length-take-le, take, take_all, Event, is_back}
 use Rattle.std.specs.Prelude.{filter}
 use Rattle.assign.specs.declared.events.Event.TheVariants as event
 use Rattle.acq_said.proofs.Showing.{backs_more, few_backs}

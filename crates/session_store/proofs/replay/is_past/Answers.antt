@@ -1,7 +1,6 @@
-use Rattle.session_store.proofs.Prelude.{sym, ◌∙◌, ap}
+use Rattle.session_store.proofs.Prelude.{◌∙◌, ap}
 use Rattle.std.proofs.Common.{not}
-use Rattle.assign.specs.Assignment.{variables_of}
-use Rattle.assign.specs.Sets.{is_within, numbers}
+use Rattle.assign.specs.Sets.{is_within}
 use Rattle.session_store.proofs.Past.{past_by_sets}
 use Rattle.session_store.proofs.replay.is_past.Goals as goal
 
