@@ -83,7 +83,8 @@ pub use Rattle.acq_said.specs.Reducing.{first_spent, network_led_to, reduced_sai
 pub use Rattle.acq_said.specs.Running.{RunGoesOn}
 pub use Rattle.acq_said.specs.Said.{HasWritten, IsSaid, SaysSo, or_silent, silent_end}
 pub use Rattle.acq_said.specs.Saying.{Saying, saying}
-pub use Rattle.acq_said.specs.Shows.{answer_line, answer_lines, back_line, is_back, plan_words, reading_text, show_text}
+pub use Rattle.answer_journal.specs.EventList.{is_back}
+pub use Rattle.acq_said.specs.Shows.{answer_line, answer_lines, back_line, plan_words, reading_text, show_text}
 pub use Rattle.acq_said.specs.Solving.{Solves, solution_said, solved_said}
 pub use Rattle.acq_said.specs.TakingBack.{EndsBack, back_on, back_said}
 pub use Rattle.acq_said.specs.declared.ask.Ask.{Ask}

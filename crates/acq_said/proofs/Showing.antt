@@ -1,5 +1,5 @@
 -- The lines of answers, one more at a time.
-use Rattle.acq_said.proofs.Prelude.{◌≡◌, ◌∙◌, ℕ, suc, ◌+◌, ◌-◌, ◌<◌, ◌≤◌, Bool, false, List, [], ◌∷◌, ◌++◌, length, take, get_or, refl, sym, ap, subst, arith, append_assoc, length-append, length-take-le, codes, append-nil, length-map, Assignment, Answer, Event, Plan, Language, variable_count, standing_on, IsAskedIn, Stands, knowledge_of, Session, State, Idle, Over, At, IsAnswer, Recorded, all_seen, answer_to, recorded_from, seen, seen_next, IsBusy, answer_line, answer_lines, reading_text, is_back, show_text, Opened, asked_said, saying}
+use Rattle.acq_said.proofs.Prelude.{◌≡◌, ◌∙◌, ℕ, zero, suc, ◌+◌, ◌-◌, ◌<◌, ◌≤◌, Bool, true, false, List, [], ◌∷◌, ◌++◌, length, take, get_or, refl, sym, ap, subst, arith, append_assoc, length-append, length-take-le, codes, append-nil, length-map, Assignment, Answer, Event, Plan, Language, variable_count, standing_on, IsAskedIn, Stands, knowledge_of, Session, State, Idle, Over, At, IsAnswer, Recorded, all_seen, answer_to, recorded_from, seen, seen_next, IsBusy, answer_line, answer_lines, reading_text, is_back, show_text, Opened, asked_said, saying}
 use Rattle.std.specs.Prelude.{filter}
 use Rattle.acq_said.proofs.Moved.{learned_as}
 use Rattle.acq_said.specs.declared.ask.Ask.TheVariants as ask
@@ -53,3 +53,35 @@ pub shown_as : (o : Opened) (session : Session) (given : List Event) → (knowle
 shown_as o session given lang planned same stands =
     let learned = learned_as o session lang planned stands in
     (λ i. saying (show_text (lang i) (planned i) (standing_on (lang i) (same i)) (length (filter is_back (same i))) (learned i)) ending.Done)
+
+-- ---- take-backs
+
+pub few_backs : (events : List Event) → length (filter is_back events) ≤ length events
+few_backs [] = omega arith
+few_backs (event.Answer q reply ∷ events) = omega (arith, few_backs events)
+few_backs (event.Back ∷ events) = omega (arith, few_backs events)
+
+-- one event more
+pub backs_more : (events : List Event) (i : ℕ) (d : Event) → i < length events →
+    (is_back (get_or events i d) ≡ true → length (filter is_back (take (i + 1) events)) ≡ length (filter is_back (take i events)) + 1)
+    × (is_back (get_or events i d) ≡ false → length (filter is_back (take (i + 1) events)) ≡ length (filter is_back (take i events)))
+backs_more events i d low =
+    let one : i + 1 ≡ suc i = omega arith in
+    let same = ap (λ (n : ℕ). length (filter is_back (take n events))) one in
+    let step = go events i low in (
+      λ yes. same ∙ step.0 yes,
+      λ no. same ∙ step.1 no,
+    )
+  where
+    go : (events : List Event) (i : ℕ) → i < length events →
+        (is_back (get_or events i d) ≡ true → length (filter is_back (take (suc i) events)) ≡ length (filter is_back (take i events)) + 1)
+        × (is_back (get_or events i d) ≡ false → length (filter is_back (take (suc i) events)) ≡ length (filter is_back (take i events)))
+    go [] i low = absurd (omega (arith, low))
+    go (event.Answer q reply ∷ events) zero low = (λ yes. absurd (let no : false ≡ true = yes in cc), λ no. refl)
+    go (event.Back ∷ events) zero low = (λ yes. refl, λ no. absurd (let bad : true ≡ false = no in cc))
+    go (event.Answer q reply ∷ events) (suc i) low = go events i (omega (arith, low))
+    go (event.Back ∷ events) (suc i) low =
+        let step = go events i (omega (arith, low)) in (
+          λ yes. ap suc (step.0 yes) ∙ (let n = length (filter is_back (take i events)) in let e : suc (n + 1) ≡ suc n + 1 = omega arith in e),
+          λ no. ap suc (step.1 no),
+        )

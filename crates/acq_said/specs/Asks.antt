@@ -8,7 +8,8 @@ use Rattle.acq_said.specs.Certifying.{MakesGood, certificate_said, if_at_end}
 use Rattle.acq_said.specs.Printing.{clauses_said}
 use Rattle.acq_said.specs.Reducing.{IsReduced, network_led_to, reduced_said}
 use Rattle.acq_said.specs.Saying.{Saying, saying}
-use Rattle.acq_said.specs.Shows.{is_back, show_text}
+use Rattle.answer_journal.specs.EventList.{is_back}
+use Rattle.acq_said.specs.Shows.{show_text}
 use Rattle.acq_loop.specs.declared.ending.Ending.TheVariants as ending
 use Rattle.acq_said.specs.declared.ask.Ask.{Ask}
 use Rattle.acq_said.specs.declared.ask.Ask.TheVariants as ask

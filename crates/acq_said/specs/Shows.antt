@@ -1,10 +1,9 @@
 -- What is shown of a session.
 use Rattle.std.specs.Prelude.{◌∷◌, ◌++◌, if◌then◌else◌}
-use Rattle.acq_said.specs.Prelude.{ℕ, zero, suc, Bool, true, false, List, [], length, codes}
-use Rattle.acq_said.specs.Prelude.{decimal, Answer, Event, Plan, Scopes, Quacq, Multi, Candidate}
+use Rattle.acq_said.specs.Prelude.{ℕ, zero, suc, List, [], length, codes}
+use Rattle.acq_said.specs.Prelude.{decimal, Answer, Plan, Scopes, Quacq, Multi, Candidate}
 use Rattle.acq_said.specs.Prelude.{Language, question_text, network_text, Idle, Over, Course, At}
 use Rattle.acq_said.specs.Prelude.{Stray, state_after}
-use Rattle.assign.specs.declared.events.Event.TheVariants as event
 
 abbrev pub plan_words : Plan → List ℕ
 plan_words Scopes = codes "scopes"
@@ -20,10 +19,6 @@ answer_line l k a =
 abbrev pub answer_lines : Language → ℕ → List Answer → List ℕ
 answer_lines l k [] = []
 answer_lines l k (a ∷ t) = answer_line l k a ++ answer_lines l (suc k) t
-
-abbrev pub is_back : Event → Bool
-is_back (event.Answer q reply) = false
-is_back event.Back = true
 
 -- how many take-backs there are is told where there are some
 abbrev pub back_line : ℕ → List ℕ

@@ -22,6 +22,7 @@ ghost use Rattle.acq_said.specs.Saying.{saying};
 use crate::learned::learned_by;
 use crate::said::Said;
 use acq_loop::{Ending, Upcoming, next_of};
+use answer_journal::Events;
 use assign::Event;
 use cert_check::{Entry, MakeFault, make_cert, make_fault_text};
 use disk_model::Disk;
@@ -51,18 +52,19 @@ fn entry_of(lang: &Language, event: &Event) -> Entry
 fn entries_of(
     alloc: Global,
     lang: &Language,
-    events: &[Event],
+    events: &Events,
     records: &[u32],
 ) -> Result<Vec<Entry>, Memory>
-    requires wide { All IsWide events.now }
-    requires few { length events.now < 1000000 }
-    requires records { records.now ≡ standing_numbers events.now }
-    ensures { IfOk result (λ entries. entries.items ≡ standing_on lang.now events.now) }
+    requires wide { All IsWide events.now.items }
+    requires few { length events.now.items < 1000000 }
+    requires records { records.now ≡ standing_numbers events.now.items }
+    ensures { IfOk result (λ entries. entries.items ≡ standing_on lang.now events.now.items) }
 {
     let mut entries = Vec::new(alloc);
     for record in records {
-        let event = &events[*record as usize - 1];
-        entries.push(entry_of(lang, event))?;
+        let place = *record as usize - 1;
+        let event = events.get(place);
+        entries.push(entry_of(lang, &event))?;
     }
     Ok(entries)
 }

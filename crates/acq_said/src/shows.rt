@@ -4,6 +4,7 @@ ghost use Rattle.std.specs.Prelude.{◌≡◌, ◌++◌, ◌<◌, List, All, cod
 ghost use Rattle.std.specs.Prelude.{length, IfOk, OnOk};
 ghost use Rattle.std.specs.String.{string_bytes};
 ghost use Rattle.assign.specs.Events.{Answer};
+ghost use Rattle.answer_journal.specs.EventList.{is_back};
 ghost use Rattle.language.specs.Language.{variable_count};
 ghost use Rattle.language.specs.Answers.{standing_on};
 ghost use Rattle.session_core.specs.Settled.{IsSettled};
@@ -14,12 +15,13 @@ ghost use Rattle.session_store.specs.Opened.{opened_as};
 ghost use Rattle.session_store.specs.Replay.{IsAnswer, seen, answer_in, answer_to};
 ghost use Rattle.session_store.specs.Replay.{standing_numbers};
 ghost use Rattle.acq_said.specs.Asks.{SaysAsked};
-ghost use Rattle.acq_said.specs.Shows.{plan_words, answer_line, answer_lines, back_line, is_back};
+ghost use Rattle.acq_said.specs.Shows.{plan_words, answer_line, answer_lines, back_line};
 ghost use Rattle.acq_said.specs.Shows.{reading_text, show_text};
 
 use crate::ask::Ask;
 use crate::said::Said;
 use acq_loop::Ending;
+use answer_journal::Events;
 use assign::{Event, Partial, Plan};
 use disk_model::Disk;
 use language::{Language, Memory};
@@ -105,34 +107,35 @@ fn push_event(
 fn event_lines(
     alloc: Global,
     lang: &Language,
-    events: &[Event],
+    events: &Events,
     records: &[u32],
 ) -> Result<String, Memory>
-    requires wide { All IsWide events.now }
-    requires few { length events.now < 1000000 }
-    requires records { records.now ≡ standing_numbers events.now }
-    ensures { IfOk result
-        (λ text. string_bytes text ≡ answer_lines lang.now 1 (standing_on lang.now events.now)) }
+    requires wide { All IsWide events.now.items }
+    requires few { length events.now.items < 1000000 }
+    requires records { records.now ≡ standing_numbers events.now.items }
+    ensures { IfOk result (λ text.
+        string_bytes text ≡ answer_lines lang.now 1 (standing_on lang.now events.now.items)) }
 {
     let mut text = String::new(alloc);
     for (i, record) in records.iter().enumerate() {
-        let event = &events[*record as usize - 1];
-        push_event(alloc, &mut text, lang, i as u32 + 1, event)?;
+        let place = *record as usize - 1;
+        let event = events.get(place);
+        push_event(alloc, &mut text, lang, i as u32 + 1, &event)?;
     }
     Ok(text)
 }
 
-fn is_back(event: &Event) -> bool
-    ensures { result ≡ is_back event.now }
-{
-    matches!(event, Event::Back)
-}
-
 /// How many take-backs there are.
-fn take_backs(events: &[Event]) -> usize
-    ensures { result ≡ length (filter is_back events.now) }
+fn take_backs(events: &Events) -> usize
+    ensures { result ≡ length (filter is_back events.now.items) }
 {
-    events.iter().filter(|event| is_back(*event)).count()
+    let mut backs = 0;
+    for i in 0..events.len() {
+        if events.is_back(i) {
+            backs += 1;
+        }
+    }
+    backs
 }
 
 /// The line of so many take-backs, where there are some.
@@ -146,15 +149,16 @@ fn back_line(alloc: Global, backs: usize) -> Result<String, AllocError>
 }
 
 /// What is shown of a session and the events that led to it.
-fn show_text(alloc: Global, session: &Session, events: &[Event]) -> Result<String, Memory>
-    requires stands { Stands session.now (standing_on (knowledge_of session.now).lang events.now) }
+fn show_text(alloc: Global, session: &Session, events: &Events) -> Result<String, Memory>
+    requires stands { Stands session.now
+        (standing_on (knowledge_of session.now).lang events.now.items) }
     requires settled { IsSettled (knowledge_of session.now).lang (knowledge_of session.now).plan
-        (standing_on (knowledge_of session.now).lang events.now) (open_in session.now) }
-    requires wide { All IsWide events.now }
-    requires few { length events.now < 1000000 }
-    ensures { let k = knowledge_of session.now in
-        IfOk result (λ text. string_bytes text ≡ show_text k.lang k.plan
-        (standing_on k.lang events.now) (length (filter is_back events.now)) k.network.list) }
+        (standing_on (knowledge_of session.now).lang events.now.items) (open_in session.now) }
+    requires wide { All IsWide events.now.items }
+    requires few { length events.now.items < 1000000 }
+    ensures { let k = knowledge_of session.now in IfOk result
+        (λ text. string_bytes text ≡ show_text k.lang k.plan (standing_on k.lang events.now.items)
+        (length (filter is_back events.now.items)) k.network.list) }
 {
     let lang = session.lang();
     let plan = plan_word(session.plan());

@@ -10,6 +10,7 @@ mod WholeFile
 mod Sizes
 mod Emptied
 pub mod OnlyRead
+pub mod EventLists
 mod PieceLemmas
 mod FewCalls
 mod Exits

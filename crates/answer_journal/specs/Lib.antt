@@ -8,6 +8,7 @@ pub mod Calls
 pub mod Unique
 pub mod End
 pub mod Pairs
+pub mod EventList
 pub mod Found
 pub mod Heads
 pub mod Making

@@ -34,7 +34,7 @@ fn parts_of(bytes: &[u8]) -> Option<(u8, &[u8], &[u8])>
 }
 
 /// The question that these pairs spell.
-fn question_of(pairs: &[u8]) -> Option<Partial>
+pub(crate) fn question_of(pairs: &[u8]) -> Option<Partial>
     ensures { result ≡ options_at 128 0 pairs.now }
 {
     let mut question = Partial::blank(128);

@@ -66,7 +66,7 @@ pub(crate) fn valued_count(question: &Partial) -> u8
 }
 
 // Appends each variable that has a value, with it.
-fn put_pairs(question: &Partial, out: &mut ArrayVec<u8, LONGEST>)
+pub(crate) fn put_pairs(question: &Partial, out: &mut ArrayVec<u8, LONGEST>)
     requires fits { length question.now ≤ 128 }
     requires room { array_vec_len out.old + 2 * length question.now ≤ 263 }
     ensures pairs { out.new.items ≡ out.old.items ++ pairs_from 0 question.now }

@@ -14,6 +14,7 @@
 mod creating;
 mod decode;
 mod encode;
+mod event_list;
 mod fault;
 mod head;
 mod journal;
@@ -24,6 +25,7 @@ mod record;
 mod steps;
 
 pub use creating::create;
+pub use event_list::Events;
 pub use fault::JFault;
 pub use journal::{Journal, MOST_RECORDS};
 pub use laws::{each_has_a_reading, each_is_free_or_refused, no_two_readings, no_two_sessions};

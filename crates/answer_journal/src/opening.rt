@@ -16,8 +16,8 @@ use crate::decode::session_of;
 use crate::encode::LONGEST;
 use crate::head::{Head, head_of};
 use crate::pieces::events_of;
-use crate::{JFault, Journal};
-use assign::{Event, Plan};
+use crate::{Events, JFault, Journal};
+use assign::Plan;
 use disk_model::Disk;
 use std::alloc::Global;
 
@@ -29,7 +29,7 @@ pub struct Opened {
     /// The bytes of the vocabulary.
     pub voc: Vec<u8>,
     /// In the order in which they were added.
-    pub events: Vec<Event>,
+    pub events: Events,
 }
 
 /// So many bytes are read at a time at most: the longest record of a session behind its gate, and a

@@ -6,7 +6,7 @@ ghost use Rattle.std.specs.Prelude.{IfErr, OnOk, MatchResult};
 ghost use Rattle.std.specs.Option.{ForSome};
 ghost use Rattle.disk_model.specs.Disk.{Rose};
 ghost use Rattle.disk_model.specs.Moments.{IsOnlyRead};
-ghost use Rattle.answer_journal.specs.Records.{with_record, is_raised_by};
+ghost use Rattle.answer_journal.specs.Records.{with_record, is_raised_by, MayFollow};
 ghost use Rattle.answer_journal.specs.Found.{AreRecordsRead, WereRead, HasEvents, BeginsWith};
 ghost use Rattle.answer_journal.specs.Found.{EventsRefused, gate_reached, IsReached, IsProgress};
 ghost use Rattle.answer_journal.specs.Found.{IsFar};
@@ -15,8 +15,7 @@ ghost use Rattle.answer_journal.specs.Calls.{AreReadingCalls, TakesPieces};
 use crate::decode::record_of;
 use crate::encode::LONGEST;
 use crate::record::Record;
-use crate::{JFault, MOST_RECORDS};
-use assign::Event;
+use crate::{Events, JFault, MOST_RECORDS};
 use disk_model::Disk;
 use std::alloc::Global;
 
@@ -36,7 +35,7 @@ pub(crate) fn events_of<D: Disk>(
     disk: &mut D,
     start: u64,
     buffer: &mut [u8],
-) -> Result<(Vec<Event>, bool, u64), JFault>
+) -> Result<(Events, bool, u64), JFault>
     requires wide { 264 < length buffer.old }
     requires behind { 0 < start }
     requires near { start < 2 ^ 62 }
@@ -54,7 +53,7 @@ pub(crate) fn events_of<D: Disk>(
     ensures few_calls { ForSome (D.content disk.old) (λ bytes. TakesPieces (length buffer.old)
         bytes → AreReadingCalls 1 (D.calls disk.old) (D.calls disk.new) bytes) }
 {
-    let mut events = Vec::new(alloc);
+    let mut events = Events::new(alloc);
     let mut raised = false;
     let mut at = start;
     'pieces: loop {
@@ -74,7 +73,7 @@ fn events_in(
     piece: &[u8],
     is_last: bool,
     at: u64,
-    events: &mut Vec<Event>,
+    events: &mut Events,
     raised: &mut bool,
 ) -> Result<Reached, JFault>
     requires near { at < 2 ^ 63 }
@@ -111,7 +110,8 @@ fn events_in(
 }
 
 /// Notes what a record says.
-fn note(next: Record, events: &mut Vec<Event>, raised: &mut bool) -> Result<(), JFault>
+fn note(next: Record, events: &mut Events, raised: &mut bool) -> Result<(), JFault>
+    requires follows { MayFollow raised.old next }
     requires few { length events.old.items < 1000000 }
     ensures events { OnOk result (events.new.items ≡ with_record events.old.items next) }
     ensures raised { OnOk result (raised.new ≡ is_raised_by raised.old next) }
@@ -121,7 +121,7 @@ fn note(next: Record, events: &mut Vec<Event>, raised: &mut bool) -> Result<(), 
 {
     match next {
         Record::Added(event) => {
-            events.push(event)?;
+            events.push(&event)?;
             if events.len() < MOST_RECORDS as usize {
                 Ok(())
             } else {

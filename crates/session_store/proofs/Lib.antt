@@ -2,6 +2,7 @@ mod Prelude
 pub mod Asked
 pub mod Storables
 pub mod Replaying
+pub mod Past
 pub mod Recording
 pub mod Fronts
 pub mod Placing

@@ -1,6 +1,9 @@
 -- The records of the answers that stand.
 use Rattle.session_store.proofs.Prelude.{◌≡◌, ℕ, true, false, ◌+◌, ◌-◌, ◌<◌, ◌≤◌, List, [], ◌∷◌, ◌++◌, length, map, get_or, take, drop, Option, Some, None, refl, sym, ◌∙◌, ap, arith, length-append, append_assoc, All, is_some, option_to_list, map-append, length-map, take-map, get_or-map, drop_all, take-append_seam, get_or-append_seam, All-nil, All-cons, All-append, All-take, All-get_or, Answer, without_last, standing_from, standing, cut_to, Event, Language, variable_count, standing_on, Recorded, recorded_from, recorded, empty_back_from, empty_back, seen, all_seen, standing_numbers, AreStandingNumbers, HoldsAnswer, RecordsAreAnswers, IsEmptyBack}
+use Rattle.std.specs.Prelude.{Bool}
+use Rattle.assign.specs.Assignment.{Assignment}
 use Rattle.assign.specs.declared.events.Event.TheVariants as variant
+use Rattle.answer_journal.specs.EventList.{is_back}
 use Rattle.session_store.proofs.Replaying.{drop_next}
 
 -- the parts of a record of an answer
@@ -174,6 +177,14 @@ empty_back_is events number e =
     record { front = f.front; more = f.more; is = f.is; count = omega (arith, f.count); none = f.none; found = f.found }
 
 -- ---- counting the records
+
+pub an_answer : (e : Event) → is_back e ≡ false → (q : Assignment) × (y : Bool) × (e ≡ variant.Answer q y)
+an_answer (variant.Answer q y) is = (q, y, refl)
+an_answer variant.Back is = absurd (let bad : true ≡ false = is in cc)
+
+pub a_back : (e : Event) → is_back e ≡ true → e ≡ variant.Back
+a_back (variant.Answer q y) is = absurd (let bad : false ≡ true = is in cc)
+a_back variant.Back is = refl
 
 pub none_counted : (events : List Event) → AreStandingNumbers events 0 []
 none_counted events = record { before = []; is = refl; stand = refl; backs = refl }

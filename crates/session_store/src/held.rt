@@ -1,7 +1,7 @@
 //! A session beside the events that led to it.
 
 ghost use Rattle.std.specs.Prelude.{◌≡◌, ◌≢◌, ◌↔◌, ◌<◌, ◌+◌, ◌++◌, ◌∷◌, [], None, Some, IsSome};
-ghost use Rattle.std.specs.Prelude.{IsTrue, IfOk, OnOk, All, length, vec_len, vec_capacity};
+ghost use Rattle.std.specs.Prelude.{IsTrue, IfOk, OnOk, All, length};
 ghost use Rattle.std.specs.Option.{ForSome};
 ghost use Rattle.assign.specs.Events.{standing};
 ghost use Rattle.assign.specs.Assignment.{widened};
@@ -16,31 +16,21 @@ ghost use Rattle.session_store.specs.Held.{lang_held, plan_held, question_held, 
 ghost use Rattle.session_store.specs.Held.{IsHeld};
 
 use crate::replay::{replay_records, standing_records};
-use answer_journal::MOST_RECORDS;
+use answer_journal::{Events, MOST_RECORDS};
 use assign::{Event, Partial};
 use language::Memory;
 use session_core::Session;
-use std::slice::from_ref;
 
 /// A session that stands where its events lead.
 #[derive(Drop)]
 pub(crate) struct Held {
     /// Empty only within a call that moves the session.
     pub(crate) session: Option<Session>,
-    pub(crate) events: Vec<Event>,
-}
-
-/// Adds an event in a place that was taken. `push` hands a refused one back, and copies it four
-/// times for that.
-fn push_event(events: &mut Vec<Event>, event: &Event)
-    requires { vec_len events.old < vec_capacity events.old }
-    ensures { events.new.items ≡ events.old.items ++ event.now ∷ [] }
-{
-    events.extend_from_slice(from_ref(event)).unwrap();
+    pub(crate) events: Events,
 }
 
 impl Held {
-    pub(crate) fn new(session: Session, events: Vec<Event>) -> Held
+    pub(crate) fn new(session: Session, events: Events) -> Held
         requires stands { Stands session (standing_on (knowledge_of session).lang events.items) }
         requires few { length events.items < 1000000 }
         requires storable { All IsStorableEvent events.items }
@@ -125,9 +115,9 @@ impl Held {
     pub(crate) fn make_room(&mut self) -> Result<(), Memory>
         ensures session { self.new.session ≡ self.old.session }
         ensures events { events_held self.new ≡ events_held self.old }
-        ensures room { OnOk result (vec_len self.new.events < vec_capacity self.new.events) }
+        ensures room { OnOk result (IsTrue self.new.events.has_room) }
     {
-        match self.events.reserve(1) {
+        match self.events.make_room() {
             Ok(()) => Ok(()),
             Err(_) => Err(Memory),
         }
@@ -142,7 +132,7 @@ impl Held {
         requires is { ForSome (question_held self.old) (λ q. event.now ≡ answer_event q «yes») }
         requires storable { IsStorableEvent event.now }
         requires few { length (events_held self.old) + 1 < 1000000 }
-        requires room { vec_len self.old.events < vec_capacity self.old.events }
+        requires room { IsTrue self.old.events.has_room }
         ensures events { events_held self.new ≡ events_held self.old ++ event.now ∷ [] }
         ensures settled { IsSettled (lang_held self.new) (plan_held self.new)
             (standing_on (lang_held self.new) (events_held self.new)) (question_held self.new) }
@@ -153,7 +143,7 @@ impl Held {
         match self.session.take() {
             Some(Session::Asking(asking)) => {
                 let _lang = asking.lang();
-                push_event(&mut self.events, event);
+                self.events.add(event);
                 self.session = Some(asking.answer_to(question, yes));
             }
             Some(Session::Idle(_)) | Some(Session::Over(_)) | None => unreachable!(),
@@ -166,12 +156,12 @@ impl Held {
         requires sound { IsHeld self.old }
         ensures session { self.new.session ≡ self.old.session }
         ensures events { events_held self.new ≡ events_held self.old }
-        ensures room { OnOk result (vec_len self.new.events < vec_capacity self.new.events) }
+        ensures room { OnOk result (IsTrue self.new.events.has_room) }
         ensures records { IfOk result (λ records.
             records.items ≡ standing_numbers (events_held self.old ++ Event.Back ∷ [])) }
     {
         self.make_room()?;
-        match standing_records(*self.events.allocator(), &self.events) {
+        match standing_records(self.events.allocator(), &self.events) {
             Ok(mut records) => {
                 records.pop();
                 Ok(records)
@@ -188,7 +178,7 @@ impl Held {
         requires records { records.now
             ≡ standing_numbers (events_held self.old ++ Event.Back ∷ []) }
         requires few { length (events_held self.old) + 1 < 1000000 }
-        requires room { vec_len self.old.events < vec_capacity self.old.events }
+        requires room { IsTrue self.old.events.has_room }
         ensures events { events_held self.new ≡ events_held self.old ++ Event.Back ∷ [] }
         ensures settled { IsSettled (lang_held self.new) (plan_held self.new)
             (standing_on (lang_held self.new) (events_held self.new)) (question_held self.new) }
@@ -196,7 +186,7 @@ impl Held {
         ensures plan { plan_held self.new ≡ plan_held self.old }
         ensures sound { IsHeld self.new }
     {
-        self.events.push(Event::Back).unwrap();
+        self.events.add(&Event::Back);
         match self.session.take() {
             Some(session) => match replay_records(session.restart(), &self.events, records) {
                 Ok(next) => self.session = Some(next),

@@ -17,7 +17,8 @@ ghost use Rattle.session_store.specs.Replay.{HavePlaces};
 ghost use Rattle.session_store.specs.Left.{OpensWith};
 
 use crate::SFault;
-use assign::{Event, Partial};
+use answer_journal::Events;
+use assign::Partial;
 use disk_model::Disk;
 use session_core::Session;
 
@@ -64,9 +65,9 @@ pub trait Keep<D: Disk> {
         ensures question { open_in result.now ≡ question self.now };
 
     /// Each question has 128 options: those of the language's variables first, then empty ones.
-    fn events(&self) -> &[Event]
-        ensures is { result.now ≡ record_of self.now }
-        ensures wide { sound self.now → All IsWide result.now };
+    fn events(&self) -> &Events
+        ensures is { result.now.items ≡ record_of self.now }
+        ensures wide { sound self.now → All IsWide result.now.items };
 
     /// Whether there are 1,000,000 records: that of the vocabulary, and one for each event.
     fn is_full(&self) -> bool

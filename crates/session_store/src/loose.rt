@@ -4,7 +4,8 @@ ghost use Rattle.session_store.specs.Loose.{lang_of, plan_of, question_of, event
 use crate::SFault;
 use crate::held::Held;
 use crate::keep::Keep;
-use assign::{Event, Partial, Plan};
+use answer_journal::Events;
+use assign::{Partial, Plan};
 use disk_model::Disk;
 use language::{Language, Memory};
 use session_core::{Session, begin};
@@ -26,7 +27,7 @@ impl Loose {
         ensures idle { IfOk result (λ loose. question_of loose ≡ None) }
     {
         Ok(Loose {
-            held: Held::new(begin(alloc, lang, plan)?, Vec::new(alloc)),
+            held: Held::new(begin(alloc, lang, plan)?, Events::new(alloc)),
         })
     }
 }
@@ -64,7 +65,7 @@ impl<D: Disk> Keep<D> for Loose {
         self.held.session()
     }
 
-    fn events(&self) -> &[Event] {
+    fn events(&self) -> &Events {
         &self.held.events
     }
 

@@ -13,15 +13,17 @@ ghost use Rattle.session_store.specs.Replay.{empty_back, NamesEmptyBack, Answers
 ghost use Rattle.session_store.specs.Replay.{IsStrayIn, HavePlaces, NamesStray};
 
 use crate::SFault;
-use assign::{Event, MOST_VARIABLES, Partial};
+use answer_journal::Events;
+use assign::{Event, Partial, VarSet};
 use session_core::{Asking, Idle, Session};
 use std::alloc::Global;
 
 /// Whether a variable past the first n has a value.
 fn is_past(question: &Partial, n: u8) -> bool
+    requires { n ≤ 128 }
     ensures { result ≡ is_past n question.now }
 {
-    (0..MOST_VARIABLES).any(|v| v >= n && question.get(v).is_some())
+    !question.vars().within(VarSet::all(n))
 }
 
 /// The session after an answer to a new question, if that is lawful.
@@ -91,21 +93,20 @@ fn with_event(session: Session, event: &Event) -> Option<Session>
 /// event is record 1.
 ///
 /// `Stray` names the first take-back at which no answer stands.
-pub fn standing_records(alloc: Global, events: &[Event]) -> Result<Vec<u32>, SFault>
-    requires few { length events.now ≤ 1000000 }
-    ensures records { IfOk result (λ records. records.items ≡ standing_numbers events.now) }
-    ensures found { OnOk result (empty_back events.now ≡ None) }
-    ensures fault { IfErr result (NamesEmptyBack events.now) }
+pub fn standing_records(alloc: Global, events: &Events) -> Result<Vec<u32>, SFault>
+    requires few { length events.now.items ≤ 1000000 }
+    ensures records { IfOk result (λ records. records.items ≡ standing_numbers events.now.items) }
+    ensures found { OnOk result (empty_back events.now.items ≡ None) }
+    ensures fault { IfErr result (NamesEmptyBack events.now.items) }
 {
     let mut records = Vec::new(alloc);
-    for (i, event) in events.iter().enumerate() {
-        match event {
-            Event::Answer { .. } => records.push(i as u32 + 1)?,
-            Event::Back => {
-                if records.pop().is_none() {
-                    return Err(SFault::Stray(i as u32 + 1));
-                }
+    for i in 0..events.len() {
+        if events.is_back(i) {
+            if records.pop().is_none() {
+                return Err(SFault::Stray(i as u32 + 1));
             }
+        } else {
+            records.push(i as u32 + 1)?;
         }
     }
     Ok(records)
@@ -115,28 +116,30 @@ pub fn standing_records(alloc: Global, events: &[Event]) -> Result<Vec<u32>, SFa
 /// answer has no place.
 pub(crate) fn replay_records(
     session: Session,
-    events: &[Event],
+    events: &Events,
     records: &[u32],
 ) -> Result<Session, u32>
-    requires wide { All IsWide events.now }
-    requires few { length events.now ≤ 1000000 }
-    requires records { records.now ≡ standing_numbers events.now }
+    requires wide { All IsWide events.now.items }
+    requires few { length events.now.items ≤ 1000000 }
+    requires records { records.now ≡ standing_numbers events.now.items }
     requires starts { Stands session [] }
     requires idle { open_in session ≡ None }
     ensures lang { IfOk result (λ next. (knowledge_of next).lang ≡ (knowledge_of session).lang) }
     ensures plan { IfOk result (λ next. (knowledge_of next).plan ≡ (knowledge_of session).plan) }
     ensures stands { IfOk result
-        (λ next. Stands next (standing_on (knowledge_of session).lang events.now)) }
+        (λ next. Stands next (standing_on (knowledge_of session).lang events.now.items)) }
     ensures settled { IfOk result (λ next. IsSettled (knowledge_of session).lang (knowledge_of
-        session).plan (standing_on (knowledge_of session).lang events.now) (open_in next)) }
-    ensures places { OnOk result
-        (AnswersHavePlaces (knowledge_of session).lang (knowledge_of session).plan events.now) }
+        session).plan (standing_on (knowledge_of session).lang events.now.items) (open_in next)) }
+    ensures places { OnOk result (AnswersHavePlaces (knowledge_of session).lang
+        (knowledge_of session).plan events.now.items) }
     ensures stray { IfErr result
-        (IsStrayIn (knowledge_of session).lang (knowledge_of session).plan events.now) }
+        (IsStrayIn (knowledge_of session).lang (knowledge_of session).plan events.now.items) }
 {
     let mut session = session;
     for record in records {
-        match with_event(session, &events[*record as usize - 1]) {
+        let place = *record as usize - 1;
+        let event = events.get(place);
+        match with_event(session, &event) {
             Some(next) => session = next,
             None => return Err(*record),
         }
@@ -145,21 +148,21 @@ pub(crate) fn replay_records(
 }
 
 /// The session after these events, or the number of the first record that has no place.
-pub(crate) fn replay(alloc: Global, session: Session, events: &[Event]) -> Result<Session, SFault>
-    requires storable { All IsStorableEvent events.now }
-    requires few { length events.now ≤ 1000000 }
+pub(crate) fn replay(alloc: Global, session: Session, events: &Events) -> Result<Session, SFault>
+    requires storable { All IsStorableEvent events.now.items }
+    requires few { length events.now.items ≤ 1000000 }
     requires starts { Stands session [] }
     requires idle { open_in session ≡ None }
     ensures lang { IfOk result (λ next. (knowledge_of next).lang ≡ (knowledge_of session).lang) }
     ensures plan { IfOk result (λ next. (knowledge_of next).plan ≡ (knowledge_of session).plan) }
     ensures stands { IfOk result
-        (λ next. Stands next (standing_on (knowledge_of session).lang events.now)) }
+        (λ next. Stands next (standing_on (knowledge_of session).lang events.now.items)) }
     ensures settled { IfOk result (λ next. IsSettled (knowledge_of session).lang (knowledge_of
-        session).plan (standing_on (knowledge_of session).lang events.now) (open_in next)) }
+        session).plan (standing_on (knowledge_of session).lang events.now.items) (open_in next)) }
     ensures places { OnOk result
-        (HavePlaces (knowledge_of session).lang (knowledge_of session).plan events.now) }
+        (HavePlaces (knowledge_of session).lang (knowledge_of session).plan events.now.items) }
     ensures stray { IfErr result
-        (NamesStray (knowledge_of session).lang (knowledge_of session).plan events.now) }
+        (NamesStray (knowledge_of session).lang (knowledge_of session).plan events.now.items) }
 {
     let records = standing_records(alloc, events)?;
     match replay_records(session, events, &records) {

@@ -27,7 +27,7 @@ use crate::SFault;
 use crate::held::Held;
 use crate::keep::Keep;
 use crate::replay::replay;
-use answer_journal::{JFault, Journal, Opened};
+use answer_journal::{Events, JFault, Journal, Opened};
 use assign::{Event, Partial, Plan};
 use disk_model::Disk;
 use language::Language;
@@ -75,22 +75,22 @@ fn new_session(alloc: Global, plan: Plan, voc: &[u8]) -> Result<(Held, Vec<u8>),
     let lang = language_of(alloc, voc)?;
     let bytes = voc.to_vec(alloc)?;
     let session = begin(alloc, lang, plan)?;
-    Ok((Held::new(session, Vec::new(alloc)), bytes))
+    Ok((Held::new(session, Events::new(alloc)), bytes))
 }
 
 /// The session to which events lead, of this plan and vocabulary.
-fn led_session(alloc: Global, plan: Plan, voc: &[u8], events: &[Event]) -> Result<Session, SFault>
-    requires storable { All IsStorableEvent events.now }
-    requires few { length events.now ≤ 1000000 }
+fn led_session(alloc: Global, plan: Plan, voc: &[u8], events: &Events) -> Result<Session, SFault>
+    requires storable { All IsStorableEvent events.now.items }
+    requires few { length events.now.items ≤ 1000000 }
     ensures read { IfOk result (λ session. IsVocabulary voc.now (knowledge_of session).lang) }
     ensures plan { IfOk result (λ session. (knowledge_of session).plan ≡ plan) }
     ensures stands { IfOk result
-        (λ session. Stands session (standing_on (knowledge_of session).lang events.now)) }
+        (λ session. Stands session (standing_on (knowledge_of session).lang events.now.items)) }
     ensures settled { IfOk result (λ session. IsSettled (knowledge_of session).lang plan
-        (standing_on (knowledge_of session).lang events.now) (open_in session)) }
+        (standing_on (knowledge_of session).lang events.now.items) (open_in session)) }
     ensures places { IfOk result
-        (λ session. HavePlaces (knowledge_of session).lang plan events.now) }
-    ensures refused { IfErr result (NotLed plan voc.now events.now) }
+        (λ session. HavePlaces (knowledge_of session).lang plan events.now.items) }
+    ensures refused { IfErr result (NotLed plan voc.now events.now.items) }
 {
     let lang = language_of(alloc, voc)?;
     let start = begin(alloc, lang, plan)?;
@@ -277,7 +277,7 @@ impl<D: Disk> Keep<D> for Store {
         self.held.session()
     }
 
-    fn events(&self) -> &[Event] {
+    fn events(&self) -> &Events {
         &self.held.events
     }
 

@@ -3,7 +3,7 @@
 use crate::files::disk_with;
 use crate::journals::{count_text, fault_text, read_of};
 use crate::leaving::add_at;
-use answer_journal::{Opened, open};
+use answer_journal::{Events, Opened, open};
 use assign::{Event, Partial, Plan};
 use rows::{Runs, bytes_in};
 use std::alloc::Global;
@@ -32,6 +32,22 @@ fn has_pairs(bytes: &[u8], at: usize, question: &Partial) -> bool {
     question.vars().len() == 2 && question.get(*v) == Some(*x) && question.get(*w) == Some(*y)
 }
 
+/// Whether each event is the answer, to two variables, of the record whose gate stands at this
+/// place.
+fn are_at(bytes: &[u8], gate: usize, events: &Events) -> bool {
+    for i in 0..events.len() {
+        let Event::Answer { question, yes } = events.get(i) else {
+            return false;
+        };
+        if bytes.get(gate.saturating_add(6)) != Some(&u8::from(yes))
+            || !has_pairs(bytes, gate.saturating_add(8), &question)
+        {
+            return false;
+        }
+    }
+    true
+}
+
 /// Whether what is read of a journal with at most one answer, to two variables, is what stands
 /// there.
 fn is_as_written(bytes: &[u8], opened: &Opened) -> bool {
@@ -46,12 +62,7 @@ fn is_as_written(bytes: &[u8], opened: &Opened) -> bool {
     };
     bytes.get(14) == Some(&plan)
         && bytes.get(15..end) == Some(opened.voc.as_slice())
-        && opened.events.iter().all(|event| match event {
-            Event::Answer { question, yes } => bytes.get(end.saturating_add(6))
-                == Some(&u8::from(*yes))
-                && has_pairs(bytes, end.saturating_add(8), question),
-            Event::Back => false,
-        })
+        && are_at(bytes, end, &opened.events)
 }
 
 /// How a file opens, of which what is read is held against its bytes.

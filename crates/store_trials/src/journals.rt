@@ -43,8 +43,8 @@ fn whole_text(alloc: Global, opened: &Opened) -> Option<String> {
     if opened.journal.is_raised() {
         text.push_str("\nraised").ok()?;
     }
-    for event in &opened.events {
-        push_event(&mut text, "\n", event)?;
+    for i in 0..opened.events.len() {
+        push_event(&mut text, "\n", &opened.events.get(i))?;
     }
     Some(text)
 }
@@ -76,7 +76,8 @@ fn repeat_last(alloc: Global, disk: &mut MemDisk) -> Option<()> {
         Ok(opened) => opened,
         Err(_) => return None,
     };
-    let Event::Answer { question, yes } = opened.events.pop()? else {
+    let last = opened.events.len().checked_sub(1)?;
+    let Event::Answer { question, yes } = opened.events.get(last) else {
         return None;
     };
     let event = Event::Answer { question, yes };

@@ -51,8 +51,9 @@ fn kept_text(alloc: Global, store: &Store) -> Option<String>
         alloc,
         plan_word(session_of::<MemDisk, Store>(store).plan()),
     ).ok()?;
-    for event in events_of::<MemDisk, Store>(store) {
-        push_event(&mut text, ", ", event)?;
+    let events = events_of::<MemDisk, Store>(store);
+    for i in 0..events.len() {
+        push_event(&mut text, ", ", &events.get(i))?;
     }
     let standing = standing_count::<MemDisk, Store>(store);
     write!(text, ", {standing} standing").ok()?;

@@ -11,6 +11,7 @@ ghost use Rattle.session_store.specs.Loose.{IsSound as IsLooseSound};
 
 use crate::files::disk_with;
 use crate::steps::{answer, events_of, has_answers, put, session_of, take_back};
+use answer_journal::Events;
 use assign::{Partial, Plan};
 use disk_model::MemDisk;
 use language::{Candidate, Language};
@@ -266,13 +267,29 @@ fn are_same(one: &Session, other: &Session) -> bool {
         && is_as_open(one, other)
 }
 
+/// Whether both are the same events.
+fn are_same_events(one: &Events, other: &Events) -> bool {
+    if one.len() != other.len() {
+        return false;
+    }
+    for i in 0..one.len() {
+        if one.get(i) != other.get(i) {
+            return false;
+        }
+    }
+    true
+}
+
 /// Whether two stores have the same vocabulary and events, and both stand where the session does.
 fn are_as_told(store: &Store, opened: &Store, session: &Session) -> bool
     requires store { IsSound store.now }
     requires opened { IsSound opened.now }
 {
     store.vocabulary() == opened.vocabulary()
-        && events_of::<MemDisk, Store>(store) == events_of::<MemDisk, Store>(opened)
+        && are_same_events(
+            events_of::<MemDisk, Store>(store),
+            events_of::<MemDisk, Store>(opened),
+        )
         && are_same(session_of::<MemDisk, Store>(store), session)
         && are_same(session_of::<MemDisk, Store>(opened), session)
 }

@@ -7,6 +7,7 @@ ghost use Rattle.session_core.specs.Standing.{Stands, knowledge_of, open_in};
 ghost use Rattle.session_store.specs.Kept.{IsLawfulAfter};
 
 use crate::files::{answer_in, pair_in, plan_word};
+use answer_journal::Events;
 use assign::{Event, Partial};
 use disk_model::Disk;
 use session_core::Session;
@@ -19,7 +20,7 @@ pub(crate) fn session_of<D: Disk, P: Keep<D>>(keep: &P) -> &Session
     keep.session()
 }
 
-pub(crate) fn events_of<D: Disk, P: Keep<D>>(keep: &P) -> &[Event] {
+pub(crate) fn events_of<D: Disk, P: Keep<D>>(keep: &P) -> &Events {
     keep.events()
 }
 

@@ -12,4 +12,4 @@ returns g c =
     let P = g.P.Keep in
     let keep = c.args.keep.now in
     let By : Language → List Event → Type 0 = λ l es. IfOk c.entries_of.result (λ entries. entries.items ≡ standing_on l es) in
-    subst (By (P.lang keep)) c.events-events.ensures.is (subst (λ (l : Language). By l c.events-events.result.now) (c.lang.ensures.is ∙ c.session.ensures.lang) c.entries_of.ensures)
+    subst (By (P.lang keep)) c.events-events.ensures.is (subst (λ (l : Language). By l c.events-events.result.now.items) (c.lang.ensures.is ∙ c.session.ensures.lang) c.entries_of.ensures)

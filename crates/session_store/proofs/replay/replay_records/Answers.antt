@@ -9,45 +9,45 @@ none : Recorded
 none = record { answer = answer_to [] false; number = 0 }
 
 pub loop-record-init : goal.loop-record-init
-loop-record-init c = replay_none c.args.session (recorded c.args.events.now) c.requires.starts c.requires.idle
+loop-record-init c = replay_none c.args.session (recorded c.args.events.now.items) c.requires.starts c.requires.idle
 
-pub overflow_sub-record : goal.overflow_sub-record
-overflow_sub-record c = (record_at c.args.events.now c.args.records.now c.loop-record.record-index 0 variant.Back none c.requires.records c.loop-record-test.true).low
+pub overflow_sub-place : goal.overflow_sub-place
+overflow_sub-place c = (record_at c.args.events.now.items c.args.records.now c.loop-record.record-index 0 variant.Back none c.requires.records c.loop-record-test.true).low
 
-pub bounds-events-record : goal.bounds-events-record
-bounds-events-record c =
-    let at = record_at c.args.events.now c.args.records.now c.loop-record.record-index 0 variant.Back none c.requires.records c.loop-record-test.true in
+pub get-event-requires : goal.get-event-requires
+get-event-requires c =
+    let at = record_at c.args.events.now.items c.args.records.now c.loop-record.record-index 0 variant.Back none c.requires.records c.loop-record-test.true in
     let low = at.low in
     let high = at.high in
     omega (arith, low, high)
 
 pub with_event-requires-clause-wide : goal.with_event-requires-clause-wide
 with_event-requires-clause-wide c =
-    let at = record_at c.args.events.now c.args.records.now c.loop-record.record-index 0 variant.Back none c.requires.records c.loop-record-test.true in
+    let at = record_at c.args.events.now.items c.args.records.now c.loop-record.record-index 0 variant.Back none c.requires.records c.loop-record-test.true in
     let low = at.low in
     let high = at.high in
-    subst IsWide (sym c.index-events-record.is) (All-get_or IsWide c.args.events.now _ c.index-events-record.result (omega (arith, low, high)) c.requires.wide)
+    subst IsWide (sym c.get-event.ensures) (All-get_or IsWide c.args.events.now.items _ c.get-event.result (omega (arith, low, high)) c.requires.wide)
 
 pub with_event-requires-clause-answer : goal.with_event-requires-clause-answer
 with_event-requires-clause-answer c =
-    let at = record_at c.args.events.now c.args.records.now c.loop-record.record-index 0 c.index-events-record.result none c.requires.records c.loop-record-test.true in
-    subst IsAnswer (sym (c.index-events-record.is ∙ at.event)) tt
+    let at = record_at c.args.events.now.items c.args.records.now c.loop-record.record-index 0 c.get-event.result none c.requires.records c.loop-record-test.true in
+    subst IsAnswer (sym (c.get-event.ensures ∙ at.event)) tt
 
 pub returns-in-None-clause-stray : goal.returns-in-None-clause-stray
 returns-in-None-clause-stray c =
     let k = knowledge_of c.args.session in
-    let at = record_at c.args.events.now c.args.records.now c.loop-record.record-index 0 c.index-events-record.result none c.requires.records c.loop-record-test.true in
+    let at = record_at c.args.events.now.items c.args.records.now c.loop-record.record-index 0 c.get-event.result none c.requires.records c.loop-record-test.true in
     let No : Answer → Type 0 = λ a. HasNoPlace c.loop-record.session a in
-    replay_strays k.lang k.plan (recorded c.args.events.now) c.loop-record.record-index none c.loop-record.session at.few c.loop-record.invariant (subst No (ap answer_in (c.index-events-record.is ∙ at.event)) c.in-None.ensures.none)
+    replay_strays k.lang k.plan (recorded c.args.events.now.items) c.loop-record.record-index none c.loop-record.session at.few c.loop-record.invariant (subst No (ap answer_in (c.get-event.ensures ∙ at.event)) c.in-None.ensures.none)
     ∙ ap (λ n. Stray n) (sym at.number_is)
 
 pub loop-record-preserved : goal.loop-record-preserved
 loop-record-preserved c =
     let k = knowledge_of c.args.session in
-    let at = record_at c.args.events.now c.args.records.now c.loop-record.record-index 0 c.index-events-record.result none c.requires.records c.loop-record-test.true in
+    let at = record_at c.args.events.now.items c.args.records.now c.loop-record.record-index 0 c.get-event.result none c.requires.records c.loop-record-test.true in
     let By : Answer → Type 0 = λ a. MovesBy c.loop-record.session a c.in-Some.next in
-    replay_more k.lang k.plan (recorded c.args.events.now) c.loop-record.record-index none c.loop-record.session c.in-Some.next at.few c.loop-record.invariant
-    (subst By (ap answer_in (c.index-events-record.is ∙ at.event)) c.in-Some.ensures.some)
+    replay_more k.lang k.plan (recorded c.args.events.now.items) c.loop-record.record-index none c.loop-record.session c.in-Some.next at.few c.loop-record.invariant
+    (subst By (ap answer_in (c.get-event.ensures ∙ at.event)) c.in-Some.ensures.some)
 
 -- no record is left
 past : (events : List Event) (numbers : List ℕ) (i : ℕ) → numbers ≡ standing_numbers events → length numbers ≤ i → length (recorded events) ≤ i
@@ -58,20 +58,20 @@ past events numbers i is all =
 pub returns-clause-stands : goal.returns-clause-stands
 returns-clause-stands c =
     let l = (knowledge_of c.args.session).lang in
-    let all = past c.args.events.now c.args.records.now c.loop-record.record-index c.requires.records (omega (arith, c.loop-record-test.false)) in
-    subst (Stands c.loop-record.session) (seen_whole (variable_count l) (recorded c.args.events.now) c.loop-record.record-index all ∙ recorded_seen l c.args.events.now) c.loop-record.invariant.stands
+    let all = past c.args.events.now.items c.args.records.now c.loop-record.record-index c.requires.records (omega (arith, c.loop-record-test.false)) in
+    subst (Stands c.loop-record.session) (seen_whole (variable_count l) (recorded c.args.events.now.items) c.loop-record.record-index all ∙ recorded_seen l c.args.events.now.items) c.loop-record.invariant.stands
 
 pub returns-clause-settled : goal.returns-clause-settled
 returns-clause-settled c =
     let l = (knowledge_of c.args.session).lang in
     let p = (knowledge_of c.args.session).plan in
-    let all = past c.args.events.now c.args.records.now c.loop-record.record-index c.requires.records (omega (arith, c.loop-record-test.false)) in
+    let all = past c.args.events.now.items c.args.records.now c.loop-record.record-index c.requires.records (omega (arith, c.loop-record-test.false)) in
     let Settled : List Answer → Type 0 = λ t. IsSettled l p t (open_in c.loop-record.session) in
-    subst Settled (seen_whole (variable_count l) (recorded c.args.events.now) c.loop-record.record-index all ∙ recorded_seen l c.args.events.now) c.loop-record.invariant.settled
+    subst Settled (seen_whole (variable_count l) (recorded c.args.events.now.items) c.loop-record.record-index all ∙ recorded_seen l c.args.events.now.items) c.loop-record.invariant.settled
 
 pub returns-clause-places : goal.returns-clause-places
 returns-clause-places c =
     let l = (knowledge_of c.args.session).lang in
     let p = (knowledge_of c.args.session).plan in
-    let all = past c.args.events.now c.args.records.now c.loop-record.record-index c.requires.records (omega (arith, c.loop-record-test.false)) in
-    (c.loop-record.invariant.state, replay_ends l p (recorded c.args.events.now) c.loop-record.record-index c.loop-record.session all c.loop-record.invariant)
+    let all = past c.args.events.now.items c.args.records.now c.loop-record.record-index c.requires.records (omega (arith, c.loop-record-test.false)) in
+    (c.loop-record.invariant.state, replay_ends l p (recorded c.args.events.now.items) c.loop-record.record-index c.loop-record.session all c.loop-record.invariant)

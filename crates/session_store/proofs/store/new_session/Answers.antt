@@ -5,7 +5,7 @@ use Rattle.session_store.proofs.store.new_session.Goals as goal
 pub new-requires-2-clause-places : goal.new-requires-2-clause-places
 new-requires-2-clause-places c =
     let k = knowledge_of c.in_ok-session.session in
-    subst (HavePlaces k.lang k.plan) (sym c.new.ensures.items) (none_placed k.lang k.plan)
+    subst (HavePlaces k.lang k.plan) (sym c.new.ensures) (none_placed k.lang k.plan)
 
 pub returns-in_err-lang-clause-sound : goal.returns-in_err-lang-clause-sound
 returns-in_err-lang-clause-sound c = none_given _ _ c.from_residual.result c.from_residual.ensures.1

@@ -22,16 +22,16 @@ returns-clause-sound c =
     let size : length q ≡ variable_count l = (asked_fits l lawful p (standing_on l events) q asked).size in
     let after = c.answer_to.ensures.stands (standing_on l events) q refl before in
     let is : c.args.event.now ≡ answer_event q c.args.yes = c.requires.is q (ap asked_of_session here) in
-    let pushed : c.push_event.new.events.items ≡ events ++ c.args.event.now ∷ [] = c.push_event.ensures in
-    let as_answer : c.push_event.new.events.items ≡ events ++ answer_event q c.args.yes ∷ [] = pushed ∙ ap (λ (e : Event). events ++ e ∷ []) is in
+    let pushed : c.add.new.self.items ≡ events ++ c.args.event.now ∷ [] = c.add.ensures in
+    let as_answer : c.add.new.self.items ≡ events ++ answer_event q c.args.yes ∷ [] = pushed ∙ ap (λ (e : Event). events ++ e ∷ []) is in
     let Placed : Option Session → Type 0 = λ o. HavePlaces (lang_in o) (plan_in o) events in
     let places : HavePlaces l p (events ++ answer_event q c.args.yes ∷ []) =
     answer_has_place l p events q c.args.yes size (subst Placed here c.requires.sound.places) asked in
-    let As : Language → Plan → Type 0 = λ m r. HavePlaces m r c.push_event.new.events.items in
-    let added : standing_on l c.push_event.new.events.items ≡ standing_on l events ++ (let a : Answer = record { question = q; yes = c.args.yes } in a) ∷ [] =
+    let As : Language → Plan → Type 0 = λ m r. HavePlaces m r c.add.new.self.items in
+    let added : standing_on l c.add.new.self.items ≡ standing_on l events ++ (let a : Answer = record { question = q; yes = c.args.yes } in a) ∷ [] =
     ap (standing_on l) as_answer ∙ cut_to-standing-push (variable_count l) events q c.args.yes size in
     record {
-      stands = subst (Stands c.answer_to.result) (sym added ∙ ap (λ m. standing_on m c.push_event.new.events.items) (sym c.answer_to.ensures.lang)) after;
+      stands = subst (Stands c.answer_to.result) (sym added ∙ ap (λ m. standing_on m c.add.new.self.items) (sym c.answer_to.ensures.lang)) after;
       wide = subst (All IsWide) (sym pushed) (All-append IsWide events (c.args.event.now ∷ []) c.requires.sound.wide (All-cons IsWide c.args.event.now [] (storable_wide c.args.event.now c.requires.storable) (All-nil IsWide)));
       places = both_same As l (knowledge_of c.answer_to.result).lang p (knowledge_of c.answer_to.result).plan (sym c.answer_to.ensures.lang) (sym c.answer_to.ensures.plan) (subst (HavePlaces l p) (sym as_answer) places);
       few = let size = ap length pushed in let more = length-append events (c.args.event.now ∷ []) in let few = c.requires.few in omega arith;

@@ -5,4 +5,4 @@ use Rattle.session_store.proofs.loose.Loose.new.Goals as goal
 pub new-requires-2-clause-places : goal.new-requires-2-clause-places
 new-requires-2-clause-places c =
     let k = knowledge_of c.in_ok-begin.field-0 in
-    subst (HavePlaces k.lang k.plan) (sym c.new.ensures.items) (none_placed k.lang k.plan)
+    subst (HavePlaces k.lang k.plan) (sym c.new.ensures) (none_placed k.lang k.plan)

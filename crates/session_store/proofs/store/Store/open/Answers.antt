@@ -1,4 +1,4 @@
-use Rattle.session_store.proofs.Prelude.{◌∙◌, sym, ap, List, ℕ, inl, inr, ⊎_elim, err_from_is_err_and, Event, Plan, of_journal, plan_in, plan_held, events_held, SaysSession, NotLed, none_given}
+use Rattle.session_store.proofs.Prelude.{◌∙◌, refl, sym, ap, List, ℕ, inl, inr, ⊎_elim, err_from_is_err_and, Event, Plan, of_journal, plan_in, plan_held, events_held, SaysSession, NotLed, none_given}
 use Rattle.session_store.proofs.Replaying.{both_same}
 use Rattle.session_store.proofs.Stores.{not_led, not_opened, some_not_opened, there_as}
 use Rattle.session_store.proofs.store.Store.open.Goals as goal
@@ -9,7 +9,7 @@ returns-in_err-session-clause-refused g c bytes told =
     let p = err_from_is_err_and c.from_residual-in_err-session.result c.from_residual-in_err-session.ensures.1 in
     let fault = c.in_err-session.field-0.0 in
     let No : List ℕ → List Event → Type 0 = λ v e. NotLed o.plan v e fault in
-    rw (p.1, p.2) (not_led bytes o.plan o.voc.items o.events.items fault (c.in_ok-journal.ensures.opened bytes told) (both_same No _ _ _ _ c.deref.ensures.value c.deref-2.ensures.value c.in_err-session.ensures.refused))
+    rw (p.1, p.2) (not_led bytes o.plan o.voc.items o.events.items fault (c.in_ok-journal.ensures.opened bytes told) (both_same No _ _ _ _ c.deref.ensures.value refl c.in_err-session.ensures.refused))
 
 pub returns-clause-sits : goal.returns-clause-sits
 returns-clause-sits g c live bytes told =
@@ -28,7 +28,7 @@ returns-in_err-session-clause-some g c =
     let some = c.in_ok-journal.ensures.some_session in
     rw (p.1, p.2) (
       some.0,
-      not_led some.0 o.plan o.voc.items o.events.items fault some.1 (both_same No _ _ _ _ c.deref.ensures.value c.deref-2.ensures.value c.in_err-session.ensures.refused),
+      not_led some.0 o.plan o.voc.items o.events.items fault some.1 (both_same No _ _ _ _ c.deref.ensures.value refl c.in_err-session.ensures.refused),
     )
 
 pub returns-clause-some : goal.returns-clause-some
