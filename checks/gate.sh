@@ -126,9 +126,18 @@ report "mended" "one $here j run 6 1" "$(start)"
 refuses "no gate"
 
 fresh
+mkdir -p crates/low/must-fail
+echo "edit" >crates/low/must-fail/unfit.edit
+commit
+rm -f "$room/called"
+report "an edit that doesn't fit" "1 gate: an edit of must-fail doesn't fit the sources: its line above begins with 'rt: must-fail'" "$(gate) $(cat "$room/said")"
+report "an edit that doesn't fit: no check is called" "" "$(cat "$room/called" 2>/dev/null)"
+refuses "an edit that doesn't fit"
+
+fresh
 printf '#!/bin/sh\necho seen; exit 4\n' >checks/kills.py
 commit
-rm "$room/called"
+rm -f "$room/called"
 report "a check fails" 1 "$(gate)"
 report "it is told, with its status and what it printed" "== kills.py: failed, with status 4 seen" "$(grep -A 1 '^== kills.py' "$room/printed" | tr '\n' ' ' | sed 's/ $//')"
 report "the others are called all the same" "$(find checks -type f ! -name kills.py ! -name wrong_bodies.py | wc -l)" "$(lines_of ../called)"

@@ -50,6 +50,7 @@ ci)
     rm -rf crates/*/out
     mkdir crates/acquire/out
     make_program "$text" $program
+    [ ! -e crates/low/must-fail/unfit.edit ] || echo "rt: must-fail low/unfit.edit: BAD EDIT: it did not reach the prover"
     echo "5 passed, 0 failed"
     ;;
 try)
