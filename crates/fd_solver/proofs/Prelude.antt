@@ -29,7 +29,7 @@ pub use Rattle.propagators.proofs.Replacing.{all_full, full_from, some_of_member
 pub use Rattle.propagators.proofs.Rounds.{empty_stays, stays_consistent, tells_more, tells_with}
 pub use Rattle.propagators.specs.Allowed.{AreConstraints, is_allowed, satisfies_one}
 pub use Rattle.propagators.specs.Entailed.{AreEntailed}
-pub use Rattle.propagators.specs.Families.{Arc, Family, IsLargest, IsSubfamily, arc_of, arcs_of, domain_of, has_family, is_arc_consistent, is_consistent, is_not_empty, largest, left_by, sets_on}
+pub use Rattle.propagators.specs.Families.{Arc, Family, IsLargest, IsSubfamily, arc_of, arcs_of, conditions, domain_of, has_family, is_arc_consistent, is_consistent, is_not_empty, largest, left_by, sets_on}
 pub use Rattle.propagators.specs.Supports.{AreSettled, IsFamilyOf, IsWithin}
 pub use Rattle.propagators.specs.declared.entailed.Entailed.{Entailed}
 pub use Rattle.propagators.specs.declared.plan.Plan.{Plan}

@@ -4,7 +4,7 @@ ghost use Rattle.std.specs.Prelude.{vec_capacity};
 ghost use Rattle.assign.specs.Sets.{has};
 ghost use Rattle.language.specs.Language.{IsLanguage, variable_count};
 ghost use Rattle.propagators.specs.Allowed.{AreConstraints};
-ghost use Rattle.propagators.specs.Families.{arcs_of, has_family, is_arc_consistent};
+ghost use Rattle.propagators.specs.Families.{conditions, has_family, is_arc_consistent};
 ghost use Rattle.propagators.specs.Plans.{IsPlanOf};
 ghost use Rattle.propagators.specs.Indexes.{IsIndexOf};
 ghost use Rattle.propagators.specs.Entailed.{AreEntailed};
@@ -73,21 +73,17 @@ fn narrow(
 ) -> bool
     requires lawful { IsLanguage cons.now.lang.now }
     requires constraints { AreConstraints cons.now.lang.now cons.now.list.now cons.now.against }
-    requires plan { IsPlanOf cons.now.lang.now
-        (arcs_of cons.now.lang.now cons.now.list.now cons.now.against) plan.now }
+    requires plan { IsPlanOf cons.now.lang.now (conditions cons.now) plan.now }
     requires doms { AreSome cons.now.lang.now doms.old }
-    requires consistent { is_arc_consistent
-        (arcs_of cons.now.lang.now cons.now.list.now cons.now.against) doms.old ≡ true }
-    requires entailed { AreEntailed (arcs_of cons.now.lang.now cons.now.list.now cons.now.against)
-        plan.now entailed.old doms.old }
+    requires consistent { is_arc_consistent (conditions cons.now) doms.old ≡ true }
+    requires entailed { AreEntailed (conditions cons.now) plan.now entailed.old doms.old }
     requires known { v < variable_count cons.now.lang.now }
     requires there { has (slice_index_or doms.old v []) x ≡ true }
-    ensures alive { result ≡ true → IsPropagated cons.now.lang.now (arcs_of cons.now.lang.now
-        cons.now.list.now cons.now.against) (fixed doms.old v x) doms.new }
-    ensures entailed { result ≡ true → AreEntailed (arcs_of cons.now.lang.now cons.now.list.now
-        cons.now.against) plan.now entailed.new doms.new }
-    ensures dead { result ≡ false → RunsEmpty
-        (arcs_of cons.now.lang.now cons.now.list.now cons.now.against) (fixed doms.old v x) }
+    ensures alive { result ≡ true →
+        IsPropagated cons.now.lang.now (conditions cons.now) (fixed doms.old v x) doms.new }
+    ensures entailed { result ≡ true →
+        AreEntailed (conditions cons.now) plan.now entailed.new doms.new }
+    ensures dead { result ≡ false → RunsEmpty (conditions cons.now) (fixed doms.old v x) }
 {
     if let Some(_only) = doms.only(v) {
         // It has this value already, and no other.
@@ -184,15 +180,14 @@ impl Work {
     pub(crate) fn begin(&mut self, cons: &Constraints) -> bool
         requires lawful { IsLanguage cons.now.lang.now }
         requires constraints { AreConstraints cons.now.lang.now cons.now.list.now cons.now.against }
-        ensures plan { IsPlanOf cons.now.lang.now
-            (arcs_of cons.now.lang.now cons.now.list.now cons.now.against) self.new.plan }
+        ensures plan { IsPlanOf cons.now.lang.now (conditions cons.now) self.new.plan }
         ensures deep { variable_count cons.now.lang.now < length self.new.depths }
         ensures same { length self.new.entailed ≡ length self.new.depths }
         ensures wide { length self.new.rows ≡ 129 }
         ensures row { result ≡ true → depth_row self.new 0 ≡ 0 }
         ensures entailed { result ≡ true → (e : Entailed) →
-            AreEntailed (arcs_of cons.now.lang.now cons.now.list.now cons.now.against) self.new.plan
-            (slice_index_or self.new.entailed 0 e) (slice_index_or self.new.depths 0 []) }
+            AreEntailed (conditions cons.now) self.new.plan (slice_index_or self.new.entailed 0 e)
+            (slice_index_or self.new.depths 0 []) }
         ensures ready { result ≡ true → IsReady cons.now.lang.now cons.now.list.now cons.now.against
             (replicate (variable_count cons.now.lang.now) None)
             (slice_index_or self.new.depths 0 []) }
@@ -218,15 +213,14 @@ impl Work {
         requires lawful { IsLanguage cons.now.lang.now }
         requires constraints { AreConstraints cons.now.lang.now cons.now.list.now cons.now.against }
         requires index { IsIndexOf cons.now.lang.now index.now }
-        ensures plan { IsPlanOf cons.now.lang.now
-            (arcs_of cons.now.lang.now cons.now.list.now cons.now.against) self.new.plan }
+        ensures plan { IsPlanOf cons.now.lang.now (conditions cons.now) self.new.plan }
         ensures deep { variable_count cons.now.lang.now < length self.new.depths }
         ensures same { length self.new.entailed ≡ length self.new.depths }
         ensures wide { length self.new.rows ≡ 129 }
         ensures row { result ≡ true → depth_row self.new 0 ≡ 0 }
         ensures entailed { result ≡ true → (e : Entailed) →
-            AreEntailed (arcs_of cons.now.lang.now cons.now.list.now cons.now.against) self.new.plan
-            (slice_index_or self.new.entailed 0 e) (slice_index_or self.new.depths 0 []) }
+            AreEntailed (conditions cons.now) self.new.plan (slice_index_or self.new.entailed 0 e)
+            (slice_index_or self.new.depths 0 []) }
         ensures ready { result ≡ true → IsReady cons.now.lang.now cons.now.list.now cons.now.against
             (replicate (variable_count cons.now.lang.now) None)
             (slice_index_or self.new.depths 0 []) }

@@ -35,7 +35,7 @@ pub use Rattle.propagators.specs.Allowed.{AreConstraints}
 pub use Rattle.propagators.specs.Briefs.{AreBothOf, AreBriefs, IsApart, IsApartAt, IsApartOf, IsBriefOf, IsOnScope, IsPairOf, TellsApart, arc_by, at_place, blank, bound_at, by_pair}
 pub use Rattle.propagators.specs.Chains.{AreEnds, IsChain, IsRunning}
 pub use Rattle.propagators.specs.Entailed.{AreEntailed, AreFixedBut, HasOne, IsAlmostFixed, IsEntailed, is_noted_in, is_among_struck}
-pub use Rattle.propagators.specs.Families.{Arc, Family, IsLargest, IsSubfamily, arc_of, arcs_of, families_within, has_support, is_arc_consistent, is_consistent, is_not_empty, is_supported, is_wanted, largest, left_by, prune, prune_from, pruned, selections, sets_on, family_size, subsets}
+pub use Rattle.propagators.specs.Families.{Arc, Family, IsLargest, IsSubfamily, arc_of, arcs_of, conditions, families_within, has_support, is_arc_consistent, is_consistent, is_not_empty, is_supported, is_wanted, largest, left_by, prune, prune_from, pruned, selections, sets_on, family_size, subsets}
 pub use Rattle.propagators.specs.Indexes.{IsIndexOf, IsRoot, IsRootBefore, all_values, list_in}
 pub use Rattle.propagators.specs.Laws.{LargestAgain, LargestIs, LargestIsOne, LargestTells}
 pub use Rattle.propagators.specs.Loose.{HasMore, HasTwo, IsBounded}

@@ -7,6 +7,7 @@ use Rattle.std.specs.Option.{option_map_or}
 use Rattle.assign.specs.Sets.{numbers, has}
 use Rattle.assign.specs.Assignment.{Assignment, value_of}
 use Rattle.rel_table.specs.Relation.{holds}
+use Rattle.propagators.specs.declared.constraints.Constraints.{Constraints}
 use Rattle.language.specs.declared.candidates.Candidate.{Candidate}
 use Rattle.language.specs.Language.{Language, variable_count, values_of, scope_of, relation_of}
 
@@ -62,6 +63,10 @@ arc_of l c holding = record {
 abbrev pub arcs_of : Language → List Candidate → Option Candidate → List Arc
 arcs_of l list against =
     map (λ c. arc_of l c true) list ++ option_map_or (λ c. arc_of l c false ∷ []) against []
+
+-- those of a search
+abbrev pub conditions : Constraints → List Arc
+conditions cons = arcs_of cons.lang.now cons.list.now cons.against
 
 -- the sets of a scope's variables
 abbrev pub sets_on : Family → List ℕ → List (List ℕ)

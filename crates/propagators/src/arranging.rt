@@ -7,7 +7,7 @@ ghost use Rattle.std.specs.Prelude.{vec_capacity};
 ghost use Rattle.assign.specs.Sets.{has, ones_of};
 ghost use Rattle.language.specs.Language.{Language, IsLanguage};
 ghost use Rattle.propagators.specs.Allowed.{AreConstraints};
-ghost use Rattle.propagators.specs.Families.{Arc, arcs_of};
+ghost use Rattle.propagators.specs.Families.{Arc, arcs_of, conditions};
 ghost use Rattle.propagators.specs.Briefs.{AreBriefs, AreBothOf, IsApart};
 ghost use Rattle.propagators.specs.declared.plan.Plan.{Plan};
 ghost use Rattle.propagators.specs.Plans.{IsPlanOf, is_with, IsParted, AreApartSoFar, AreNoted};
@@ -58,12 +58,10 @@ fn note_rest(cons: &Constraints, briefs: &[Brief], sets: &mut [u64], words: usiz
     requires lawful { IsLanguage cons.now.lang.now }
     requires constraints { AreConstraints cons.now.lang.now cons.now.list.now cons.now.against }
     requires long { length sets.old ≡ 128 * words }
-    requires first { (k v : ℕ) (a : Arc) (b : Brief) → k < from →
-        has (slice_index_or (arcs_of cons.now.lang.now cons.now.list.now cons.now.against)
-        k a).scope v ≡ true → (is_with sets.old v k ≡ true)
+    requires first { (k v : ℕ) (a : Arc) (b : Brief) → k < from → has
+        (slice_index_or (conditions cons.now) k a).scope v ≡ true → (is_with sets.old v k ≡ true)
         ⊎ ((k < length briefs.now) × IsApart (slice_index_or briefs.now k b)) }
-    ensures { AreNoted
-        (arcs_of cons.now.lang.now cons.now.list.now cons.now.against) briefs.now words sets.new }
+    ensures { AreNoted (conditions cons.now) briefs.now words sets.new }
 {
     for i in from..cons.count().min(words * 64) {
         let (c, _holding) = cons.condition(i);
@@ -105,13 +103,11 @@ fn take_in(
     requires room { length briefs.old ≤ words * 64 }
     requires wide { length limits.old ≡ 128 }
     requires two { length aparts.old ≡ 128 * 2 }
-    requires some { from ≤ min (length briefs.old)
-        (length (arcs_of cons.now.lang.now cons.now.list.now cons.now.against)) }
-    requires front { AreTakenIn cons.now.lang.now (arcs_of cons.now.lang.now cons.now.list.now
-        cons.now.against) briefs.old sets.old limits.old aparts.old from }
-    ensures { AreTakenIn cons.now.lang.now (arcs_of cons.now.lang.now cons.now.list.now
-        cons.now.against) briefs.new sets.new limits.new aparts.new (min (length briefs.new)
-        (length (arcs_of cons.now.lang.now cons.now.list.now cons.now.against))) }
+    requires some { from ≤ min (length briefs.old) (length (conditions cons.now)) }
+    requires front { AreTakenIn cons.now.lang.now
+        (conditions cons.now) briefs.old sets.old limits.old aparts.old from }
+    ensures { AreTakenIn cons.now.lang.now (conditions cons.now) briefs.new sets.new limits.new
+        aparts.new (min (length briefs.new) (length (conditions cons.now))) }
 {
     let end = briefs.len().min(cons.count());
     for i in from..end {
@@ -144,17 +140,13 @@ fn arrange_all(
     requires room { length briefs.old ≤ words * 64 }
     requires wide { length limits.old ≡ 128 }
     requires two { length aparts.old ≡ 128 * 2 }
-    ensures briefs { AreBriefs cons.now.lang.now
-        (arcs_of cons.now.lang.now cons.now.list.now cons.now.against) briefs.new }
-    ensures limits { AreLimits
-        (arcs_of cons.now.lang.now cons.now.list.now cons.now.against) briefs.new limits.new }
-    ensures noted { AreNoted
-        (arcs_of cons.now.lang.now cons.now.list.now cons.now.against) briefs.new words sets.new }
+    ensures briefs { AreBriefs cons.now.lang.now (conditions cons.now) briefs.new }
+    ensures limits { AreLimits (conditions cons.now) briefs.new limits.new }
+    ensures noted { AreNoted (conditions cons.now) briefs.new words sets.new }
     ensures parted { (k : ℕ) (b : Brief) → k < length briefs.new →
-        k < length (arcs_of cons.now.lang.now cons.now.list.now cons.now.against) →
-        IsParted aparts.new (slice_index_or briefs.new k b) }
-    ensures apart { AreApartSoFar briefs.new aparts.new (min (length briefs.new)
-        (length (arcs_of cons.now.lang.now cons.now.list.now cons.now.against))) }
+        k < length (conditions cons.now) → IsParted aparts.new (slice_index_or briefs.new k b) }
+    ensures apart { AreApartSoFar briefs.new aparts.new
+        (min (length briefs.new) (length (conditions cons.now))) }
 {
     clear_sets(sets, words, 0, cons.count(), cons.lang.n());
     limits.fill(0);
@@ -235,8 +227,7 @@ impl Plan {
     pub fn arrange(&mut self, cons: &Constraints)
         requires lawful { IsLanguage cons.now.lang.now }
         requires constraints { AreConstraints cons.now.lang.now cons.now.list.now cons.now.against }
-        ensures plan { IsPlanOf cons.now.lang.now
-            (arcs_of cons.now.lang.now cons.now.list.now cons.now.against) self.new }
+        ensures plan { IsPlanOf cons.now.lang.now (conditions cons.now) self.new }
         ensures full { length self.new.briefs.items ≡ self.old.room }
         ensures room { self.new.room ≡ self.old.room }
     {
@@ -257,14 +248,10 @@ impl Plan {
     pub(crate) fn extend(&mut self, cons: &Constraints, from: usize)
         requires lawful { IsLanguage cons.now.lang.now }
         requires constraints { AreConstraints cons.now.lang.now cons.now.list.now cons.now.against }
-        requires front { IsPlanOf cons.now.lang.now
-            (take from (arcs_of cons.now.lang.now cons.now.list.now cons.now.against)) self.old }
-        requires some { from
-            ≤ length (arcs_of cons.now.lang.now cons.now.list.now cons.now.against) }
-        requires room { length (arcs_of cons.now.lang.now cons.now.list.now cons.now.against)
-            ≤ length self.old.briefs.items }
-        ensures plan { IsPlanOf cons.now.lang.now
-            (arcs_of cons.now.lang.now cons.now.list.now cons.now.against) self.new }
+        requires front { IsPlanOf cons.now.lang.now (take from (conditions cons.now)) self.old }
+        requires some { from ≤ length (conditions cons.now) }
+        requires room { length (conditions cons.now) ≤ length self.old.briefs.items }
+        ensures plan { IsPlanOf cons.now.lang.now (conditions cons.now) self.new }
         ensures room { length self.new.briefs.items ≡ length self.old.briefs.items }
     {
         clear_sets(
@@ -307,8 +294,7 @@ impl Plan {
         requires constraints { AreConstraints cons.now.lang.now cons.now.list.now cons.now.against }
         requires other { IsPlanOf cons.now.lang.now
             (arcs_of cons.now.lang.now cons.now.list.now None) other.now }
-        ensures { IsPlanOf cons.now.lang.now
-            (arcs_of cons.now.lang.now cons.now.list.now cons.now.against) self.new }
+        ensures { IsPlanOf cons.now.lang.now (conditions cons.now) self.new }
     {
         self.fill_room();
         let size = cons.list.len();

@@ -1,7 +1,7 @@
 ghost use Rattle.std.specs.Prelude.{◌≡◌, ◌<◌, length, slice_index_or};
 ghost use Rattle.language.specs.Language.{IsCandidate, IsQuestion};
 ghost use Rattle.propagators.specs.Allowed.{AreConstraints, satisfies_one};
-ghost use Rattle.propagators.specs.Families.{Arc, arc_of, arcs_of};
+ghost use Rattle.propagators.specs.Families.{Arc, arc_of, conditions};
 
 use assign::Partial;
 use language::{Candidate, Language};
@@ -38,7 +38,7 @@ impl<'a> Constraints<'a> {
     /// How many conditions there are: one for each candidate of the list, and then one for
     /// `against`.
     pub(crate) fn count(&self) -> usize
-        ensures { result ≡ length (arcs_of self.now.lang.now self.now.list.now self.now.against) }
+        ensures { result ≡ length (conditions self.now) }
     {
         match self.against {
             None => self.list.len(),
@@ -49,10 +49,10 @@ impl<'a> Constraints<'a> {
     /// The condition of this number: a candidate, and whether it is to hold.
     pub(crate) fn condition(&self, i: usize) -> (Candidate, bool)
         requires constraints { AreConstraints self.now.lang.now self.now.list.now self.now.against }
-        requires low { i < length (arcs_of self.now.lang.now self.now.list.now self.now.against) }
+        requires low { i < length (conditions self.now) }
         ensures candidate { IsCandidate self.now.lang.now result.0 }
-        ensures is { (a : Arc) → slice_index_or (arcs_of self.now.lang.now self.now.list.now
-            self.now.against) i a ≡ arc_of self.now.lang.now result.0 result.1 }
+        ensures is { (a : Arc) →
+            slice_index_or (conditions self.now) i a ≡ arc_of self.now.lang.now result.0 result.1 }
     {
         if i < self.list.len() {
             return (self.list[i], true);

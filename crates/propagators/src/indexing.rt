@@ -6,7 +6,7 @@ ghost use Rattle.language.specs.declared.candidates.Candidate.{Candidate};
 ghost use Rattle.language.specs.Language.{IsLanguage, IsCandidate};
 ghost use Rattle.language.specs.Answers.{IsNetwork};
 ghost use Rattle.propagators.specs.Allowed.{AreConstraints};
-ghost use Rattle.propagators.specs.Families.{arcs_of};
+ghost use Rattle.propagators.specs.Families.{conditions};
 ghost use Rattle.propagators.specs.Plans.{IsPlanOf};
 ghost use Rattle.propagators.specs.Propagated.{IsPropagated, RunsEmpty};
 ghost use Rattle.propagators.specs.Indexes.{all_values, list_in, IsRoot, IsRootBefore, IsIndexOf};
@@ -59,12 +59,10 @@ fn leave_more(
 ) -> bool
     requires lawful { IsLanguage cons.now.lang.now }
     requires constraints { AreConstraints cons.now.lang.now cons.now.list.now cons.now.against }
-    requires plan { IsPlanOf cons.now.lang.now
-        (arcs_of cons.now.lang.now cons.now.list.now cons.now.against) plan.now }
+    requires plan { IsPlanOf cons.now.lang.now (conditions cons.now) plan.now }
     requires before { IsRootBefore cons.now.lang.now
-        (arcs_of cons.now.lang.now cons.now.list.now cons.now.against) changed root.old was_alive }
-    ensures { IsRoot cons.now.lang.now
-        (arcs_of cons.now.lang.now cons.now.list.now cons.now.against) root.new result }
+        (conditions cons.now) changed root.old was_alive }
+    ensures { IsRoot cons.now.lang.now (conditions cons.now) root.new result }
 {
     if !was_alive {
         return false;
@@ -177,12 +175,11 @@ impl Index {
         requires lawful { IsLanguage cons.now.lang.now }
         requires constraints { AreConstraints cons.now.lang.now cons.now.list.now cons.now.against }
         requires index { IsIndexOf cons.now.lang.now self.now }
-        ensures plan { IsPlanOf cons.now.lang.now
-            (arcs_of cons.now.lang.now cons.now.list.now cons.now.against) plan.new }
-        ensures left { IfSome result (IsPropagated cons.now.lang.now (arcs_of cons.now.lang.now
-            cons.now.list.now cons.now.against) (all_values cons.now.lang.now)) }
-        ensures nothing { result ≡ None → RunsEmpty (arcs_of cons.now.lang.now cons.now.list.now
-            cons.now.against) (all_values cons.now.lang.now) }
+        ensures plan { IsPlanOf cons.now.lang.now (conditions cons.now) plan.new }
+        ensures left { IfSome result
+            (IsPropagated cons.now.lang.now (conditions cons.now) (all_values cons.now.lang.now)) }
+        ensures nothing { result ≡ None →
+            RunsEmpty (conditions cons.now) (all_values cons.now.lang.now) }
     {
         if self.is_of(cons.list) {
             plan.arrange_beside(cons, &self.plan);
@@ -203,11 +200,9 @@ impl Index {
         requires constraints { AreConstraints cons.now.lang.now cons.now.list.now cons.now.against }
         requires index { IsIndexOf cons.now.lang.now self.now }
         requires list { list_in self.now ≡ cons.now.list.now }
-        requires plan { IsPlanOf cons.now.lang.now
-            (arcs_of cons.now.lang.now cons.now.list.now cons.now.against) plan.now }
+        requires plan { IsPlanOf cons.now.lang.now (conditions cons.now) plan.now }
         requires root { root.old ≡ self.now.root }
-        ensures { IsRoot cons.now.lang.now
-            (arcs_of cons.now.lang.now cons.now.list.now cons.now.against) root.new result }
+        ensures { IsRoot cons.now.lang.now (conditions cons.now) root.new result }
     {
         match cons.against {
             None => self.is_alive,
@@ -225,12 +220,11 @@ impl Index {
         requires constraints { AreConstraints cons.now.lang.now cons.now.list.now cons.now.against }
         requires index { IsIndexOf cons.now.lang.now self.now }
         requires list { list_in self.now ≡ cons.now.list.now }
-        requires plan { IsPlanOf cons.now.lang.now
-            (arcs_of cons.now.lang.now cons.now.list.now cons.now.against) plan.now }
-        ensures left { IfSome result (IsPropagated cons.now.lang.now (arcs_of cons.now.lang.now
-            cons.now.list.now cons.now.against) (all_values cons.now.lang.now)) }
-        ensures nothing { result ≡ None → RunsEmpty (arcs_of cons.now.lang.now cons.now.list.now
-            cons.now.against) (all_values cons.now.lang.now) }
+        requires plan { IsPlanOf cons.now.lang.now (conditions cons.now) plan.now }
+        ensures left { IfSome result
+            (IsPropagated cons.now.lang.now (conditions cons.now) (all_values cons.now.lang.now)) }
+        ensures nothing { result ≡ None →
+            RunsEmpty (conditions cons.now) (all_values cons.now.lang.now) }
     {
         let mut root = self.root;
         if self.narrow(cons, plan, &mut root) {

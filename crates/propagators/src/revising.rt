@@ -4,7 +4,7 @@ ghost use Rattle.std.specs.List.{list_any};
 ghost use Rattle.assign.specs.Sets.{has, ones_of};
 ghost use Rattle.language.specs.Language.{IsLanguage, IsCandidate};
 ghost use Rattle.propagators.specs.Allowed.{AreConstraints};
-ghost use Rattle.propagators.specs.Families.{Arc, arc_of, arcs_of};
+ghost use Rattle.propagators.specs.Families.{Arc, arc_of, conditions};
 ghost use Rattle.propagators.specs.Supports.{AreBelow, AreDifferent, IsFamilyOf, IsRevised, IsDead};
 ghost use Rattle.propagators.specs.Supports.{IsCutAt, replaced};
 ghost use Rattle.propagators.specs.Loose.{IsBounded};
@@ -123,12 +123,9 @@ pub(crate) fn revise_pair(lang: &Language, pair: Pair, doms: &mut Domains) -> Op
 fn pass(cons: &Constraints, doms: &mut Domains, changed: Waiting) -> Option<Waiting>
     requires lawful { IsLanguage cons.now.lang.now }
     requires constraints { AreConstraints cons.now.lang.now cons.now.list.now cons.now.against }
-    requires doms { IsSettledBut cons.now.lang.now
-        (arcs_of cons.now.lang.now cons.now.list.now cons.now.against) changed doms.old }
-    ensures passed { IfSome result (λ next. IsPassed
-        (arcs_of cons.now.lang.now cons.now.list.now cons.now.against) next doms.old doms.new) }
-    ensures dead { result ≡ None →
-        RunsEmpty (arcs_of cons.now.lang.now cons.now.list.now cons.now.against) doms.old }
+    requires doms { IsSettledBut cons.now.lang.now (conditions cons.now) changed doms.old }
+    ensures passed { IfSome result (λ next. IsPassed (conditions cons.now) next doms.old doms.new) }
+    ensures dead { result ≡ None → RunsEmpty (conditions cons.now) doms.old }
 {
     let mut next = Waiting::empty();
     for i in 0..cons.count() {
@@ -148,12 +145,10 @@ fn pass(cons: &Constraints, doms: &mut Domains, changed: Waiting) -> Option<Wait
 pub(crate) fn settle(cons: &Constraints, doms: &mut Domains, changed: Waiting) -> Alive
     requires lawful { IsLanguage cons.now.lang.now }
     requires constraints { AreConstraints cons.now.lang.now cons.now.list.now cons.now.against }
-    requires doms { IsSettledBut cons.now.lang.now
-        (arcs_of cons.now.lang.now cons.now.list.now cons.now.against) changed doms.old }
-    ensures alive { result ≡ Alive.Yes → IsPropagated cons.now.lang.now
-        (arcs_of cons.now.lang.now cons.now.list.now cons.now.against) doms.old doms.new }
-    ensures dead { result ≡ Alive.No →
-        RunsEmpty (arcs_of cons.now.lang.now cons.now.list.now cons.now.against) doms.old }
+    requires doms { IsSettledBut cons.now.lang.now (conditions cons.now) changed doms.old }
+    ensures alive { result ≡ Alive.Yes →
+        IsPropagated cons.now.lang.now (conditions cons.now) doms.old doms.new }
+    ensures dead { result ≡ Alive.No → RunsEmpty (conditions cons.now) doms.old }
 {
     let mut changed = changed;
     while !changed.is_empty() {
@@ -173,10 +168,9 @@ pub(crate) fn settle(cons: &Constraints, doms: &mut Domains, changed: Waiting) -
 pub fn propagate(cons: &Constraints, doms: &mut Domains) -> Alive
     requires constraints { AreConstraints cons.now.lang.now cons.now.list.now cons.now.against }
     requires family { IsFamilyOf cons.now.lang.now doms.old }
-    ensures alive { result ≡ Alive.Yes → IsPropagated cons.now.lang.now
-        (arcs_of cons.now.lang.now cons.now.list.now cons.now.against) doms.old doms.new }
-    ensures dead { result ≡ Alive.No →
-        RunsEmpty (arcs_of cons.now.lang.now cons.now.list.now cons.now.against) doms.old }
+    ensures alive { result ≡ Alive.Yes →
+        IsPropagated cons.now.lang.now (conditions cons.now) doms.old doms.new }
+    ensures dead { result ≡ Alive.No → RunsEmpty (conditions cons.now) doms.old }
 {
     if doms.has_empty() {
         return Alive::No;

@@ -8,7 +8,7 @@ ghost use Rattle.std.specs.List.{list_all};
 ghost use Rattle.assign.specs.Sets.{has, without, IsSet};
 ghost use Rattle.language.specs.Language.{IsLanguage, variable_count, scope_of};
 ghost use Rattle.propagators.specs.Allowed.{AreConstraints};
-ghost use Rattle.propagators.specs.Families.{Family, Arc, arcs_of, is_not_empty, is_wanted};
+ghost use Rattle.propagators.specs.Families.{Family, Arc, conditions, is_not_empty, is_wanted};
 ghost use Rattle.propagators.specs.Supports.{AreBelow, IsFamilyOf, firsts_on};
 ghost use Rattle.propagators.specs.Loose.{HasTwo, HasMore};
 ghost use Rattle.propagators.specs.Pairs.{IsOnly, IsValueOf, IsBeside};
@@ -117,13 +117,11 @@ fn look_along(
     requires first { opening.first ≡ place cons.now.lang.now.value_count
         (slice_set (firsts_on doms.old (scope_of cons.now.lang.now c)) opening.place 0) }
     requires doms { AreSome cons.now.lang.now doms.old }
-    ensures looked { result ≡ Alive.Yes → IsLooked (arcs_of cons.now.lang.now cons.now.list.now
-        cons.now.against) i waiting.old waiting.new doms.old doms.new }
-    ensures entailed { result ≡ Alive.Yes → (p : Plan) → AreEntailed (arcs_of cons.now.lang.now
-        cons.now.list.now cons.now.against) p entailed.old doms.old → AreEntailed
-        (arcs_of cons.now.lang.now cons.now.list.now cons.now.against) p entailed.new doms.new }
-    ensures dead { result ≡ Alive.No →
-        RunsEmpty (arcs_of cons.now.lang.now cons.now.list.now cons.now.against) doms.old }
+    ensures looked { result ≡ Alive.Yes →
+        IsLooked (conditions cons.now) i waiting.old waiting.new doms.old doms.new }
+    ensures entailed { result ≡ Alive.Yes → (p : Plan) → AreEntailed (conditions cons.now) p
+        entailed.old doms.old → AreEntailed (conditions cons.now) p entailed.new doms.new }
+    ensures dead { result ≡ Alive.No → RunsEmpty (conditions cons.now) doms.old }
 {
     let table = cons.lang.table_on(c.scope, c.rel);
     let values = going_along(table, holding, doms, scope, opening);
@@ -153,13 +151,11 @@ fn look_at_several(
     requires condition { IsCondition cons.now.lang.now cons.now.list.now cons.now.against i c
         holding }
     requires doms { AreSome cons.now.lang.now doms.old }
-    ensures looked { result ≡ Alive.Yes → IsLooked (arcs_of cons.now.lang.now cons.now.list.now
-        cons.now.against) i waiting.old waiting.new doms.old doms.new }
-    ensures entailed { result ≡ Alive.Yes → (p : Plan) → AreEntailed (arcs_of cons.now.lang.now
-        cons.now.list.now cons.now.against) p entailed.old doms.old → AreEntailed
-        (arcs_of cons.now.lang.now cons.now.list.now cons.now.against) p entailed.new doms.new }
-    ensures dead { result ≡ Alive.No →
-        RunsEmpty (arcs_of cons.now.lang.now cons.now.list.now cons.now.against) doms.old }
+    ensures looked { result ≡ Alive.Yes →
+        IsLooked (conditions cons.now) i waiting.old waiting.new doms.old doms.new }
+    ensures entailed { result ≡ Alive.Yes → (p : Plan) → AreEntailed (conditions cons.now) p
+        entailed.old doms.old → AreEntailed (conditions cons.now) p entailed.new doms.new }
+    ensures dead { result ≡ Alive.No → RunsEmpty (conditions cons.now) doms.old }
 {
     match revise(cons.lang, c, holding, doms) {
         None => Alive::No,
@@ -191,13 +187,11 @@ fn look_at_other(
     requires scope { take other.now.size other.now.scope
         ≡ scope_of cons.now.lang.now other.now.candidate }
     requires doms { AreSome cons.now.lang.now doms.old }
-    ensures looked { result ≡ Alive.Yes → IsLeftOrLooked (arcs_of cons.now.lang.now
-        cons.now.list.now cons.now.against) i waiting.old waiting.new doms.old doms.new }
-    ensures entailed { result ≡ Alive.Yes → (p : Plan) → AreEntailed (arcs_of cons.now.lang.now
-        cons.now.list.now cons.now.against) p entailed.old doms.old → AreEntailed
-        (arcs_of cons.now.lang.now cons.now.list.now cons.now.against) p entailed.new doms.new }
-    ensures dead { result ≡ Alive.No →
-        RunsEmpty (arcs_of cons.now.lang.now cons.now.list.now cons.now.against) doms.old }
+    ensures looked { result ≡ Alive.Yes →
+        IsLeftOrLooked (conditions cons.now) i waiting.old waiting.new doms.old doms.new }
+    ensures entailed { result ≡ Alive.Yes → (p : Plan) → AreEntailed (conditions cons.now) p
+        entailed.old doms.old → AreEntailed (conditions cons.now) p entailed.new doms.new }
+    ensures dead { result ≡ Alive.No → RunsEmpty (conditions cons.now) doms.old }
 {
     // A copy: the loops over the scope then read one place, whichever condition it is.
     let places = other.scope;
@@ -241,14 +235,13 @@ fn look_at_both(
 ) -> Alive
     requires lawful { IsLanguage cons.now.lang.now }
     requires constraints { AreConstraints cons.now.lang.now cons.now.list.now cons.now.against }
-    requires pair { (a : Arc) → IsPairOf cons.now.lang.now
-        (slice_index_or (arcs_of cons.now.lang.now cons.now.list.now cons.now.against) i a) pair }
-    requires low { i < length (arcs_of cons.now.lang.now cons.now.list.now cons.now.against) }
+    requires pair { (a : Arc) →
+        IsPairOf cons.now.lang.now (slice_index_or (conditions cons.now) i a) pair }
+    requires low { i < length (conditions cons.now) }
     requires doms { AreSome cons.now.lang.now doms.old }
-    ensures looked { result ≡ Alive.Yes → IsLooked (arcs_of cons.now.lang.now cons.now.list.now
-        cons.now.against) i waiting.old waiting.new doms.old doms.new }
-    ensures dead { result ≡ Alive.No →
-        RunsEmpty (arcs_of cons.now.lang.now cons.now.list.now cons.now.against) doms.old }
+    ensures looked { result ≡ Alive.Yes →
+        IsLooked (conditions cons.now) i waiting.old waiting.new doms.old doms.new }
+    ensures dead { result ≡ Alive.No → RunsEmpty (conditions cons.now) doms.old }
 {
     match revise_pair(cons.lang, pair, doms) {
         None => Alive::No,
@@ -278,19 +271,16 @@ fn look_at_pair(
     requires lawful { IsLanguage cons.now.lang.now }
     requires constraints { AreConstraints cons.now.lang.now cons.now.list.now cons.now.against }
     requires value { IfSome value (IsValueOf doms.old v) }
-    requires plan { IsWholePlanOf cons.now.lang.now
-        (arcs_of cons.now.lang.now cons.now.list.now cons.now.against) plan.now }
-    requires pair { (a : Arc) → IsPairOf cons.now.lang.now (slice_index_or
-        (arcs_of cons.now.lang.now cons.now.list.now cons.now.against) i a) pair.now }
-    requires low { i < length (arcs_of cons.now.lang.now cons.now.list.now cons.now.against) }
+    requires plan { IsWholePlanOf cons.now.lang.now (conditions cons.now) plan.now }
+    requires pair { (a : Arc) →
+        IsPairOf cons.now.lang.now (slice_index_or (conditions cons.now) i a) pair.now }
+    requires low { i < length (conditions cons.now) }
     requires doms { AreSome cons.now.lang.now doms.old }
-    ensures looked { result ≡ Alive.Yes → IsLooked (arcs_of cons.now.lang.now cons.now.list.now
-        cons.now.against) i waiting.old waiting.new doms.old doms.new }
-    ensures entailed { result ≡ Alive.Yes → AreEntailed (arcs_of cons.now.lang.now cons.now.list.now
-        cons.now.against) plan.now entailed.old doms.old → AreEntailed (arcs_of cons.now.lang.now
-        cons.now.list.now cons.now.against) plan.now entailed.new doms.new }
-    ensures dead { result ≡ Alive.No →
-        RunsEmpty (arcs_of cons.now.lang.now cons.now.list.now cons.now.against) doms.old }
+    ensures looked { result ≡ Alive.Yes →
+        IsLooked (conditions cons.now) i waiting.old waiting.new doms.old doms.new }
+    ensures entailed { result ≡ Alive.Yes → AreEntailed (conditions cons.now) plan.now entailed.old
+        doms.old → AreEntailed (conditions cons.now) plan.now entailed.new doms.new }
+    ensures dead { result ≡ Alive.No → RunsEmpty (conditions cons.now) doms.old }
 {
     // More values of each are left than one of the other rejects.
     if value.is_none()
@@ -340,17 +330,14 @@ fn look_at(
     requires lawful { IsLanguage cons.now.lang.now }
     requires constraints { AreConstraints cons.now.lang.now cons.now.list.now cons.now.against }
     requires value { IfSome value (IsValueOf doms.old v) }
-    requires plan { IsWholePlanOf cons.now.lang.now
-        (arcs_of cons.now.lang.now cons.now.list.now cons.now.against) plan.now }
-    requires count { count ≡ length (arcs_of cons.now.lang.now cons.now.list.now cons.now.against) }
+    requires plan { IsWholePlanOf cons.now.lang.now (conditions cons.now) plan.now }
+    requires count { count ≡ length (conditions cons.now) }
     requires doms { AreSome cons.now.lang.now doms.old }
-    ensures looked { result ≡ Alive.Yes → IsLeftOrLooked (arcs_of cons.now.lang.now
-        cons.now.list.now cons.now.against) i waiting.old waiting.new doms.old doms.new }
-    ensures entailed { result ≡ Alive.Yes → AreEntailed (arcs_of cons.now.lang.now cons.now.list.now
-        cons.now.against) plan.now entailed.old doms.old → AreEntailed (arcs_of cons.now.lang.now
-        cons.now.list.now cons.now.against) plan.now entailed.new doms.new }
-    ensures dead { result ≡ Alive.No →
-        RunsEmpty (arcs_of cons.now.lang.now cons.now.list.now cons.now.against) doms.old }
+    ensures looked { result ≡ Alive.Yes →
+        IsLeftOrLooked (conditions cons.now) i waiting.old waiting.new doms.old doms.new }
+    ensures entailed { result ≡ Alive.Yes → AreEntailed (conditions cons.now) plan.now entailed.old
+        doms.old → AreEntailed (conditions cons.now) plan.now entailed.new doms.new }
+    ensures dead { result ≡ Alive.No → RunsEmpty (conditions cons.now) doms.old }
 {
     if i >= count {
         return Alive::Yes;
@@ -384,22 +371,19 @@ fn strike(
 ) -> Alive
     requires lawful { IsLanguage cons.now.lang.now }
     requires constraints { AreConstraints cons.now.lang.now cons.now.list.now cons.now.against }
-    requires plan { IsWholePlanOf cons.now.lang.now
-        (arcs_of cons.now.lang.now cons.now.list.now cons.now.against) plan.now }
+    requires plan { IsWholePlanOf cons.now.lang.now (conditions cons.now) plan.now }
     requires doms { AreSome cons.now.lang.now doms.old }
     requires value { IsValueOf doms.old v x }
     requires apart { is_with plan.now.aparts.items v u ≡ true }
-    ensures looked { result ≡ Alive.Yes → (k : ℕ) → k < length plan.now.briefs.items →
-        k < length (arcs_of cons.now.lang.now cons.now.list.now cons.now.against) →
+    ensures looked { result ≡ Alive.Yes → (k : ℕ) →
+        k < length plan.now.briefs.items → k < length (conditions cons.now) →
         ((b : Brief) → IsApartAt (slice_index_or plan.now.briefs.items k b) v u) →
-        IsLooked (arcs_of cons.now.lang.now cons.now.list.now cons.now.against) k waiting.old
-        waiting.new doms.old doms.new }
-    ensures entailed { result ≡ Alive.Yes → (k : ℕ) (a : Arc) → k < length plan.now.briefs.items →
-        k < length (arcs_of cons.now.lang.now cons.now.list.now cons.now.against) → ((b : Brief) →
-        IsApartAt (slice_index_or plan.now.briefs.items k b) v u) → IsEntailed (slice_index_or
-        (arcs_of cons.now.lang.now cons.now.list.now cons.now.against) k a) doms.new }
-    ensures dead { result ≡ Alive.No →
-        RunsEmpty (arcs_of cons.now.lang.now cons.now.list.now cons.now.against) doms.old }
+        IsLooked (conditions cons.now) k waiting.old waiting.new doms.old doms.new }
+    ensures entailed { result ≡ Alive.Yes → (k : ℕ) (a : Arc) →
+        k < length plan.now.briefs.items → k < length (conditions cons.now) →
+        ((b : Brief) → IsApartAt (slice_index_or plan.now.briefs.items k b) v u) →
+        IsEntailed (slice_index_or (conditions cons.now) k a) doms.new }
+    ensures dead { result ≡ Alive.No → RunsEmpty (conditions cons.now) doms.old }
 {
     let values = doms.others(u, x);
     if is_empty(values) {
@@ -432,18 +416,15 @@ fn look_at_two(
 ) -> Alive
     requires lawful { IsLanguage cons.now.lang.now }
     requires constraints { AreConstraints cons.now.lang.now cons.now.list.now cons.now.against }
-    requires plan { IsWholePlanOf cons.now.lang.now
-        (arcs_of cons.now.lang.now cons.now.list.now cons.now.against) plan.now }
+    requires plan { IsWholePlanOf cons.now.lang.now (conditions cons.now) plan.now }
     requires doms { AreSome cons.now.lang.now doms.old }
     requires known { v < 128 }
     requires apart { is_with plan.now.aparts.items v u ≡ true }
-    ensures looked { result ≡ Alive.Yes → (k : ℕ) → k < length plan.now.briefs.items →
-        k < length (arcs_of cons.now.lang.now cons.now.list.now cons.now.against) →
+    ensures looked { result ≡ Alive.Yes → (k : ℕ) →
+        k < length plan.now.briefs.items → k < length (conditions cons.now) →
         ((b : Brief) → IsApartAt (slice_index_or plan.now.briefs.items k b) v u) →
-        IsLooked (arcs_of cons.now.lang.now cons.now.list.now cons.now.against) k waiting.old
-        waiting.new doms.old doms.new }
-    ensures dead { result ≡ Alive.No →
-        RunsEmpty (arcs_of cons.now.lang.now cons.now.list.now cons.now.against) doms.old }
+        IsLooked (conditions cons.now) k waiting.old waiting.new doms.old doms.new }
+    ensures dead { result ≡ Alive.No → RunsEmpty (conditions cons.now) doms.old }
 {
     if let Some(x) = doms.only(v) {
         return strike(cons, plan, v, x, u, doms, waiting);
@@ -468,23 +449,18 @@ fn strike_all(
 ) -> Alive
     requires lawful { IsLanguage cons.now.lang.now }
     requires constraints { AreConstraints cons.now.lang.now cons.now.list.now cons.now.against }
-    requires plan { IsWholePlanOf cons.now.lang.now
-        (arcs_of cons.now.lang.now cons.now.list.now cons.now.against) plan.now }
+    requires plan { IsWholePlanOf cons.now.lang.now (conditions cons.now) plan.now }
     requires doms { AreSome cons.now.lang.now doms.old }
     requires value { IsValueOf doms.old v x }
     requires known { v < 128 }
-    requires entailed { AreEntailed (arcs_of cons.now.lang.now cons.now.list.now cons.now.against)
-        plan.now entailed.now doms.old }
-    ensures looked { result ≡ Alive.Yes → AreLooked (arcs_of cons.now.lang.now cons.now.list.now
-        cons.now.against) plan.now v waiting.old waiting.new doms.old doms.new }
-    ensures entailed { result ≡ Alive.Yes → (k : ℕ) (a : Arc) →
-        k < length (arcs_of cons.now.lang.now cons.now.list.now cons.now.against) →
-        has (slice_index_or (arcs_of cons.now.lang.now cons.now.list.now cons.now.against) k
-        a).scope v ≡ true → ((c : Brief) → IsApart (slice_index_or plan.now.briefs.items k c)) →
-        IsEntailed (slice_index_or (arcs_of cons.now.lang.now cons.now.list.now cons.now.against) k
-        a) doms.new }
-    ensures dead { result ≡ Alive.No →
-        RunsEmpty (arcs_of cons.now.lang.now cons.now.list.now cons.now.against) doms.old }
+    requires entailed { AreEntailed (conditions cons.now) plan.now entailed.now doms.old }
+    ensures looked { result ≡ Alive.Yes →
+        AreLooked (conditions cons.now) plan.now v waiting.old waiting.new doms.old doms.new }
+    ensures entailed { result ≡ Alive.Yes → (k : ℕ) (a : Arc) → k < length (conditions cons.now) →
+        has (slice_index_or (conditions cons.now) k a).scope v ≡ true →
+        ((c : Brief) → IsApart (slice_index_or plan.now.briefs.items k c)) →
+        IsEntailed (slice_index_or (conditions cons.now) k a) doms.new }
+    ensures dead { result ≡ Alive.No → RunsEmpty (conditions cons.now) doms.old }
 {
     for h in 0..2 {
         let beside = plan.aparts[h * 128 + usize::from(v)];
@@ -514,16 +490,13 @@ fn look_at_neighbours(
 ) -> Alive
     requires lawful { IsLanguage cons.now.lang.now }
     requires constraints { AreConstraints cons.now.lang.now cons.now.list.now cons.now.against }
-    requires plan { IsWholePlanOf cons.now.lang.now
-        (arcs_of cons.now.lang.now cons.now.list.now cons.now.against) plan.now }
+    requires plan { IsWholePlanOf cons.now.lang.now (conditions cons.now) plan.now }
     requires doms { AreSome cons.now.lang.now doms.old }
     requires known { v < 128 }
-    requires entailed { AreEntailed (arcs_of cons.now.lang.now cons.now.list.now cons.now.against)
-        plan.now entailed.now doms.old }
-    ensures looked { result ≡ Alive.Yes → AreLooked (arcs_of cons.now.lang.now cons.now.list.now
-        cons.now.against) plan.now v waiting.old waiting.new doms.old doms.new }
-    ensures dead { result ≡ Alive.No →
-        RunsEmpty (arcs_of cons.now.lang.now cons.now.list.now cons.now.against) doms.old }
+    requires entailed { AreEntailed (conditions cons.now) plan.now entailed.now doms.old }
+    ensures looked { result ≡ Alive.Yes →
+        AreLooked (conditions cons.now) plan.now v waiting.old waiting.new doms.old doms.new }
+    ensures dead { result ≡ Alive.No → RunsEmpty (conditions cons.now) doms.old }
 {
     for h in 0..2 {
         let beside = plan.aparts[h * 128 + usize::from(v)];
@@ -553,23 +526,18 @@ fn look_apart(
 ) -> Alive
     requires lawful { IsLanguage cons.now.lang.now }
     requires constraints { AreConstraints cons.now.lang.now cons.now.list.now cons.now.against }
-    requires plan { IsWholePlanOf cons.now.lang.now
-        (arcs_of cons.now.lang.now cons.now.list.now cons.now.against) plan.now }
+    requires plan { IsWholePlanOf cons.now.lang.now (conditions cons.now) plan.now }
     requires doms { AreSome cons.now.lang.now doms.old }
     requires value { IfSome value (IsValueOf doms.old v) }
     requires known { v < 128 }
-    requires entailed { AreEntailed (arcs_of cons.now.lang.now cons.now.list.now cons.now.against)
-        plan.now entailed.now doms.old }
-    ensures looked { result ≡ Alive.Yes → AreLooked (arcs_of cons.now.lang.now cons.now.list.now
-        cons.now.against) plan.now v waiting.old waiting.new doms.old doms.new }
+    requires entailed { AreEntailed (conditions cons.now) plan.now entailed.now doms.old }
+    ensures looked { result ≡ Alive.Yes →
+        AreLooked (conditions cons.now) plan.now v waiting.old waiting.new doms.old doms.new }
     ensures entailed { result ≡ Alive.Yes → IfSome value (λ x. (k : ℕ) (a : Arc) →
-        k < length (arcs_of cons.now.lang.now cons.now.list.now cons.now.against) →
-        has (slice_index_or (arcs_of cons.now.lang.now cons.now.list.now cons.now.against) k
-        a).scope v ≡ true → ((c : Brief) → IsApart (slice_index_or plan.now.briefs.items k c)) →
-        IsEntailed (slice_index_or (arcs_of cons.now.lang.now cons.now.list.now cons.now.against) k
-        a) doms.new) }
-    ensures dead { result ≡ Alive.No →
-        RunsEmpty (arcs_of cons.now.lang.now cons.now.list.now cons.now.against) doms.old }
+        k < length (conditions cons.now) → has (slice_index_or (conditions cons.now) k a).scope v
+        ≡ true → ((c : Brief) → IsApart (slice_index_or plan.now.briefs.items k c)) →
+        IsEntailed (slice_index_or (conditions cons.now) k a) doms.new) }
+    ensures dead { result ≡ Alive.No → RunsEmpty (conditions cons.now) doms.old }
 {
     match value {
         Some(x) => strike_all(cons, plan, doms, entailed, v, x, waiting),
@@ -604,21 +572,17 @@ fn visit(
 ) -> Option<Waiting>
     requires lawful { IsLanguage cons.now.lang.now }
     requires constraints { AreConstraints cons.now.lang.now cons.now.list.now cons.now.against }
-    requires plan { IsWholePlanOf cons.now.lang.now
-        (arcs_of cons.now.lang.now cons.now.list.now cons.now.against) plan.now }
-    requires doms { IsSettledBut cons.now.lang.now
-        (arcs_of cons.now.lang.now cons.now.list.now cons.now.against) changed doms.old }
-    requires entailed { AreEntailed (arcs_of cons.now.lang.now cons.now.list.now cons.now.against)
-        plan.now entailed.old doms.old }
-    requires count { count ≡ length (arcs_of cons.now.lang.now cons.now.list.now cons.now.against) }
+    requires plan { IsWholePlanOf cons.now.lang.now (conditions cons.now) plan.now }
+    requires doms { IsSettledBut cons.now.lang.now (conditions cons.now) changed doms.old }
+    requires entailed { AreEntailed (conditions cons.now) plan.now entailed.old doms.old }
+    requires count { count ≡ length (conditions cons.now) }
     requires known { v < 128 }
     requires there { has changed v ≡ true }
-    ensures visited { IfSome result (λ next. IsVisited (arcs_of cons.now.lang.now cons.now.list.now
-        cons.now.against) (without changed v) next doms.old doms.new) }
-    ensures entailed { IfSome result (λ next. AreEntailed (arcs_of cons.now.lang.now
-        cons.now.list.now cons.now.against) plan.now entailed.new doms.new) }
-    ensures dead { result ≡ None →
-        RunsEmpty (arcs_of cons.now.lang.now cons.now.list.now cons.now.against) doms.old }
+    ensures visited { IfSome result
+        (λ next. IsVisited (conditions cons.now) (without changed v) next doms.old doms.new) }
+    ensures entailed { IfSome result
+        (λ next. AreEntailed (conditions cons.now) plan.now entailed.new doms.new) }
+    ensures dead { result ≡ None → RunsEmpty (conditions cons.now) doms.old }
 {
     let mut waiting = changed.without(v);
     let value = value_of(cons.lang, doms, v);
@@ -690,18 +654,14 @@ fn visit_all(
 ) -> Alive
     requires lawful { IsLanguage cons.now.lang.now }
     requires constraints { AreConstraints cons.now.lang.now cons.now.list.now cons.now.against }
-    requires plan { IsWholePlanOf cons.now.lang.now
-        (arcs_of cons.now.lang.now cons.now.list.now cons.now.against) plan.now }
-    requires doms { IsSettledBut cons.now.lang.now
-        (arcs_of cons.now.lang.now cons.now.list.now cons.now.against) changed doms.old }
-    requires entailed { AreEntailed (arcs_of cons.now.lang.now cons.now.list.now cons.now.against)
-        plan.now entailed.old doms.old }
-    ensures alive { result ≡ Alive.Yes → IsPropagated cons.now.lang.now
-        (arcs_of cons.now.lang.now cons.now.list.now cons.now.against) doms.old doms.new }
-    ensures entailed { result ≡ Alive.Yes → AreEntailed (arcs_of cons.now.lang.now cons.now.list.now
-        cons.now.against) plan.now entailed.new doms.new }
-    ensures dead { result ≡ Alive.No →
-        RunsEmpty (arcs_of cons.now.lang.now cons.now.list.now cons.now.against) doms.old }
+    requires plan { IsWholePlanOf cons.now.lang.now (conditions cons.now) plan.now }
+    requires doms { IsSettledBut cons.now.lang.now (conditions cons.now) changed doms.old }
+    requires entailed { AreEntailed (conditions cons.now) plan.now entailed.old doms.old }
+    ensures alive { result ≡ Alive.Yes →
+        IsPropagated cons.now.lang.now (conditions cons.now) doms.old doms.new }
+    ensures entailed { result ≡ Alive.Yes →
+        AreEntailed (conditions cons.now) plan.now entailed.new doms.new }
+    ensures dead { result ≡ Alive.No → RunsEmpty (conditions cons.now) doms.old }
 {
     let count = cons.count();
     let from_greatest = begins_long(plan);
@@ -726,18 +686,14 @@ pub fn propagate_beside(
 ) -> Alive
     requires lawful { IsLanguage cons.now.lang.now }
     requires constraints { AreConstraints cons.now.lang.now cons.now.list.now cons.now.against }
-    requires plan { IsPlanOf cons.now.lang.now
-        (arcs_of cons.now.lang.now cons.now.list.now cons.now.against) plan.now }
-    requires doms { IsSettledBut cons.now.lang.now
-        (arcs_of cons.now.lang.now cons.now.list.now cons.now.against) changed doms.old }
-    requires entailed { AreEntailed (arcs_of cons.now.lang.now cons.now.list.now cons.now.against)
-        plan.now entailed.old doms.old }
-    ensures alive { result ≡ Alive.Yes → IsPropagated cons.now.lang.now
-        (arcs_of cons.now.lang.now cons.now.list.now cons.now.against) doms.old doms.new }
-    ensures entailed { result ≡ Alive.Yes → AreEntailed (arcs_of cons.now.lang.now cons.now.list.now
-        cons.now.against) plan.now entailed.new doms.new }
-    ensures dead { result ≡ Alive.No →
-        RunsEmpty (arcs_of cons.now.lang.now cons.now.list.now cons.now.against) doms.old }
+    requires plan { IsPlanOf cons.now.lang.now (conditions cons.now) plan.now }
+    requires doms { IsSettledBut cons.now.lang.now (conditions cons.now) changed doms.old }
+    requires entailed { AreEntailed (conditions cons.now) plan.now entailed.old doms.old }
+    ensures alive { result ≡ Alive.Yes →
+        IsPropagated cons.now.lang.now (conditions cons.now) doms.old doms.new }
+    ensures entailed { result ≡ Alive.Yes →
+        AreEntailed (conditions cons.now) plan.now entailed.new doms.new }
+    ensures dead { result ≡ Alive.No → RunsEmpty (conditions cons.now) doms.old }
 {
     if cons.count() <= plan.briefs.len() {
         visit_all(cons, plan, doms, entailed, Waiting::of(changed))
@@ -756,14 +712,11 @@ pub fn propagate_after(
 ) -> Alive
     requires lawful { IsLanguage cons.now.lang.now }
     requires constraints { AreConstraints cons.now.lang.now cons.now.list.now cons.now.against }
-    requires plan { IsPlanOf cons.now.lang.now
-        (arcs_of cons.now.lang.now cons.now.list.now cons.now.against) plan.now }
-    requires doms { IsSettledBut cons.now.lang.now
-        (arcs_of cons.now.lang.now cons.now.list.now cons.now.against) changed doms.old }
-    ensures alive { result ≡ Alive.Yes → IsPropagated cons.now.lang.now
-        (arcs_of cons.now.lang.now cons.now.list.now cons.now.against) doms.old doms.new }
-    ensures dead { result ≡ Alive.No →
-        RunsEmpty (arcs_of cons.now.lang.now cons.now.list.now cons.now.against) doms.old }
+    requires plan { IsPlanOf cons.now.lang.now (conditions cons.now) plan.now }
+    requires doms { IsSettledBut cons.now.lang.now (conditions cons.now) changed doms.old }
+    ensures alive { result ≡ Alive.Yes →
+        IsPropagated cons.now.lang.now (conditions cons.now) doms.old doms.new }
+    ensures dead { result ≡ Alive.No → RunsEmpty (conditions cons.now) doms.old }
 {
     let mut entailed = Entailed::none();
     propagate_beside(cons, plan, doms, &mut entailed, changed)
@@ -788,12 +741,10 @@ fn with_few(set: VarSet, doms: &Domains, v: u8, most: u8) -> VarSet
 fn first_changed(cons: &Constraints, plan: &Plan, doms: &Domains, n: u8) -> VarSet
     requires lawful { IsLanguage cons.now.lang.now }
     requires constraints { AreConstraints cons.now.lang.now cons.now.list.now cons.now.against }
-    requires plan { IsPlanOf cons.now.lang.now
-        (arcs_of cons.now.lang.now cons.now.list.now cons.now.against) plan.now }
+    requires plan { IsPlanOf cons.now.lang.now (conditions cons.now) plan.now }
     requires doms { AreSome cons.now.lang.now doms.now }
     requires variables { n ≡ variable_count cons.now.lang.now }
-    ensures { IsSettledBut cons.now.lang.now
-        (arcs_of cons.now.lang.now cons.now.list.now cons.now.against) result doms.now }
+    ensures { IsSettledBut cons.now.lang.now (conditions cons.now) result doms.now }
 {
     if cons.count() > plan.briefs.len() {
         return VarSet::all(n);
@@ -808,13 +759,11 @@ fn first_changed(cons: &Constraints, plan: &Plan, doms: &Domains, n: u8) -> VarS
 /// `propagate` with a plan of the conditions.
 pub fn propagate_all(cons: &Constraints, plan: &Plan, doms: &mut Domains) -> Alive
     requires constraints { AreConstraints cons.now.lang.now cons.now.list.now cons.now.against }
-    requires plan { IsPlanOf cons.now.lang.now
-        (arcs_of cons.now.lang.now cons.now.list.now cons.now.against) plan.now }
+    requires plan { IsPlanOf cons.now.lang.now (conditions cons.now) plan.now }
     requires family { IsFamilyOf cons.now.lang.now doms.old }
-    ensures alive { result ≡ Alive.Yes → IsPropagated cons.now.lang.now
-        (arcs_of cons.now.lang.now cons.now.list.now cons.now.against) doms.old doms.new }
-    ensures dead { result ≡ Alive.No →
-        RunsEmpty (arcs_of cons.now.lang.now cons.now.list.now cons.now.against) doms.old }
+    ensures alive { result ≡ Alive.Yes →
+        IsPropagated cons.now.lang.now (conditions cons.now) doms.old doms.new }
+    ensures dead { result ≡ Alive.No → RunsEmpty (conditions cons.now) doms.old }
 {
     if doms.has_empty() {
         return Alive::No;

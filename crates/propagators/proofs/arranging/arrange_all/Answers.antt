@@ -1,11 +1,11 @@
-use Rattle.propagators.proofs.Prelude.{length, arith, arcs_of}
+use Rattle.propagators.proofs.Prelude.{length, arith, conditions}
 use Rattle.propagators.proofs.Parting.{none_with, noted_few}
 use Rattle.propagators.proofs.Indexed.{taken_none}
 use Rattle.propagators.proofs.arranging.arrange_all.Goals as goal
 
 pub take_in-requires-clause-front : goal.take_in-requires-clause-front
 take_in-requires-clause-front c =
-    taken_none c.args.cons.now.lang.now (arcs_of c.args.cons.now.lang.now c.args.cons.now.list.now c.args.cons.now.against) _ _ _ _
+    taken_none c.args.cons.now.lang.now (conditions c.args.cons.now) _ _ _ _
     (none_with c.fill-2.new.self (length c.args.aparts.now) (c.fill-2.ensures.after (λ y e. e)))
 
 pub note_rest-requires-clause-first : goal.note_rest-requires-clause-first

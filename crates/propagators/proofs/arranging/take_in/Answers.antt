@@ -1,4 +1,4 @@
-use Rattle.propagators.proofs.Prelude.{◌≡◌, ◌<◌, ◌+◌, ◌∙◌, ℕ, List, ap, sym, subst, arith, length, slice_index_or, slice_set, variable_count, Arc, arc_of, arcs_of, Brief, IsApart, IsBriefOf, IsParted, AreApartSoFar, AreTakenIn}
+use Rattle.propagators.proofs.Prelude.{◌≡◌, ◌<◌, ◌+◌, ◌∙◌, ℕ, List, ap, sym, subst, arith, length, slice_index_or, slice_set, variable_count, Arc, arc_of, conditions, Brief, IsApart, IsBriefOf, IsParted, AreApartSoFar, AreTakenIn}
 use Rattle.propagators.proofs.Masking.{briefs_next}
 use Rattle.propagators.proofs.Lazy.{limits_next}
 use Rattle.propagators.proofs.Parting.{first_known, second_known, noted_apart, noted_over, parted_next, parted_other, apart_next, apart_over}
@@ -23,15 +23,15 @@ loop-i-preserved c =
     let brief : c.match-brief.brief ≡ c.brief_of-brief.result = elim c.match-brief.branch [ in-Apart w ↦ w.brief-is ∙ sym w.in-Apart.is | in_default w ↦ w.brief-is ] in
     record {
       taken = record {
-        briefs = briefs_next c.args.cons.now.lang.now (arcs_of c.args.cons.now.lang.now c.args.cons.now.list.now c.args.cons.now.against) c.loop-i.briefs c.loop-i.i c.match-brief.brief (arc_of c.args.cons.now.lang.now c.condition-holding.result.0 c.condition-holding.result.1)
+        briefs = briefs_next c.args.cons.now.lang.now (conditions c.args.cons.now) c.loop-i.briefs c.loop-i.i c.match-brief.brief (arc_of c.args.cons.now.lang.now c.condition-holding.result.0 c.condition-holding.result.1)
             room c.condition-holding.ensures.is (subst (IsBriefOf c.args.cons.now.lang.now (arc_of c.args.cons.now.lang.now c.condition-holding.result.0 c.condition-holding.result.1)) (sym brief) c.brief_of-brief.ensures.is) c.loop-i.invariant.taken.briefs;
-        limits = limits_next (arcs_of c.args.cons.now.lang.now c.args.cons.now.list.now c.args.cons.now.against) c.loop-i.briefs c.loop-i.limits c.raise_all.new.limits c.scope-scope.result.now c.loop-i.i c.match-brief.brief
+        limits = limits_next (conditions c.args.cons.now) c.loop-i.briefs c.loop-i.limits c.raise_all.new.limits c.scope-scope.result.now c.loop-i.i c.match-brief.brief
             room (λ a. ap (λ (b : Arc). b.scope) (c.condition-holding.ensures.is a) ∙ sym c.scope-scope.ensures.is) c.raise_all.ensures.there c.raise_all.ensures.grows c.loop-i.invariant.taken.limits;
         noted = elim c.match-brief.branch [
           | in-Apart w ↦
-              noted_apart (arcs_of c.args.cons.now.lang.now c.args.cons.now.list.now c.args.cons.now.against) c.loop-i.briefs c.loop-i.sets c.match-brief.sets c.loop-i.i c.match-brief.brief room w.sets-is (subst IsApart (sym w.brief-is) tt) c.loop-i.invariant.taken.noted
+              noted_apart (conditions c.args.cons.now) c.loop-i.briefs c.loop-i.sets c.match-brief.sets c.loop-i.i c.match-brief.brief room w.sets-is (subst IsApart (sym w.brief-is) tt) c.loop-i.invariant.taken.noted
           | in_default w ↦
-              noted_over (arcs_of c.args.cons.now.lang.now c.args.cons.now.list.now c.args.cons.now.against) c.loop-i.briefs c.scope-scope.result.now c.loop-i.sets w.note.new.sets c.match-brief.sets c.loop-i.i c.match-brief.brief w.sets-is
+              noted_over (conditions c.args.cons.now) c.loop-i.briefs c.scope-scope.result.now c.loop-i.sets w.note.new.sets c.match-brief.sets c.loop-i.i c.match-brief.brief w.sets-is
               (λ a. ap (λ (b : Arc). b.scope) (c.condition-holding.ensures.is a) ∙ sym c.scope-scope.ensures.is) w.note.ensures.grows w.note.ensures.there c.loop-i.invariant.taken.noted
         ];
         parted = elim c.match-brief.branch [
@@ -59,5 +59,5 @@ loop-i-preserved c =
 
 pub returns : goal.returns
 returns c =
-    subst (AreTakenIn c.args.cons.now.lang.now (arcs_of c.args.cons.now.lang.now c.args.cons.now.list.now c.args.cons.now.against) c.loop-i.briefs c.loop-i.sets c.loop-i.limits c.loop-i.aparts)
+    subst (AreTakenIn c.args.cons.now.lang.now (conditions c.args.cons.now) c.loop-i.briefs c.loop-i.sets c.loop-i.limits c.loop-i.aparts)
     (let end = c.min-end.ensures in let done = c.loop-i-test.false in let most = c.loop-i.auto.i-end in let some = c.requires.some in let count = c.count.ensures in let long = c.loop-i.auto.briefs in omega arith) c.loop-i.invariant.taken

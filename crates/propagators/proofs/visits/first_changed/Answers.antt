@@ -1,4 +1,4 @@
-use Rattle.propagators.proofs.Prelude.{◌≡◌, ◌∙◌, ℕ, List, [], ap, subst, sym, arith, slice_index_or, get_or_read, numbers, HasMore, variable_count, arcs_of, AreSettled}
+use Rattle.propagators.proofs.Prelude.{◌≡◌, ◌∙◌, ℕ, List, [], ap, subst, sym, arith, slice_index_or, get_or_read, numbers, HasMore, variable_count, conditions, AreSettled}
 use Rattle.propagators.proofs.Conditions.{all_settled, arcs_over}
 use Rattle.propagators.proofs.Lazy.{settled_first, more_next}
 use Rattle.propagators.proofs.visits.first_changed.Goals as goal
@@ -7,8 +7,8 @@ pub returns-then-count-len : goal.returns-then-count-len
 returns-then-count-len c = record {
   family = c.requires.doms.family;
   full = c.requires.doms.full;
-  settled = subst (λ (xs : List ℕ). AreSettled (arcs_of c.args.cons.now.lang.now c.args.cons.now.list.now c.args.cons.now.against) xs c.args.doms.now) (sym (c.all.ensures ∙ ap numbers c.requires.variables))
-      (all_settled (arcs_of c.args.cons.now.lang.now c.args.cons.now.list.now c.args.cons.now.against) (variable_count c.args.cons.now.lang.now) c.args.doms.now (arcs_over c.args.cons.now.lang.now c.args.cons.now.list.now c.args.cons.now.against c.requires.lawful c.requires.constraints));
+  settled = subst (λ (xs : List ℕ). AreSettled (conditions c.args.cons.now) xs c.args.doms.now) (sym (c.all.ensures ∙ ap numbers c.requires.variables))
+      (all_settled (conditions c.args.cons.now) (variable_count c.args.cons.now.lang.now) c.args.doms.now (arcs_over c.args.cons.now.lang.now c.args.cons.now.list.now c.args.cons.now.against c.requires.lawful c.requires.constraints));
 }
 
 pub loop-v-preserved : goal.loop-v-preserved
@@ -27,7 +27,7 @@ pub returns : goal.returns
 returns c = record {
   family = c.requires.doms.family;
   full = c.requires.doms.full;
-  settled = settled_first c.args.cons.now.lang.now (variable_count c.args.cons.now.lang.now) (arcs_of c.args.cons.now.lang.now c.args.cons.now.list.now c.args.cons.now.against) c.args.plan.now.briefs.items c.args.plan.now.limits.items c.loop-v.changed c.args.doms.now
+  settled = settled_first c.args.cons.now.lang.now (variable_count c.args.cons.now.lang.now) (conditions c.args.cons.now) c.args.plan.now.briefs.items c.args.plan.now.limits.items c.loop-v.changed c.args.doms.now
       (let few = c.requires.lawful.few_values in omega arith) (arcs_over c.args.cons.now.lang.now c.args.cons.now.list.now c.args.cons.now.against c.requires.lawful c.requires.constraints)
       (let count = c.count.ensures in let room = c.len.ensures in let low = c.if-count-len.false in omega arith) c.requires.plan.briefs c.requires.plan.limits c.requires.doms.family
       (λ u low none. c.loop-v.invariant u (let n = c.requires.variables in let end = c.loop-v-test.false in omega arith) none);

@@ -1,4 +1,4 @@
-use Rattle.propagators.proofs.Prelude.{◌∙◌, ℕ, List, sym, ap, subst, refl, arith, slice_index_or, slice_set, not-true, arcs_of, ones_of, IsLooked, firsts_on, with_member, not-false}
+use Rattle.propagators.proofs.Prelude.{◌∙◌, ℕ, List, sym, ap, subst, refl, arith, slice_index_or, slice_set, not-true, conditions, ones_of, IsLooked, firsts_on, with_member, not-false}
 use Rattle.rel_table.specs.Relation.{place}
 use Rattle.propagators.proofs.Along.{along_here, look_dead, look_same, look_fewer, look_entailed}
 use Rattle.propagators.proofs.visits.look_along.Goals as goal
@@ -33,7 +33,7 @@ returns-then-not-cut-clause-entailed c = λ e p are.
 
 pub returns-clause-looked : goal.returns-clause-looked
 returns-clause-looked c = λ e.
-    subst (λ (next : List ℕ). IsLooked (arcs_of c.args.cons.now.lang.now c.args.cons.now.list.now c.args.cons.now.against) c.args.i c.args.waiting.now next c.args.doms.now c.cut.new.self) (sym (c.with.ensures ∙ ap (λ (scope : List ℕ). with_member c.args.waiting.now (slice_index_or scope c.args.opening.place 0)) c.requires.scope))
+    subst (λ (next : List ℕ). IsLooked (conditions c.args.cons.now) c.args.i c.args.waiting.now next c.args.doms.now c.cut.new.self) (sym (c.with.ensures ∙ ap (λ (scope : List ℕ). with_member c.args.waiting.now (slice_index_or scope c.args.opening.place 0)) c.requires.scope))
     (look_fewer c.args.cons.now.lang.now c.args.cons.now.list.now c.args.cons.now.against c.requires.condition.lawful c.requires.condition.constraints c.args.i c.requires.condition.low c.args.c c.args.holding c.requires.condition.is c.args.doms.now c.requires.doms.family c.requires.doms.full c.args.opening.place c.requires.place c.requires.fixed (ones_of c.going_along-values.result)
     (along_here c.args.cons.now.lang.now c.args.c c.args.holding c.table_on-table.result.now c.args.doms.now c.args.scope.now (ones_of c.going_along-values.result) c.requires.scope c.args.opening.place
     c.table_on-table.ensures.values c.table_on-table.ensures.agrees c.requires.doms.family c.going_along-values.ensures)

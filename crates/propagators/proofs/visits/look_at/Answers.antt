@@ -1,4 +1,4 @@
-use Rattle.propagators.proofs.Prelude.{◌≡◌, ◌<◌, ◌∙◌, ℕ, true, List, [], length, sym, subst, arith, slice_index_or, get_or_read, Brief, Language, Arc, arcs_of, AreBriefs, IsBriefOf, IsApartOf, IsOnScope}
+use Rattle.propagators.proofs.Prelude.{◌≡◌, ◌<◌, ◌∙◌, ℕ, true, List, [], length, sym, subst, arith, slice_index_or, get_or_read, Brief, Language, Arc, conditions, AreBriefs, IsBriefOf, IsApartOf, IsOnScope}
 use Rattle.propagators.specs.declared.briefs.Brief.TheVariants.{Other}
 use Rattle.propagators.specs.declared.briefs.OnScope.{OnScope}
 use Rattle.propagators.proofs.visits.look_at.Goals as goal
@@ -14,7 +14,7 @@ look_at_pair-requires-clause-pair c = λ a.
     (let room = c.requires.plan.room in
     let count = c.requires.count in
     let low = c.if-i-count.false in
-    subst (λ (b : Brief). IsBriefOf c.args.cons.now.lang.now (slice_index_or (arcs_of c.args.cons.now.lang.now c.args.cons.now.list.now c.args.cons.now.against) c.args.i a) b)
+    subst (λ (b : Brief). IsBriefOf c.args.cons.now.lang.now (slice_index_or (conditions c.args.cons.now) c.args.i a) b)
     (sym (get_or_read c.args.plan.now.briefs.items c.args.i c.index.result.now (omega arith) c.index.ensures c.index.result.now) ∙ c.in-Two.is)
     (c.requires.plan.plan.briefs c.args.i a c.index.result.now (omega arith) (omega arith)))
 
@@ -23,8 +23,8 @@ look_at_pair-requires-in-Apart-clause-pair c = λ a.
     (let room = c.requires.plan.room in
     let count = c.requires.count in
     let low = c.if-i-count.false in
-    let is : IsApartOf c.args.cons.now.lang.now (slice_index_or (arcs_of c.args.cons.now.lang.now c.args.cons.now.list.now c.args.cons.now.against) c.args.i a) c.in-Apart.pair =
-    subst (λ (b : Brief). IsBriefOf c.args.cons.now.lang.now (slice_index_or (arcs_of c.args.cons.now.lang.now c.args.cons.now.list.now c.args.cons.now.against) c.args.i a) b)
+    let is : IsApartOf c.args.cons.now.lang.now (slice_index_or (conditions c.args.cons.now) c.args.i a) c.in-Apart.pair =
+    subst (λ (b : Brief). IsBriefOf c.args.cons.now.lang.now (slice_index_or (conditions c.args.cons.now) c.args.i a) b)
     (sym (get_or_read c.args.plan.now.briefs.items c.args.i c.index.result.now (omega arith) c.index.ensures c.index.result.now) ∙ c.in-Apart.is)
     (c.requires.plan.plan.briefs c.args.i a c.index.result.now (omega arith) (omega arith)) in
     is.pair)
@@ -34,8 +34,8 @@ look_at_other-requires-clause-condition c =
     (let room = c.requires.plan.room in
     let count = c.requires.count in
     let low = c.if-i-count.false in
-    let on : (a : Arc) → IsOnScope c.args.cons.now.lang.now (slice_index_or (arcs_of c.args.cons.now.lang.now c.args.cons.now.list.now c.args.cons.now.against) c.args.i a) c.in-Other.other =
-    on_scope c.args.cons.now.lang.now (arcs_of c.args.cons.now.lang.now c.args.cons.now.list.now c.args.cons.now.against) c.args.plan.now.briefs.items c.args.i c.index.result.now c.in-Other.other c.requires.plan.plan.briefs (omega arith) (omega arith)
+    let on : (a : Arc) → IsOnScope c.args.cons.now.lang.now (slice_index_or (conditions c.args.cons.now) c.args.i a) c.in-Other.other =
+    on_scope c.args.cons.now.lang.now (conditions c.args.cons.now) c.args.plan.now.briefs.items c.args.i c.index.result.now c.in-Other.other c.requires.plan.plan.briefs (omega arith) (omega arith)
     (sym (get_or_read c.args.plan.now.briefs.items c.args.i c.index.result.now (omega arith) c.index.ensures c.index.result.now) ∙ c.in-Other.is) in
     record { lawful = c.requires.lawful; constraints = c.requires.constraints; low = omega arith; candidate = (on none).candidate; is = λ a. (on a).is })
 
@@ -44,7 +44,7 @@ look_at_other-requires-clause-size c =
     (let room = c.requires.plan.room in
     let count = c.requires.count in
     let low = c.if-i-count.false in
-    on_scope c.args.cons.now.lang.now (arcs_of c.args.cons.now.lang.now c.args.cons.now.list.now c.args.cons.now.against) c.args.plan.now.briefs.items c.args.i c.index.result.now c.in-Other.other c.requires.plan.plan.briefs (omega arith) (omega arith)
+    on_scope c.args.cons.now.lang.now (conditions c.args.cons.now) c.args.plan.now.briefs.items c.args.i c.index.result.now c.in-Other.other c.requires.plan.plan.briefs (omega arith) (omega arith)
     (sym (get_or_read c.args.plan.now.briefs.items c.args.i c.index.result.now (omega arith) c.index.ensures c.index.result.now) ∙ c.in-Other.is) none).size
 
 pub look_at_other-requires-clause-scope : goal.look_at_other-requires-clause-scope
@@ -52,5 +52,5 @@ look_at_other-requires-clause-scope c =
     (let room = c.requires.plan.room in
     let count = c.requires.count in
     let low = c.if-i-count.false in
-    on_scope c.args.cons.now.lang.now (arcs_of c.args.cons.now.lang.now c.args.cons.now.list.now c.args.cons.now.against) c.args.plan.now.briefs.items c.args.i c.index.result.now c.in-Other.other c.requires.plan.plan.briefs (omega arith) (omega arith)
+    on_scope c.args.cons.now.lang.now (conditions c.args.cons.now) c.args.plan.now.briefs.items c.args.i c.index.result.now c.in-Other.other c.requires.plan.plan.briefs (omega arith) (omega arith)
     (sym (get_or_read c.args.plan.now.briefs.items c.args.i c.index.result.now (omega arith) c.index.ensures c.index.result.now) ∙ c.in-Other.is) none).scope

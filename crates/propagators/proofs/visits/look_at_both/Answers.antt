@@ -1,4 +1,4 @@
-use Rattle.propagators.proofs.Prelude.{List, [], ◌<◌, length, ℕ, true, sym, subst, refl, arith, Arc, arcs_of, AreDifferent, IsLooked, slice_index_or, All}
+use Rattle.propagators.proofs.Prelude.{List, [], ◌<◌, length, ℕ, true, sym, subst, refl, arith, Arc, conditions, AreDifferent, IsLooked, slice_index_or, All}
 use Rattle.propagators.proofs.Rounds.{dead_here}
 use Rattle.propagators.proofs.Conditions.{arcs_small, arcs_within, arcs_different}
 use Rattle.propagators.proofs.Visiting.{looked_same, looked_changed}
@@ -11,24 +11,24 @@ none = record { scope = []; accepted = λ tuple. true }
 
 pub returns-in-None-clause-dead : goal.returns-in-None-clause-dead
 returns-in-None-clause-dead c = λ e.
-    dead_here (arcs_of c.args.cons.now.lang.now c.args.cons.now.list.now c.args.cons.now.against) c.args.doms.now c.args.i none c.requires.low
-    (stood_dead c.args.cons.now.lang.now (slice_index_or (arcs_of c.args.cons.now.lang.now c.args.cons.now.list.now c.args.cons.now.against) c.args.i none) c.args.pair c.args.doms.now (c.requires.pair none) c.requires.doms.family
+    dead_here (conditions c.args.cons.now) c.args.doms.now c.args.i none c.requires.low
+    (stood_dead c.args.cons.now.lang.now (slice_index_or (conditions c.args.cons.now) c.args.i none) c.args.pair c.args.doms.now (c.requires.pair none) c.requires.doms.family
     (c.in-None.ensures.dead refl (c.requires.pair none).pairs (c.requires.pair none).are (c.requires.pair none).bounds c.requires.doms.family.values))
 
 pub returns-then-is_empty-clause-looked : goal.returns-then-is_empty-clause-looked
 returns-then-is_empty-clause-looked c = λ e.
-    looked_same (arcs_of c.args.cons.now.lang.now c.args.cons.now.list.now c.args.cons.now.against) c.args.i c.args.waiting.now c.in-Some.lost c.args.doms.now c.revise_pair.new.doms
+    looked_same (conditions c.args.cons.now) c.args.i c.args.waiting.now c.in-Some.lost c.args.doms.now c.revise_pair.new.doms
     (arcs_small c.args.cons.now.lang.now c.args.cons.now.list.now c.args.cons.now.against c.requires.lawful c.requires.constraints) c.requires.low c.requires.doms.full
-    (λ a. stood_revised c.args.cons.now.lang.now (slice_index_or (arcs_of c.args.cons.now.lang.now c.args.cons.now.list.now c.args.cons.now.against) c.args.i a) c.args.pair c.args.doms.now (c.requires.pair a) c.requires.doms.family c.revise_pair.new.doms
+    (λ a. stood_revised c.args.cons.now.lang.now (slice_index_or (conditions c.args.cons.now) c.args.i a) c.args.pair c.args.doms.now (c.requires.pair a) c.requires.doms.family c.revise_pair.new.doms
     (c.in-Some.ensures.revised (c.requires.pair a).pairs (c.requires.pair a).are (c.requires.pair a).bounds c.requires.doms.family.values)) c.in-Some.ensures.cut
     (no_length c.in-Some.lost (sym c.if-is_empty.ensures))
 
 pub returns-else-is_empty-clause-looked : goal.returns-else-is_empty-clause-looked
 returns-else-is_empty-clause-looked c = λ e.
-    subst (λ (next : List ℕ). IsLooked (arcs_of c.args.cons.now.lang.now c.args.cons.now.list.now c.args.cons.now.against) c.args.i c.args.waiting.now next c.args.doms.now c.revise_pair.new.doms) (sym c.union.ensures)
-    (looked_changed (arcs_of c.args.cons.now.lang.now c.args.cons.now.list.now c.args.cons.now.against) c.args.i c.args.waiting.now c.in-Some.lost c.args.doms.now c.revise_pair.new.doms
+    subst (λ (next : List ℕ). IsLooked (conditions c.args.cons.now) c.args.i c.args.waiting.now next c.args.doms.now c.revise_pair.new.doms) (sym c.union.ensures)
+    (looked_changed (conditions c.args.cons.now) c.args.i c.args.waiting.now c.in-Some.lost c.args.doms.now c.revise_pair.new.doms
     (arcs_small c.args.cons.now.lang.now c.args.cons.now.list.now c.args.cons.now.against c.requires.lawful c.requires.constraints) c.requires.low c.requires.doms.full
-    (λ a. stood_revised c.args.cons.now.lang.now (slice_index_or (arcs_of c.args.cons.now.lang.now c.args.cons.now.list.now c.args.cons.now.against) c.args.i a) c.args.pair c.args.doms.now (c.requires.pair a) c.requires.doms.family c.revise_pair.new.doms
+    (λ a. stood_revised c.args.cons.now.lang.now (slice_index_or (conditions c.args.cons.now) c.args.i a) c.args.pair c.args.doms.now (c.requires.pair a) c.requires.doms.family c.revise_pair.new.doms
     (c.in-Some.ensures.revised (c.requires.pair a).pairs (c.requires.pair a).are (c.requires.pair a).bounds c.requires.doms.family.values)) c.in-Some.ensures.cut
     (some_length c.in-Some.lost (sym c.if-is_empty.ensures)))
 

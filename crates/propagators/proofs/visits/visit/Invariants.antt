@@ -1,19 +1,19 @@
-use Rattle.propagators.proofs.Prelude.{IfSome, without, arcs_of, IsValueOf, AreEntailed}
+use Rattle.propagators.proofs.Prelude.{IfSome, without, conditions, IsValueOf, AreEntailed}
 use Rattle.propagators.proofs.Visiting.{IsVisiting, IsBefore, IsWithout}
 use Rattle.propagators.proofs.visits.visit.Given as goal
 
 abbrev pub invariant-loop-w : goal.invariant-loop-w
 invariant-loop-w l = record {
-  visiting : IsVisiting (arcs_of l.cons.lang.now l.cons.list.now l.cons.against) (without l.fn.changed l.fn.v) l.fn.doms (IsBefore (arcs_of l.cons.lang.now l.cons.list.now l.cons.against) l.plan.briefs.items l.fn.v l.w) l.waiting l.doms;
+  visiting : IsVisiting (conditions l.cons) (without l.fn.changed l.fn.v) l.fn.doms (IsBefore (conditions l.cons) l.plan.briefs.items l.fn.v l.w) l.waiting l.doms;
   value : IfSome l.value (IsValueOf l.doms l.fn.v);
-  entailed : AreEntailed (arcs_of l.cons.lang.now l.cons.list.now l.cons.against) l.plan l.entailed l.doms;
+  entailed : AreEntailed (conditions l.cons) l.plan l.entailed l.doms;
 }
 
 abbrev pub invariant-loop-rest : goal.invariant-loop-rest
 invariant-loop-rest l = record {
-  visiting : IsVisiting (arcs_of l.cons.lang.now l.cons.list.now l.cons.against) (without l.fn.changed l.fn.v) l.fn.doms (IsWithout (arcs_of l.cons.lang.now l.cons.list.now l.cons.against) l.plan.briefs.items l.fn.v l.w l.rest) l.waiting l.doms;
+  visiting : IsVisiting (conditions l.cons) (without l.fn.changed l.fn.v) l.fn.doms (IsWithout (conditions l.cons) l.plan.briefs.items l.fn.v l.w l.rest) l.waiting l.doms;
   value : IfSome l.value (IsValueOf l.doms l.fn.v);
-  entailed : AreEntailed (arcs_of l.cons.lang.now l.cons.list.now l.cons.against) l.plan l.entailed l.doms;
+  entailed : AreEntailed (conditions l.cons) l.plan l.entailed l.doms;
 }
 
 abbrev pub decreases-loop-rest : goal.decreases-loop-rest

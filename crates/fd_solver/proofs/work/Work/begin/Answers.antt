@@ -1,4 +1,4 @@
-use Rattle.fd_solver.proofs.Prelude.{refl, arith, ap, length, length-set, Room, arcs_of}
+use Rattle.fd_solver.proofs.Prelude.{refl, arith, ap, length, length-set, Room, conditions}
 use Rattle.fd_solver.proofs.Knowing.{begun_known}
 use Rattle.fd_solver.proofs.Narrowing.{begun_ready, begun_dead}
 use Rattle.fd_solver.proofs.work.Work.begin.Goals as goal
@@ -20,7 +20,7 @@ returns-in-Yes-clause-deep c =
 
 pub returns-in-Yes-clause-entailed : goal.returns-in-Yes-clause-entailed
 returns-in-Yes-clause-entailed c = λ e d.
-    begun_known (arcs_of c.args.cons.now.lang.now c.args.cons.now.list.now c.args.cons.now.against) c.arrange.new.self c.self.inside.depths.items c.self.inside.entailed.items c.propagate_all.new.doms c.none.result d
+    begun_known (conditions c.args.cons.now) c.arrange.new.self c.self.inside.depths.items c.self.inside.entailed.items c.propagate_all.new.doms c.none.result d
     (let deep = c.deepen.ensures.deep in let same = c.deepen.ensures.same in let seen = ap (λ (w : Room). length w.entailed) c.self.view_is in omega arith) c.none.ensures
 
 pub returns-in-Yes-clause-same : goal.returns-in-Yes-clause-same
