@@ -1,7 +1,7 @@
 -- A listing of items that a network has behind others.
 use Rattle.multi_tree.proofs.Prelude.{◌≡◌, List, ◌++◌, length, take, map, filter, sym, ◌∙◌, ap, arith, length-append, Assignment, Candidate, Language, violates, IsListing, beside_scope}
 use Rattle.std.proofs.lemmas.List.{take-append-le}
-use Rattle.multi_tree.specs.declared.tree.Listing.{Listing}
+use Rattle.multi_tree.specs.declared.listing.Listing.{Listing}
 
 -- it is right for a network that has grown
 pub listing_more : (l : Language) (network more new : List Candidate) (e : Assignment) (listing : Listing) → more ≡ network ++ new → IsListing l network e listing → IsListing l more e listing

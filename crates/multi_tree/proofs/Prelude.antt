@@ -18,4 +18,4 @@ pub use Rattle.multi_tree.specs.Listed.{AreBarren, AreListed, AreStruck, IsListi
 pub use Rattle.multi_tree.specs.Stage.{Ready, Stage, asked_in, stage_begun, put_again}
 pub use Rattle.multi_tree.specs.Standing.{Move, PutsAgain, StageStandsFor, Turns, moved}
 unfoldable pub use Rattle.multi_tree.specs.Standing.{after_moves}
-pub use Rattle.multi_tree.specs.declared.tree.Violated.{Violated}
+pub use Rattle.multi_tree.specs.declared.listing.Violated.{Violated}

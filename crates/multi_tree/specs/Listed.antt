@@ -8,9 +8,9 @@ use Rattle.assign.specs.Assignment.{Assignment}
 use Rattle.language.specs.declared.candidates.Candidate.{Candidate}
 use Rattle.language.specs.Language.{Language, scope_of, violates}
 use Rattle.bias_store.specs.KeptSet.{is_struck_within}
-use Rattle.multi_tree.specs.declared.tree.Listed.{Listed}
-use Rattle.multi_tree.specs.declared.tree.Listing.{Listing}
-use Rattle.multi_tree.specs.declared.tree.Violated.{Violated}
+use Rattle.multi_tree.specs.declared.listing.Listed.{Listed}
+use Rattle.multi_tree.specs.declared.listing.Listing.{Listing}
+use Rattle.multi_tree.specs.declared.listing.Violated.{Violated}
 
 -- an item beside the variables of its scope
 abbrev pub beside_scope : Language → Candidate → Violated

@@ -16,7 +16,10 @@
 //! `make` takes memory.
 #![tactic(auto)]
 
+mod listing;
 mod stack;
+mod taking;
 mod tree;
 
-pub use tree::{Listing, Tree, TreeNext};
+pub use listing::Listing;
+pub use tree::{Tree, TreeNext};

@@ -13,11 +13,13 @@
 mod arranging;
 mod briefs;
 mod constraints;
+mod differing;
 mod domains;
 mod entailed;
 mod index;
 mod indexing;
 pub mod laws;
+mod looks;
 mod pairs;
 mod plan;
 mod revising;
