@@ -20,6 +20,7 @@ mod index;
 mod indexing;
 pub mod laws;
 mod looks;
+mod openings;
 mod pairs;
 mod plan;
 mod revising;

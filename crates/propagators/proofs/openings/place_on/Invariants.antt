@@ -1,6 +1,6 @@
 use Rattle.propagators.proofs.Prelude.{◌≡◌, ◌-◌, ◌^◌, ◌<◌, ◌≤◌, ℕ, [], take, slice_index_or, slice_set, HasOne, firsts_on}
 use Rattle.rel_table.specs.Relation.{place}
-use Rattle.propagators.proofs.supports.place_on.Given as goal
+use Rattle.propagators.proofs.openings.place_on.Given as goal
 
 abbrev pub invariant-loop-j : goal.invariant-loop-j
 invariant-loop-j l = record {

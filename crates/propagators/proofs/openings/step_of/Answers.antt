@@ -1,6 +1,6 @@
 use Rattle.propagators.proofs.Prelude.{◌≡◌, ◌*◌, ◌^◌, ◌∙◌, sym, ap, arith, mul_assoc}
 use Rattle.propagators.proofs.Sweeping.{power_one, power_two, power_three}
-use Rattle.propagators.proofs.supports.step_of.Goals as goal
+use Rattle.propagators.proofs.openings.step_of.Goals as goal
 
 pub returns-then-after-eq1 : goal.returns-then-after-eq1
 returns-then-after-eq1 c = c.from-d.ensures ∙ sym (ap (λ k. c.args.d ^ k) c.if-after-eq1.true ∙ power_one c.args.d)

@@ -1,6 +1,6 @@
 use Rattle.propagators.proofs.Prelude.{◌≡◌, ◌+◌, ◌-◌, ◌*◌, ◌^◌, ◌∙◌, [], length, sym, ap, arith, ◌&&◌, slice_index_or, has, ones_of, is_wanted, truth_at}
 use Rattle.propagators.proofs.Steps.{reads_below, reads_along, same_where, last_step}
-use Rattle.propagators.proofs.supports.going_along.Goals as goal
+use Rattle.propagators.proofs.openings.going_along.Goals as goal
 
 pub row-requires : goal.row-requires
 row-requires c =

@@ -2,7 +2,7 @@ use Rattle.propagators.proofs.Prelude.{◌≡◌, ◌+◌, ◌-◌, ◌∙◌, �
 use Rattle.rel_table.specs.Relation.{place}
 use Rattle.propagators.proofs.Fixed.{next_one}
 use Rattle.propagators.proofs.Steps.{next_at, next_small, product_fits, opened, length-firsts, first_only}
-use Rattle.propagators.proofs.supports.opening_of.Goals as goal
+use Rattle.propagators.proofs.openings.opening_of.Goals as goal
 
 pub overflow_mul-result : goal.overflow_mul-result
 overflow_mul-result c =

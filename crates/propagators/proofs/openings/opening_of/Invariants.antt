@@ -1,6 +1,6 @@
 use Rattle.propagators.proofs.Prelude.{◌≡◌, ◌^◌, ◌<◌, ℕ, [], take, slice_index_or, HasOne, firsts_on}
 use Rattle.rel_table.specs.Relation.{place}
-use Rattle.propagators.proofs.supports.opening_of.Given as goal
+use Rattle.propagators.proofs.openings.opening_of.Given as goal
 
 abbrev pub invariant-loop-place : goal.invariant-loop-place
 invariant-loop-place l = record {

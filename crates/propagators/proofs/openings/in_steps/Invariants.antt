@@ -1,5 +1,5 @@
 use Rattle.propagators.proofs.Prelude.{◌≡◌, ◌+◌, ◌*◌, ◌&&◌, ℕ, true, not, has, ones_of, is_wanted, truth_at}
-use Rattle.propagators.proofs.supports.in_steps.Given as goal
+use Rattle.propagators.proofs.openings.in_steps.Given as goal
 
 abbrev pub invariant-loop-rest : goal.invariant-loop-rest
 invariant-loop-rest l = record {

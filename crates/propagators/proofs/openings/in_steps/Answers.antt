@@ -1,7 +1,7 @@
 use Rattle.propagators.proofs.Prelude.{◌≡◌, ◌+◌, ◌*◌, ◌∙◌, ◌&&◌, ℕ, not, false, ap, has, ones_of, is_wanted, truth_at}
 use Rattle.propagators.proofs.Along.{none_gone}
 use Rattle.assign.proofs.Ones.{ones_of-zero}
-use Rattle.propagators.proofs.supports.in_steps.Goals as goal
+use Rattle.propagators.proofs.openings.in_steps.Goals as goal
 
 pub loop-rest-init : goal.loop-rest-init
 loop-rest-init c = record {

@@ -1,7 +1,7 @@
 use Rattle.propagators.proofs.Prelude.{◌≢◌, ◌-◌, ◌≤◌, ◌∙◌, ℕ, [], length-set, sym, arith, slice_index_or, get_or-set_other, HasOne, firsts_on}
 use Rattle.propagators.proofs.Fixed.{next_one}
 use Rattle.propagators.proofs.Steps.{next_at, next_small, product_fits, length-firsts, first_only}
-use Rattle.propagators.proofs.supports.place_on.Goals as goal
+use Rattle.propagators.proofs.openings.place_on.Goals as goal
 
 pub overflow_mul-at : goal.overflow_mul-at
 overflow_mul-at c =
