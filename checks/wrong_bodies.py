@@ -39,7 +39,6 @@ import collections
 import os
 import random
 import shutil
-import subprocess
 import sys
 import tempfile
 import time
@@ -48,19 +47,19 @@ from typing import IO
 
 HERE = os.path.dirname(os.path.realpath(__file__))
 sys.dont_write_bytecode = True
-sys.path.insert(0, f"{HERE}/wrong_bodies_parts")
+sys.path[:0] = [f"{HERE}/wrong_bodies_parts", HERE]
 
 # pylint: disable=wrong-import-position
-from edits import (TOP, BadEdit, Edit, Sources, find_edits, number, read_bodies, switch_of,
+from edits import (BadEdit, Edit, Sources, find_edits, number, read_bodies, switch_of,
                    together)
 from kept import Kept, sum_of_edit, sum_of_runs, sum_of_texts
 from plants import find_plants
-from programs import OtherKit, Program, Table, ask, build, check, numbers_in, run
+from programs import Program, Table, ask, build, check, numbers_in, run
+from trial_room import TABLES, OtherKit, lanes, lay_out
 
 STORED = f"{HERE}/wrong_bodies/noticed.tsv"
 HEAD = ("# What notices each wrong body: a table and its first row that doesn't hold, a check and "
         "its words, or `no run` and why none shows it.\n")
-TABLES = ("language_trials", "edge_trials", "store_trials", "program_rows", "answer_trials")
 PROGRAM = "acquire"
 # in the order in which they are tried: those that see much in little time first
 CHECKS = {"walks.py": "100", "owners.py": "200", "certs.py": "250", "journals.py": "",
@@ -95,6 +94,11 @@ def is_unshown(edit: Edit, lines: dict[str, Line]) -> bool:
     return edit.same or lines.get(edit.name, ("",))[0] == NO_RUN
 
 
+def program_of(name: str) -> str:
+    """The program with a table or for a check."""
+    return TABLES[name][0] if name in TABLES else PROGRAM
+
+
 def gather(names: list[str], faults: dict[str, str]) -> list[Edit]:
     """The edits that are chosen, with their bodies. One that doesn't fit is a fault."""
     edits: dict[str, Edit] = {}
@@ -116,6 +120,7 @@ class Bench:
 
     def __init__(self, room: str, jobs: int):
         self.room, self.pool = room, ThreadPoolExecutor(jobs)
+        self.top = lay_out(room)
         self.programs: dict[str, Program] = {}
         self.tables = {name: Table(name) for name in TABLES}
         self.right: dict[str, tuple[str, str]] = {}  # what comes of a table with the right bodies
@@ -130,7 +135,7 @@ class Bench:
         crates = {edit.crate for edit in edits}
         # the last ones take longest
         names = names[::-1]
-        asked = self.pool.map(lambda name: ask(name, f"{self.room}/{name}"), names)
+        asked = self.pool.map(lambda name: ask(name, f"{self.room}/{name}", self.top), names)
         left = {name: it for name, it in zip(names, asked) if not it.linked.isdisjoint(crates)}
         while left:
             sources = Sources(f"{self.room}/sources", edits)
@@ -152,22 +157,23 @@ class Bench:
         return edits
 
     def make(self, program: Program, sources: Sources) -> str:
-        """Builds a program and runs its table with the right bodies. Gives what the compiler says
+        """Builds a program and runs its tables with the right bodies. Gives what the compiler says
         where nothing comes of it."""
         said = build(program, sources)
         if not said:
             self.programs[program.crate] = program
-            if program.crate != PROGRAM:
-                with tempfile.TemporaryFile() as calls:
-                    self.right[program.crate] = self.first_row(program.crate, [], calls)
-                    self.called[program.crate] = numbers_in(calls)
+            for name, table in self.tables.items():
+                if table.program == program.crate:
+                    with tempfile.TemporaryFile() as calls:
+                        self.right[name] = self.first_row(name, [], calls)
+                        self.called[name] = numbers_in(calls)
         return said
 
     def first_row(self, name: str, edits: list[Edit],
                   calls: IO[bytes] | None = None) -> tuple[str, str]:
         """The first row of a table that doesn't hold with these bodies, and what came instead."""
-        program, seconds = self.programs[name], self.seconds.get(name, 600)
-        row, came, used = run(program, self.tables[name], switch_of(edits), seconds, calls)
+        table, seconds = self.tables[name], self.seconds.get(name, 600)
+        row, came, used = run(self.programs[table.program], table, switch_of(edits), seconds, calls)
         self.used["tables"] += used
         if not edits:
             self.seconds[name] = 5 + int(4 * used)
@@ -178,9 +184,10 @@ class Bench:
         return check(self.programs[PROGRAM], [name, *CHECKS[name].split()], switch_of(edits))
 
     def links(self, name: str, edits: list[Edit]) -> bool:
-        """Whether a program is built and has the crate of one of these bodies."""
-        return name in self.programs and any(
-            edit.crate in self.programs[name].linked for edit in edits)
+        """Whether the program, or that of the table, is built and has the crate of one of these
+        bodies."""
+        program = self.programs.get(program_of(name))
+        return program is not None and any(edit.crate in program.linked for edit in edits)
 
     def calls(self, name: str, edits: list[Edit]) -> bool:
         """Whether a table calls a function that one of these bodies changes."""
@@ -277,8 +284,8 @@ def programs_for(edits: list[Edit], lines: dict[str, Line], anew: bool) -> list[
     """The programs in which these edits are run."""
     by = {NO_RUN if edit.same else lines.get(edit.name, ("",))[0] for edit in edits}
     if anew or NO_RUN in by:
-        return [*TABLES, PROGRAM]
-    return [name for name in TABLES if name in by] + [PROGRAM] * any(it in CHECKS for it in by)
+        by = {*TABLES, *CHECKS}
+    return [*dict.fromkeys(program_of(name) for name in [*TABLES, *CHECKS] if name in by)]
 
 
 def sums_of(edits: list[Edit], lines: dict[str, Line]) -> dict[str, str]:
@@ -338,7 +345,7 @@ def tell_plants(said: argparse.Namespace, bench: Bench) -> None:
     refused: dict[str, str] = {}
     # Many don't compile, which one program tells of all.
     edits = bench.compile(["program_rows"], edits, refused)
-    edits = bench.compile([*TABLES], edits, refused)
+    edits = bench.compile(programs_for(edits, {}, True)[:-1], edits, refused)
     if faults := bench.right_faults(False):
         raise SystemExit("\n".join(f"wrong_bodies: {it}: {why}" for it, why in faults.items()))
     count: collections.Counter[str] = collections.Counter()
@@ -350,12 +357,6 @@ def tell_plants(said: argparse.Namespace, bench: Bench) -> None:
     told = ", ".join(f"{by} {many}" for by, many in count.most_common())
     print(f"wrong_bodies: {len(edits)} plants by what notices them: {told}; "
           f"{len(refused)} that don't compile")
-
-
-def lanes() -> int:
-    """How many programs are compiled or run side by side where no number is given."""
-    said = subprocess.run([f"{TOP}/tools/lanes.sh"], capture_output=True, text=True, check=True)
-    return int(said.stdout)
 
 
 def read_words() -> argparse.Namespace:

@@ -207,11 +207,12 @@ class Sources:
         self.places[file].append((len(written) + 1, len(written) + len(lines), edit))
         written += lines
 
-    def stamp(self, crates: set[str]) -> str:
-        """A text that stays as it is as long as the bodies and the sources of these crates do."""
+    def stamp(self, crates: set[str], place: str) -> str:
+        """A text that stays as it is as long as the bodies and the sources of these crates do,
+        which are laid out at a place."""
         sums = hashlib.sha256()
         for crate in sorted(crates):
-            for folder in (f"{self.folder}/{crate}", f"{TOP}/crates/{crate}/src"):
+            for folder in (f"{self.folder}/{crate}", f"{place}{crate}/src"):
                 for file in sorted(glob.glob(f"{folder}/**/*.rt", recursive=True)):
                     with open(file, "rb") as source:
                         sums.update(file.encode() + b"\0" + source.read() + b"\0")

@@ -16,9 +16,11 @@ import subprocess
 
 from edits import TOP, Edit, lines_of
 from programs import OtherKit
+from trial_room import TABLES, crates_below
+from trial_room import sources_of as sources_of_crate
 
-SCRIPTS = ("checks/wrong_bodies.py", "checks/wrong_bodies_parts/*.py", "tools/unproved.sh",
-           "crates.txt")
+SCRIPTS = ("checks/wrong_bodies.py", "checks/wrong_bodies_parts/*.py", "checks/trial_room.py",
+           "tools/unproved.sh", "crates.txt", "trials/crates")
 # the checks, and what they take from elsewhere
 CHECKS = ("checks/*.py", "checks/*.c", "python/acquire/*.py", "examples/**/*")
 
@@ -50,14 +52,6 @@ def kit() -> str:
         raise OtherKit(f"rt version fails: {fault}") from fault
 
 
-@functools.cache
-def crates_below() -> dict[str, list[str]]:
-    """The crates that each crate takes from, by crates.txt."""
-    lines = (line.split("#")[0].partition(":") for line in lines_of(f"{TOP}/crates.txt"))
-    uses = {name.strip(): below.split() for name, colon, below in lines if colon}
-    return {name: [it for it in below if it in uses] for name, below in uses.items()}
-
-
 def sources_of(program: str) -> tuple[str, ...]:
     """The sources of a program and of all crates that it stands on, as patterns."""
     found, due = set(), [program]
@@ -66,13 +60,14 @@ def sources_of(program: str) -> tuple[str, ...]:
         if crate not in found:
             found.add(crate)
             due += crates_below()[crate]
-    return tuple(f"crates/{crate}/src/**/*.rt" for crate in sorted(found))
+    return tuple(sources_of_crate(crate) for crate in sorted(found))
 
 
-def sum_of_runs(program: str, is_table: bool) -> str:
-    """A checksum of what a run of a program shows with the right bodies: of its table, or of all
-    checks."""
-    read = (f"crates/{program}/stdin", f"crates/{program}/stdout") if is_table else CHECKS
+def sum_of_runs(name: str, is_table: bool) -> str:
+    """A checksum of what a run of a table shows with the right bodies, or of what all checks of a
+    program do."""
+    program = TABLES[name][0] if is_table else name
+    read = (f"trials/{name}/stdin", f"trials/{name}/stdout") if is_table else CHECKS
     return sum_of_texts([kit(), sum_of_files((*SCRIPTS, *sources_of(program), *read))])
 
 

@@ -14,8 +14,7 @@ import re
 import subprocess
 
 from edits import TOP, Body, Edit, braces_in, lines_of
-from kept import crates_below
-from programs import OtherKit
+from trial_room import OtherKit, crates_below
 
 COPY = "_as_it_is"
 
