@@ -3,6 +3,7 @@
 //! Before a question: what is still possible, searches, and the next question. The candidates stand
 //! in plain lists (`possible`), and `outcomes` goes over all prefixes and all families of sets of
 //! values. Random searches (`searches`) and next questions (`questions`) are held against it.
+//! `propagating` is what a search does between two values.
 //!
 //! After an answer: halvings beside the plain recursion, relations on a scope that are told apart,
 //! walks through the parts of an example, and sessions beside the plain fold of their answers, on
@@ -19,6 +20,7 @@ mod outcomes;
 mod plain;
 mod playing;
 mod possible;
+mod propagating;
 mod questions;
 mod searches;
 mod sets;
@@ -39,6 +41,8 @@ fn answer_over(alloc: Global, lang: &Language, call: &str, arguments: &str) -> O
         "random-strikes" => possible::random(alloc, lang, arguments),
         "search" => searches::search_row(alloc, lang, arguments),
         "first" => questions::first(alloc, lang, arguments),
+        "propagates" => propagating::propagates(alloc, lang, arguments),
+        "meets" => propagating::meets(alloc, lang, arguments),
         "marks" => questions::marks(alloc, lang),
         "tells" => telling::tells(alloc, lang, arguments),
         "walks" => walking::walks(alloc, lang, arguments),
@@ -53,7 +57,8 @@ impl Calls for Trials {
         match call {
             "random-searches" => searches::random(alloc, arguments, false),
             "wide-searches" => searches::random(alloc, arguments, true),
-            "random-questions" => questions::random(alloc, arguments),
+            "random-questions" => questions::random(alloc, arguments, false),
+            "random-budgets" => questions::random(alloc, arguments, true),
             "halves" => halving::halves(alloc, arguments),
             "finds" => halving::finds(alloc, arguments),
             "finds-each" => halving::finds_each(alloc, arguments),

@@ -11,7 +11,7 @@ use samples::{Numbers, is_candidate, push_question};
 use std::alloc::Global;
 
 /// Whether these are candidates.
-fn is_network(lang: &Language, list: &[Candidate]) -> bool {
+pub(crate) fn is_network(lang: &Language, list: &[Candidate]) -> bool {
     for c in list {
         if !is_candidate(lang, *c) {
             return false;
@@ -154,7 +154,7 @@ pub(crate) fn random(alloc: Global, arguments: &str, is_wide: bool) -> Option<St
 }
 
 /// The candidate `SCOPE.RELATION`, both by their numbers.
-fn candidate_in(word: &str) -> Option<Candidate> {
+pub(crate) fn candidate_in(word: &str) -> Option<Candidate> {
     let (scope, rel) = word.split_once('.')?;
     Some(Candidate {
         scope: scope.parse().ok()?,
@@ -162,7 +162,7 @@ fn candidate_in(word: &str) -> Option<Candidate> {
     })
 }
 
-fn candidates_in(alloc: Global, text: &str) -> Option<Vec<Candidate>> {
+pub(crate) fn candidates_in(alloc: Global, text: &str) -> Option<Vec<Candidate>> {
     let mut list = Vec::new(alloc);
     for word in text.split_whitespace() {
         list.push(candidate_in(word)?).ok()?;
