@@ -1,7 +1,7 @@
 #!/bin/sh
 # Runs the checks of checks/ on a built program, as many side by side as there are processors; desk.py before the others, since it
-# reads terminals while they are drawn, and wrong_bodies.py behind them, since it compiles three programs side by side. What one prints comes in one piece when it ends, and the last line counts. .ci/run and
-# check-quick call it.
+# reads terminals while they are drawn, and wrong_bodies.py behind them, since it compiles three programs side by side. What one
+# prints comes in one piece when it ends, and the last line counts. .ci/run and check-quick call it.
 #
 # usage: tools/checks.sh PROGRAM [LEFT-OUT]
 #
