@@ -39,6 +39,7 @@ FOR_USERS = ["README.md", *(f"docs/{page}.md" for page in ("guide", "guarantees"
 OTHERS = {
     **dict.fromkeys((".rt", "abbrev", "match", "requires", "Copy"), "words of Rattle"),
     **dict.fromkeys(("cc", "strace", "mypy"), "programs of the system"),
+    "None": "what Python has where there is nothing",
     "acquire.check": "a call of the client for Python",
     **dict.fromkeys(("out/", "crates/acquire/out/acquire"), "made by a build"),
     **dict.fromkeys(("night_shift", "Baer"), "names that somebody gives in a vocabulary"),

@@ -1,4 +1,4 @@
-"""A room in which the crates of trials stand beside the project's own, to be compiled without proof.
+"""A room where the crates of trials stand beside the project's own, to be compiled without proof.
 
 The sources of trials end in .rs in the repository, since a .rt file is one that is proved. In the
 room they end in .rt, as the compiler wants them.
@@ -51,7 +51,9 @@ def trial_crates() -> list[str]:
 
 def sources_of(crate: str) -> str:
     """The sources of a crate, as a pattern seen from the top."""
-    return f"trials/{crate}/src/**/*.rs" if crate in trial_crates() else f"crates/{crate}/src/**/*.rt"
+    if crate in trial_crates():
+        return f"trials/{crate}/src/**/*.rs"
+    return f"crates/{crate}/src/**/*.rt"
 
 
 def lay_out(room: str) -> str:

@@ -1,7 +1,9 @@
 #!/usr/bin/env python3
 """Each table of trials/ comes out as it should, row for row.
 
-usage: checks/trials.py [--jobs N] [PROGRAM]      (PROGRAM isn't looked at: the trials are their own)
+usage: checks/trials.py [--jobs N] [PROGRAM]
+
+PROGRAM isn't looked at: a trial is a program of its own.
 
 The crates of trials/crates are compiled without proof over the project's own, in a room of their
 own (trial_room.py). Each table is run on its `stdin`, and what is printed has to be its `stdout`,

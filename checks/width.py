@@ -28,9 +28,9 @@ EXCEPTIONS = {
     ("crates/acq_said/src/lib.rt", "//! | say something of a journal's session"): TABLE,
     ("crates/acquire/src/main.rt", "\"acquire: {journal} can't be opened"): TEXT,
     ("crates/rel_table/src/lib.rt", "//! | learn a table's size"): TABLE,
-    ("crates/samples/src/languages.rt", 'r#"{{"variables"'): TEXT,
-    ("crates/store_trials/src/random.rt", 'r#"{{"variables"'): TEXT,
-    ("crates/store_trials/src/random.rt", '"{} answers'): TEXT,
+    ("trials/samples/src/languages.rs", 'r#"{{"variables"'): TEXT,
+    ("trials/store_trials/src/random.rs", 'r#"{{"variables"'): TEXT,
+    ("trials/store_trials/src/random.rs", '"{} answers'): TEXT,
     ("crates/voc_read/specs/Rules.antt", "use Rattle.voc_read.specs.declared"): EDITED,
     ("crates/voc_read/src/reading.rt", "#[tactic("): ATTRIBUTE,
 }
@@ -45,7 +45,8 @@ def files(top):
             path = os.path.relpath(os.path.join(where, name), top)
             places = path.split(os.sep)
             is_proved = places[0] == "crates" and len(places) > 3 and places[2] in PARTS
-            if name.endswith(".py") or is_proved and name.endswith((".rt", ".antt")):
+            is_trial = places[0] == "trials" and name.endswith(".rs")
+            if name.endswith(".py") or is_trial or is_proved and name.endswith((".rt", ".antt")):
                 yield path
 
 

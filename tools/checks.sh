@@ -1,7 +1,7 @@
 #!/bin/sh
 # Runs the checks of checks/ on a built program, as many side by side as there are processors; desk.py before the others, since it
-# reads terminals while they are drawn. What one prints comes in one piece when it ends, and the last line counts. .ci/run and
-# check-quick call it.
+# reads terminals while they are drawn, and wrong_bodies.py behind them, since it compiles three programs side by side. What one
+# prints comes in one piece when it ends, and the last line counts. .ci/run and check-quick call it.
 #
 # usage: tools/checks.sh PROGRAM [LEFT-OUT]
 #
@@ -18,7 +18,7 @@ trap 'exit 130' HUP INT TERM
 
 # Those that take longest begin first.
 {
-    for it in wrong_bodies.py web.py desk.py must_not_compile.sh demos.py walks.py owners.py threads.sh certs.py kills.py memory.py; do
+    for it in trials.py web.py desk.py must_not_compile.sh demos.py walks.py owners.py threads.sh certs.py kills.py memory.py; do
         [ ! -x "$home/checks/$it" ] || echo "$home/checks/$it"
     done
     find "$home/checks" -maxdepth 1 -type f -perm -u+x | sort
@@ -39,7 +39,8 @@ $(cat "$0/$name.said")"
 ' "$room" "$program" "$home/.ci/out/wrong_bodies"
 }
 grep -z '/desk\.py$' <"$room/checks" | side_by_side 1
-grep -zv '/desk\.py$' <"$room/checks" | side_by_side "$(nproc)"
+grep -zv -e '/desk\.py$' -e '/wrong_bodies\.py$' <"$room/checks" | side_by_side "$(nproc)"
+grep -z '/wrong_bodies\.py$' <"$room/checks" | side_by_side 1
 
 count=$(tr -cd '\0' <"$room/checks" | wc -c)
 passed=$(cat "$room"/*.status 2>/dev/null | grep -cx 0)
