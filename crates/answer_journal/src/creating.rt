@@ -5,7 +5,7 @@ ghost use Rattle.std.specs.Prelude.{IsErrOf, OnOk, length};
 ghost use Rattle.std.specs.Option.{ForSome};
 ghost use Rattle.disk_model.specs.Disk.{Only, Rose, HasCause};
 ghost use Rattle.disk_model.specs.Moments.{LeavesBehind, IsOnlyRead};
-ghost use Rattle.answer_journal.specs.Format.{MAGIC, plan_byte, session_tail};
+ghost use Rattle.answer_journal.specs.Format.{MAGIC, plan_byte, session_tail, MOST_VOCABULARY};
 ghost use Rattle.answer_journal.specs.Journal.{IsClosedAfter, HasNoSession};
 ghost use Rattle.answer_journal.specs.End.{IsInPlace};
 ghost use Rattle.answer_journal.specs.Heads.{IsHead};
@@ -31,7 +31,7 @@ pub fn create<D: Disk>(
     plan: Plan,
     voc: &[u8],
 ) -> Result<Journal, JFault>
-    requires short { length voc.now ≤ 4194304 }
+    requires short { length voc.now ≤ MOST_VOCABULARY }
     // After `Ok` there is the new session. A crash at any moment leaves what it might have left
     // before, or no session, or the new one with no event.
     ensures leaves { LeavesBehind D.Disk 9 disk.old disk.new result (λ _. StartsWith plan voc.now)
@@ -89,7 +89,7 @@ fn empty<D: Disk>(disk: &mut D, head: Head) -> Result<(), Failed>
 /// The record of a session behind its gate, and a closed gate for the next.
 #[tactic(auto, unfolding(crate::specs::Format::session_tail))]
 fn session_bytes(alloc: Global, plan: Plan, voc: &[u8]) -> Result<Vec<u8>, AllocError>
-    requires { length voc.now ≤ 4194304 }
+    requires { length voc.now ≤ MOST_VOCABULARY }
     ensures { IfOk result (λ v. v.items ≡ session_tail plan voc.now ++ 0 ∷ []) }
 {
     let size = (1 + voc.len() as u32).to_be_bytes();

@@ -2,6 +2,7 @@
 
 ghost use Rattle.std.specs.Prelude.{◌≡◌, ◌<◌, ◌≤◌, ◌++◌, ◌∷◌, [], IsTrue, OnOk, OnErr, All};
 ghost use Rattle.std.specs.Prelude.{flat_map, length, take, slice_index_or};
+ghost use Rattle.answer_journal.specs.Format.{MOST_RECORDS};
 ghost use Rattle.arrayvec.specs.ArrayVec.{array_vec_len};
 ghost use Rattle.assign.specs.declared.events.Event.TheVariants.{Back};
 ghost use Rattle.answer_journal.specs.EventList.{entry_bytes, event_in, is_back};
@@ -84,7 +85,7 @@ impl Events {
     /// Adds an event. `AllocError` leaves the events as they were.
     pub fn push(&mut self, event: &Event) -> Result<(), AllocError>
         requires storable { IsStorableEvent event.now }
-        requires few { length self.old.items < 1000000 }
+        requires few { length self.old.items < MOST_RECORDS }
         ensures ok { OnOk result (self.new.items ≡ self.old.items ++ event.now ∷ []) }
         ensures err { OnErr result (self.new.items ≡ self.old.items) }
     {
@@ -105,7 +106,7 @@ impl Events {
     /// Adds an event, for which the memory was taken.
     pub fn add(&mut self, event: &Event)
         requires storable { IsStorableEvent event.now }
-        requires few { length self.old.items < 1000000 }
+        requires few { length self.old.items < MOST_RECORDS }
         requires room { IsTrue self.old.has_room }
         ensures { self.new.items ≡ self.old.items ++ event.now ∷ [] }
     {

@@ -2,6 +2,7 @@
 
 ghost use Rattle.std.specs.Prelude.{◌≡◌, ◌≤◌, ◌+◌, ◌*◌, ◌⊎◌, ◌↔◌, IsTrue, IsFalse, IsErr, IfErr};
 ghost use Rattle.std.specs.Prelude.{IsErrOf, OnOk};
+ghost use Rattle.answer_journal.specs.Format.{MOST_RECORDS};
 ghost use Rattle.disk_model.specs.Disk.{AreCalls, Rose, HasCause};
 ghost use Rattle.disk_model.specs.Moments.{LeavesBehind};
 ghost use Rattle.answer_journal.specs.Storable.{IsStorableEvent};
@@ -30,13 +31,14 @@ pub struct Journal {
 impl Model for Journal {
     ghost use Rattle.std.specs.Prelude.{ℕ, ◌≤◌, ◌+◌, ◌*◌};
     ghost use Rattle.answer_journal.specs.End.{End, room_to_raise};
+    ghost use Rattle.answer_journal.specs.Format.{MOST_RECORDS};
 
     ghost Value = { End };
 
     ghost view = { λ j.
         record { at = j.at; records = j.records; raised = j.raised; live = j.live } };
 
-    ghost invariant = { λ j. (j.records ≤ 1000000)
+    ghost invariant = { λ j. (j.records ≤ MOST_RECORDS)
         × (j.at + room_to_raise j.raised ≤ 5000000 + 264 * j.records) };
 
     ghost inverse = { λ p.
@@ -51,7 +53,7 @@ impl Journal {
 
     // A live journal.
     pub(crate) fn at(at: u64, records: u32, raised: bool) -> Journal
-        requires few { records ≤ 1000000 }
+        requires few { records ≤ MOST_RECORDS }
         requires near { at + room_to_raise raised ≤ 5000000 + 264 * records }
         ensures place { result.at ≡ at }
         ensures records { result.records ≡ records }
@@ -106,7 +108,7 @@ impl Journal {
 
         // It doesn't give up by itself.
         ensures faults { IfErr result (λ e. (e ≡ JFault.Full) ⊎ (e ≡ JFault.DiskFault)) }
-        ensures full { IsErrOf result JFault.Full ↔ (self.old.records ≡ 1000000) }
+        ensures full { IsErrOf result JFault.Full ↔ (self.old.records ≡ MOST_RECORDS) }
         ensures full_keeps { IsErrOf result JFault.Full →
             (self.new ≡ self.old) × (disk.new ≡ disk.old) }
         // where the disk failed, it stands where it stood

@@ -4,6 +4,7 @@ ghost use Rattle.std.specs.Prelude.{◌≡◌, ◌<◌, ◌≤◌, ◌+◌, ◌^
 ghost use Rattle.std.specs.Prelude.{IsTrue, IsFalse, IsErrOf, length, drop, flat_map, All, IfOk};
 ghost use Rattle.std.specs.Prelude.{IfErr, OnOk, MatchResult};
 ghost use Rattle.std.specs.Option.{ForSome};
+ghost use Rattle.answer_journal.specs.Format.{MOST_RECORDS};
 ghost use Rattle.disk_model.specs.Disk.{Rose};
 ghost use Rattle.disk_model.specs.Moments.{IsOnlyRead};
 ghost use Rattle.answer_journal.specs.Records.{with_record, is_raised_by, MayFollow};
@@ -77,7 +78,7 @@ fn events_in(
     raised: &mut bool,
 ) -> Result<Reached, JFault>
     requires near { at < 2 ^ 63 }
-    requires few { length events.old.items < 1000000 }
+    requires few { length events.old.items < MOST_RECORDS }
     ensures read { (bytes more : List ℕ) (start : ℕ) (records : List Record) →
         AreRecordsRead records start at events.old.items raised.old →
         BeginsWith bytes records (piece.now ++ more) → (IsTrue is_last → more ≡ []) → MatchResult
@@ -86,7 +87,7 @@ fn events_in(
         AreRecordsRead records start at events.old.items raised.old → MatchResult result
         (λ reached. WereRead start (gate_reached reached) events.new.items raised.new)
         (λ e. (bytes : List ℕ) × EventsRefused start bytes e) }
-    ensures few { OnOk result (length events.new.items < 1000000) }
+    ensures few { OnOk result (length events.new.items < MOST_RECORDS) }
     ensures progress { (IsFalse is_last → 264 < length piece.now) → IfOk result (IsProgress at) }
     ensures far { IfOk result (IsFar is_last at (length piece.now)) }
     ensures undisturbed { IfErr result (λ e. e ≡ JFault.DiskFault → ⊥) }
@@ -112,12 +113,13 @@ fn events_in(
 /// Notes what a record says.
 fn note(next: Record, events: &mut Events, raised: &mut bool) -> Result<(), JFault>
     requires follows { MayFollow raised.old next }
-    requires few { length events.old.items < 1000000 }
+    requires few { length events.old.items < MOST_RECORDS }
     ensures events { OnOk result (events.new.items ≡ with_record events.old.items next) }
     ensures raised { OnOk result (raised.new ≡ is_raised_by raised.old next) }
-    ensures few { OnOk result (length events.new.items < 1000000) }
+    ensures few { OnOk result (length events.new.items < MOST_RECORDS) }
     ensures refused { IfErr result (λ e. (e ≡ JFault.Memory)
-        ⊎ ((e ≡ JFault.TooManyRecords) × (1000000 ≤ length (with_record events.old.items next)))) }
+        ⊎ ((e ≡ JFault.TooManyRecords)
+        × (MOST_RECORDS ≤ length (with_record events.old.items next)))) }
 {
     match next {
         Record::Added(event) => {

@@ -11,6 +11,7 @@ use Rattle.session_core.specs.Standing.{Stands, knowledge_of, open_in}
 use Rattle.session_core.specs.declared.session.Session.{Session}
 use Rattle.session_store.specs.Replay.{HavePlaces}
 use Rattle.session_store.specs.declared.held.Held.{Held}
+use Rattle.answer_journal.specs.Format.{MOST_RECORDS}
 
 -- the language, the plan and the question of a session that is there
 abbrev pub lang_in : Option Session → Language
@@ -59,6 +60,6 @@ IsWide events.Back = Unit {0}
 -- takes.
 pub record IsHeld (held : Held) : Type 0 where
   pub stands : StandsIn held.session held.events.items
-  pub few : length held.events.items < 1000000
+  pub few : length held.events.items < MOST_RECORDS
   pub wide : All IsWide held.events.items
   pub places : HavePlaces (lang_held held) (plan_held held) held.events.items

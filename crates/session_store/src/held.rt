@@ -3,6 +3,7 @@
 ghost use Rattle.std.specs.Prelude.{◌≡◌, ◌≢◌, ◌↔◌, ◌<◌, ◌+◌, ◌++◌, ◌∷◌, [], None, Some, IsSome};
 ghost use Rattle.std.specs.Prelude.{IsTrue, IfOk, OnOk, All, length};
 ghost use Rattle.std.specs.Option.{ForSome};
+ghost use Rattle.answer_journal.specs.Format.{MOST_RECORDS};
 ghost use Rattle.assign.specs.Events.{standing};
 ghost use Rattle.assign.specs.Assignment.{widened};
 ghost use Rattle.language.specs.Language.{IsQuestion};
@@ -32,7 +33,7 @@ pub(crate) struct Held {
 impl Held {
     pub(crate) fn new(session: Session, events: Events) -> Held
         requires stands { Stands session (standing_on (knowledge_of session).lang events.items) }
-        requires few { length events.items < 1000000 }
+        requires few { length events.items < MOST_RECORDS }
         requires storable { All IsStorableEvent events.items }
         requires places { HavePlaces (knowledge_of session).lang
             (knowledge_of session).plan events.items }
@@ -60,7 +61,7 @@ impl Held {
     /// Whether no further record fits a journal.
     pub(crate) fn is_full(&self) -> bool
         requires { IsHeld self.now }
-        ensures { IsTrue result ↔ (length (events_held self.now) + 1 ≡ 1000000) }
+        ensures { IsTrue result ↔ (length (events_held self.now) + 1 ≡ MOST_RECORDS) }
     {
         self.events.len() + 1 >= MOST_RECORDS as usize
     }
@@ -131,7 +132,7 @@ impl Held {
         requires fits { IsQuestion (lang_held self.old) question.now }
         requires is { ForSome (question_held self.old) (λ q. event.now ≡ answer_event q «yes») }
         requires storable { IsStorableEvent event.now }
-        requires few { length (events_held self.old) + 1 < 1000000 }
+        requires few { length (events_held self.old) + 1 < MOST_RECORDS }
         requires room { IsTrue self.old.events.has_room }
         ensures events { events_held self.new ≡ events_held self.old ++ event.now ∷ [] }
         ensures settled { IsSettled (lang_held self.new) (plan_held self.new)
@@ -177,7 +178,7 @@ impl Held {
         requires stands { standing (events_held self.old) ≢ [] }
         requires records { records.now
             ≡ standing_numbers (events_held self.old ++ Event.Back ∷ []) }
-        requires few { length (events_held self.old) + 1 < 1000000 }
+        requires few { length (events_held self.old) + 1 < MOST_RECORDS }
         requires room { IsTrue self.old.events.has_room }
         ensures events { events_held self.new ≡ events_held self.old ++ Event.Back ∷ [] }
         ensures settled { IsSettled (lang_held self.new) (plan_held self.new)

@@ -1,6 +1,7 @@
 ghost use Rattle.std.specs.Prelude.{◌≡◌, ◌≢◌, ◌<◌, All, ◌+◌, ◌↔◌, [], ℕ, Bool, List, Option, Some};
 ghost use Rattle.std.specs.Prelude.{None, OnOk, OnErr, IfErr, IsSome, IsTrue, IsFalse, length};
 ghost use Rattle.std.specs.Option.{ForSome};
+ghost use Rattle.answer_journal.specs.Format.{MOST_RECORDS};
 ghost use Rattle.assign.specs.Assignment.{Assignment};
 ghost use Rattle.assign.specs.Events.{standing};
 ghost use Rattle.assign.specs.declared.events.Event.{Event};
@@ -72,7 +73,7 @@ pub trait Keep<D: Disk> {
     /// Whether there are 1,000,000 records: that of the vocabulary, and one for each event.
     fn is_full(&self) -> bool
         requires { sound self.now }
-        ensures { IsTrue result ↔ (length (record_of self.now) + 1 ≡ 1000000) };
+        ensures { IsTrue result ↔ (length (record_of self.now) + 1 ≡ MOST_RECORDS) };
 
     fn is_live(&self) -> bool
         ensures { result ≡ live self.now };
@@ -98,7 +99,7 @@ pub trait Keep<D: Disk> {
         requires sound { sound self.old }
         requires put { IsSome (question self.old) }
         requires live { IsTrue (live self.old) }
-        requires room { length (record_of self.old) + 1 < 1000000 }
+        requires room { length (record_of self.old) + 1 < MOST_RECORDS }
         requires sits { sits self.old disk.old }
         ensures ok { ForSome (question self.old)
             (λ q. OnOk result (HasKept (lang self.new) (plan self.new) (record_of self.old)
@@ -128,7 +129,7 @@ pub trait Keep<D: Disk> {
         requires sound { sound self.old }
         requires stands { standing (record_of self.old) ≢ [] }
         requires live { IsTrue (live self.old) }
-        requires room { length (record_of self.old) + 1 < 1000000 }
+        requires room { length (record_of self.old) + 1 < MOST_RECORDS }
         requires sits { sits self.old disk.old }
         ensures ok { OnOk result (HasKept (lang self.new) (plan self.new) (record_of self.old)
             (record_of self.new) Event.Back (question self.new) (live self.new)) }
@@ -150,7 +151,7 @@ pub trait Keep<D: Disk> {
             (record_of self.old) Event.Back disk.old disk.new result };
 
     /// There are never more records than a journal takes.
-    ghost few: { (keep : Self) → sound keep → length (record_of keep) < 1000000 };
+    ghost few: { (keep : Self) → sound keep → length (record_of keep) < MOST_RECORDS };
 
     /// Each take-back finds an answer, and the answers that stand have their places.
     ghost places: { (keep : Self) → sound keep →

@@ -2,6 +2,7 @@
 
 ghost use Rattle.std.specs.Prelude.{◌≡◌, ◌≤◌, [], None, IfOk, IfErr, IfSome, IfNone, OnOk, All};
 ghost use Rattle.std.specs.Prelude.{length};
+ghost use Rattle.answer_journal.specs.Format.{MOST_RECORDS};
 ghost use Rattle.language.specs.Answers.{standing_on};
 ghost use Rattle.answer_journal.specs.Storable.{IsStorableEvent};
 ghost use Rattle.session_core.specs.Standing.{Stands, knowledge_of, open_in};
@@ -94,7 +95,7 @@ fn with_event(session: Session, event: &Event) -> Option<Session>
 ///
 /// `Stray` names the first take-back at which no answer stands.
 pub fn standing_records(alloc: Global, events: &Events) -> Result<Vec<u32>, SFault>
-    requires few { length events.now.items ≤ 1000000 }
+    requires few { length events.now.items ≤ MOST_RECORDS }
     ensures records { IfOk result (λ records. records.items ≡ standing_numbers events.now.items) }
     ensures found { OnOk result (empty_back events.now.items ≡ None) }
     ensures fault { IfErr result (NamesEmptyBack events.now.items) }
@@ -120,7 +121,7 @@ pub(crate) fn replay_records(
     records: &[u32],
 ) -> Result<Session, u32>
     requires wide { All IsWide events.now.items }
-    requires few { length events.now.items ≤ 1000000 }
+    requires few { length events.now.items ≤ MOST_RECORDS }
     requires records { records.now ≡ standing_numbers events.now.items }
     requires starts { Stands session [] }
     requires idle { open_in session ≡ None }
@@ -150,7 +151,7 @@ pub(crate) fn replay_records(
 /// The session after these events, or the number of the first record that has no place.
 pub(crate) fn replay(alloc: Global, session: Session, events: &Events) -> Result<Session, SFault>
     requires storable { All IsStorableEvent events.now.items }
-    requires few { length events.now.items ≤ 1000000 }
+    requires few { length events.now.items ≤ MOST_RECORDS }
     requires starts { Stands session [] }
     requires idle { open_in session ≡ None }
     ensures lang { IfOk result (λ next. (knowledge_of next).lang ≡ (knowledge_of session).lang) }

@@ -2,6 +2,7 @@ ghost use Rattle.std.specs.Prelude.{◌≡◌, ◌≤◌, ◌<◌, ◌+◌, ◌�
 ghost use Rattle.std.specs.Prelude.{MatchResult, OnOk, IsTrue, IsFalse, All, Some, None, true};
 ghost use Rattle.std.specs.Prelude.{length};
 ghost use Rattle.std.specs.Option.{ForSome};
+ghost use Rattle.answer_journal.specs.Format.{MOST_RECORDS, MOST_VOCABULARY};
 ghost use Rattle.language.specs.Answers.{standing_on};
 ghost use Rattle.disk_model.specs.Disk.{Rose};
 ghost use Rattle.disk_model.specs.Moments.{LeavesBehind, IsOnlyRead};
@@ -50,7 +51,7 @@ pub struct Store {
 fn language_of(alloc: Global, voc: &[u8]) -> Result<Language, SFault>
     ensures read { IfOk result (λ l. IsVocabulary voc.now l) }
     ensures taken { OnOk result (refusal_of_vocabulary voc.now ≡ None) }
-    ensures short { OnOk result (length voc.now ≤ 4194304) }
+    ensures short { OnOk result (length voc.now ≤ MOST_VOCABULARY) }
     ensures refused { IfErr result (NoLanguage voc.now) }
 {
     match read_vocabulary(alloc, voc) {
@@ -69,7 +70,7 @@ fn new_session(alloc: Global, plan: Plan, voc: &[u8]) -> Result<(Held, Vec<u8>),
     ensures idle { IfOk result (λ made. question_held made.0 ≡ None) }
     ensures voc { IfOk result (λ made. made.1.items ≡ voc.now) }
     ensures taken { OnOk result (refusal_of_vocabulary voc.now ≡ None) }
-    ensures short { OnOk result (length voc.now ≤ 4194304) }
+    ensures short { OnOk result (length voc.now ≤ MOST_VOCABULARY) }
     ensures refused { IfErr result (NoLanguage voc.now) }
 {
     let lang = language_of(alloc, voc)?;
@@ -81,7 +82,7 @@ fn new_session(alloc: Global, plan: Plan, voc: &[u8]) -> Result<(Held, Vec<u8>),
 /// The session to which events lead, of this plan and vocabulary.
 fn led_session(alloc: Global, plan: Plan, voc: &[u8], events: &Events) -> Result<Session, SFault>
     requires storable { All IsStorableEvent events.now.items }
-    requires few { length events.now.items ≤ 1000000 }
+    requires few { length events.now.items ≤ MOST_RECORDS }
     ensures read { IfOk result (λ session. IsVocabulary voc.now (knowledge_of session).lang) }
     ensures plan { IfOk result (λ session. (knowledge_of session).plan ≡ plan) }
     ensures stands { IfOk result
@@ -227,7 +228,7 @@ fn raised<D: Disk>(journal: &mut Journal, disk: &mut D) -> Result<(), JFault>
 /// Adds a take-back, after the journal was raised where it wasn't.
 fn append_back<D: Disk>(journal: &mut Journal, disk: &mut D) -> Result<(), JFault>
     requires there { IsInPlace D.Disk journal.old disk.old }
-    requires room { journal.old.records < 1000000 }
+    requires room { journal.old.records < MOST_RECORDS }
     ensures leaves { LeavesBehind D.Disk (4 + calls_to_raise journal.old.raised) disk.old disk.new
         result (λ old. HasNew old Event.Back) (λ old. IsOldOrNew old Event.Back) }
     ensures there { OnOk result (IsInPlace D.Disk journal.new disk.new) }
