@@ -1,6 +1,7 @@
 //! What is shown of a session.
 
-ghost use Rattle.std.specs.Prelude.{◌≡◌, ◌++◌, ◌<◌, List, All, codes, filter, if◌then◌else◌};
+ghost use Rattle.std.specs.Prelude.{◌≡◌, ◌++◌, ◌<◌, ◌∷◌, [], List, All, codes, filter};
+ghost use Rattle.std.specs.Prelude.{if◌then◌else◌};
 ghost use Rattle.std.specs.Prelude.{length, IfOk, OnOk};
 ghost use Rattle.std.specs.String.{string_bytes};
 ghost use Rattle.assign.specs.Events.{Answer};
@@ -40,10 +41,11 @@ fn plan_word(plan: Plan) -> &'static str
     }
 }
 
-fn said_word(yes: bool) -> &'static str
-    ensures { result.now ≡ (if «yes» then codes "yes" else codes "no") }
+/// What follows a question on the line of its answer.
+fn line_end(yes: bool) -> &'static str
+    ensures { result.now ≡ 32 ∷ ((if «yes» then codes "yes" else codes "no") ++ 10 ∷ []) }
 {
-    if yes { "yes" } else { "no" }
+    if yes { " yes\n" } else { " no\n" }
 }
 
 /// Where a session stands. None of its questions is new.
@@ -62,10 +64,10 @@ fn state_word(session: &Session) -> &'static str
     }
 }
 
-/// Adds the line of an answer.
+/// Adds the line of an answer. In `room` the question's text is made; what it held is lost.
 fn push_answer(
-    alloc: Global,
     text: &mut String,
+    room: &mut String,
     lang: &Language,
     k: u32,
     question: &Partial,
@@ -76,18 +78,16 @@ fn push_answer(
         ++ answer_line lang.now k (seen (variable_count lang.now) (answer_to question.now «yes»))) }
 {
     let cut = question.cut_to(lang.n());
-    let line = lang.question_text(alloc, k, &cut)?;
-    let said = said_word(yes);
-    match write!(text, "{line} {said}\n") {
-        Ok(()) => Ok(()),
-        Err(_) => Err(Memory),
-    }
+    lang.write_question(room, k, &cut)?;
+    text.push_str(room)?;
+    text.push_str(line_end(yes))?;
+    Ok(())
 }
 
-/// Adds the line of an event, which is an answer.
+/// Adds the line of an event, which is an answer. In `room` the question's text is made.
 fn push_event(
-    alloc: Global,
     text: &mut String,
+    room: &mut String,
     lang: &Language,
     k: u32,
     event: &Event,
@@ -98,31 +98,32 @@ fn push_event(
         ++ answer_line lang.now k (seen (variable_count lang.now) (answer_in event.now))) }
 {
     match event {
-        Event::Answer { question, yes } => push_answer(alloc, text, lang, k, question, *yes),
+        Event::Answer { question, yes } => push_answer(text, room, lang, k, question, *yes),
         Event::Back => unreachable!(),
     }
 }
 
-/// The lines of the answers that stand, whose records these are, in order.
-fn event_lines(
+/// Adds the lines of the answers that stand, whose records these are, in order.
+fn push_events(
     alloc: Global,
+    text: &mut String,
     lang: &Language,
     events: &Events,
     records: &[u32],
-) -> Result<String, Memory>
+) -> Result<(), Memory>
     requires wide { All IsWide events.now.items }
     requires few { length events.now.items < 1000000 }
     requires records { records.now ≡ standing_numbers events.now.items }
-    ensures { IfOk result (λ text.
-        string_bytes text ≡ answer_lines lang.now 1 (standing_on lang.now events.now.items)) }
+    ensures { OnOk result (string_bytes text.new ≡ string_bytes text.old
+        ++ answer_lines lang.now 1 (standing_on lang.now events.now.items)) }
 {
-    let mut text = String::new(alloc);
+    let mut room = String::new(alloc);
     for (i, record) in records.iter().enumerate() {
         let place = *record as usize - 1;
         let event = events.get(place);
-        push_event(alloc, &mut text, lang, i as u32 + 1, &event)?;
+        push_event(text, &mut room, lang, i as u32 + 1, &event)?;
     }
-    Ok(text)
+    Ok(())
 }
 
 /// How many take-backs there are.
@@ -166,26 +167,24 @@ fn show_text(alloc: Global, session: &Session, events: &Events) -> Result<String
     let Ok(records) = standing_records(alloc, events) else {
         return Err(Memory);
     };
-    let Ok(lines) = event_lines(alloc, lang, events, &records) else {
+    let Ok(mut text) = format!(in alloc; "plan {plan}\n") else {
         return Err(Memory);
     };
+    push_events(alloc, &mut text, lang, events, &records)?;
     let Ok(backs) = back_line(alloc, take_backs(events)) else {
         return Err(Memory);
     };
     let answers = session.answers();
+    let Ok(()) = write!(text, "answers {answers}\n{backs}") else {
+        return Err(Memory);
+    };
     let learned = session.network();
     let count = learned.len();
     let Ok(network) = network_text(alloc, lang, learned) else {
         return Err(Memory);
     };
     let state = state_word(session);
-    let Ok(said) = format!(in alloc; "plan {plan}\n{lines}answers {answers}\n{backs}") else {
-        return Err(Memory);
-    };
-    let Ok(known) = format!(in alloc; "learned {count}\n{network}state {state}\n") else {
-        return Err(Memory);
-    };
-    let Ok(text) = format!(in alloc; "{said}{known}") else {
+    let Ok(()) = write!(text, "learned {count}\n{network}state {state}\n") else {
         return Err(Memory);
     };
     Ok(text)

@@ -1,7 +1,7 @@
-use Rattle.acq_said.proofs.Prelude.{◌≡◌, ◌≤◌, ◌<◌, ◌∙◌, ◌+◌, ◌++◌, [], sym, ap, subst, List, ℕ, take, length, arith, length-map, take_all, All-get_or, Event, variable_count, IsWide, Recorded, all_seen, recorded, seen, answer_in, standing_numbers, record_at, recorded_seen, answer_line, answer_lines}
+use Rattle.acq_said.proofs.Prelude.{◌≡◌, ◌≤◌, ◌<◌, ◌∙◌, ◌+◌, ◌++◌, [], sym, ap, subst, List, ℕ, take, length, arith, append_assoc, string_bytes, length-map, take_all, All-get_or, Event, variable_count, IsWide, Recorded, all_seen, recorded, seen, answer_in, standing_numbers, record_at, recorded_seen, answer_line, answer_lines}
 use Rattle.assign.specs.declared.events.Event.TheVariants as event
 use Rattle.acq_said.proofs.Showing.{few_recorded, is_answer, lines_next, no_record}
-use Rattle.acq_said.proofs.shows.event_lines.Goals as goal
+use Rattle.acq_said.proofs.shows.push_events.Goals as goal
 
 few_numbers : (events : List Event) (numbers : List ℕ) (i : ℕ) → numbers ≡ standing_numbers events → i < length numbers → length events < 1000000 → i < 1000000
 few_numbers events numbers i is low few =
@@ -43,9 +43,12 @@ loop-i-preserved c =
     let events : List Event = c.args.events.now.items in
     let line : Event → List ℕ = λ e. answer_line l (c.loop-i.i + 1) (seen (variable_count l) (answer_in e)) in
     let at = record_at events c.args.records.now c.loop-i.i 0 c.get-event.result no_record c.requires.records c.loop-i-test.true in
+    let before : List ℕ = string_bytes c.args.text.now in
+    let lines : List ℕ = answer_lines l 1 (all_seen (variable_count l) (take c.loop-i.i (recorded events))) in
     c.in_ok-push_event.ensures ∙ ap (λ x. x ++ line c.get-event.result) c.loop-i.invariant
-    ∙ ap (λ e. answer_lines l 1 (all_seen (variable_count l) (take c.loop-i.i (recorded events))) ++ line e) (c.get-event.ensures ∙ at.event)
-    ∙ sym (lines_next l (recorded events) c.loop-i.i no_record at.few)
+    ∙ append_assoc before lines (line c.get-event.result)
+    ∙ ap (λ e. before ++ (lines ++ line e)) (c.get-event.ensures ∙ at.event)
+    ∙ ap (λ x. before ++ x) (sym (lines_next l (recorded events) c.loop-i.i no_record at.few))
 
 pub returns : goal.returns
 returns c =
@@ -53,4 +56,4 @@ returns c =
     let events : List Event = c.args.events.now.items in
     let all : List Recorded = recorded events in
     let whole : length all ≤ c.loop-i.i = (let end = c.loop-i-test.false in let size = ap (λ (ns : List ℕ). length ns) c.requires.records ∙ length-map all (λ (r : Recorded). r.number) in omega (arith, end, size)) in
-    c.loop-i.invariant ∙ ap (λ rs. answer_lines l 1 (all_seen (variable_count l) rs)) (take_all c.loop-i.i all whole) ∙ ap (answer_lines l 1) (recorded_seen l events)
+    c.loop-i.invariant ∙ ap (λ x. string_bytes c.args.text.now ++ x) (ap (λ rs. answer_lines l 1 (all_seen (variable_count l) rs)) (take_all c.loop-i.i all whole) ∙ ap (answer_lines l 1) (recorded_seen l events))
