@@ -16,8 +16,8 @@ Lower crates come first. The libraries below a crate have to be built. For each 
 A crate that isn't proved in the end has its old proofs again. A line for each crate has the lines
 (no blanks, no comments) and the answers of its proofs, before and after, and how many functions
 cost more. FOLDER has the outputs of the checks, as CRATE.STEP. Where CRATE.open lies there from an
-earlier call, the work goes on from it, with the old proofs in CRATE.proofs. Other work on the
-machine makes costs longer, so that less is taken out.
+earlier call, the work goes on from it, with the old proofs in CRATE.proofs. Costs are processor
+seconds by and large, so other work on the machine matters little.
 
 Exit status: 0, or 1 where a crate isn't proved, at first or in the end.
 """
@@ -25,6 +25,7 @@ import argparse
 import collections
 import os
 import re
+import resource
 import shutil
 import subprocess
 import sys
@@ -114,7 +115,8 @@ class Crate:
         self.folder = os.path.join(TOP, "crates", name)
         self.proofs = os.path.join(self.folder, "proofs")
         self.saved = os.path.join(logs, name + ".proofs")
-        self.starts: list[float] = []
+        # Of each call of rt its start, its end, and how much of the time was a processor's.
+        self.calls: list[tuple[float, float, float]] = []
         if os.path.exists(self.log("open")):
             self.put_back()
         else:
@@ -186,18 +188,20 @@ class Crate:
 
     def call(self, step: str, command: str, *flags: str) -> str:
         """What a command of rt says of the crate."""
-        self.starts.append(time.time())
+        start, used = time.time(), children_seconds()
         with open(self.log(step), "w+", encoding="utf-8") as file:
             words = ["rt", command, *flags, "--jobs", str(self.jobs)]
             subprocess.run(words, cwd=self.folder, stdout=file, stderr=file, check=False)
+            end, part = time.time(), children_seconds() - used
+            self.calls.append((start, end, part / self.jobs / (end - start)))
             file.seek(0)
             return file.read()
 
     def costs(self) -> dict[str, float]:
         """Seconds that went into what depends on the answers, by function (its path with dots).
 
-        A kept file's time says when it was done, so it cost what passed since the one before it. Of
-        what was done first in a check the cost isn't known.
+        A kept file's time says when it was done, so it cost what passed since the one before it,
+        times the part that was a processor's. Of what was done first in a check it isn't known.
         """
         room = os.path.join(self.folder, "out", "incremental")
         files = sorted(
@@ -209,8 +213,9 @@ class Crate:
         costs: dict[str, float] = collections.defaultdict(float)
         for (before, _), (at, name) in zip(files, files[1:]):
             if found := DEPENDENT.match(name):
-                is_first = any(before < it <= at for it in self.starts)
-                costs[found[1]] += 0.0 if is_first else at - before
+                if not any(before < start <= at for start, _, _ in self.calls):
+                    parts = [part for start, end, part in self.calls if start <= at <= end]
+                    costs[found[1]] += (at - before) * (parts[0] if parts else 1.0)
         return costs
 
     def dear(self, before: dict[str, float], after: dict[str, float]) -> dict[str, str]:
@@ -223,6 +228,12 @@ class Crate:
                 if old and new > old + LEAST_SECONDS and new > old * (1 + LEAST_PART):
                     found[function] = f"{old:.1f} s, {new:.1f} s without"
         return found
+
+
+def children_seconds() -> float:
+    """Processor seconds of the calls that have ended."""
+    used = resource.getrusage(resource.RUSAGE_CHILDREN)
+    return used.ru_utime + used.ru_stime
 
 
 def open_goals(said: str) -> dict[str, list[str]]:
