@@ -25,6 +25,7 @@ use std::alloc::{AllocError, Global};
 /// the first write. Where the file was longer, its old bytes stay behind the new end; nothing is
 /// cut off. After `DiskFault` a file that had no session may have none or the new one, and any
 /// other is as it was.
+#[tactic(auto, using(shared_lemmas::proofs::Read::none_given))]
 pub fn create<D: Disk>(
     alloc: Global,
     disk: &mut D,

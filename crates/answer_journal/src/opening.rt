@@ -41,6 +41,7 @@ const PIECE: usize = 4_194_311;
 /// The file is read in pieces of at most 4,194,311 bytes, and whole records at a time are taken
 /// from them. Each question that is given has 128 options; that its values are ones that the
 /// vocabulary has isn't judged here.
+#[tactic(auto, using(shared_lemmas::proofs::Read::none_given))]
 pub fn open<D: Disk>(alloc: Global, disk: &mut D) -> Result<Opened, JFault>
     // What is read is what the bytes say, and the journal stands behind it.
     ensures opened { ForSome (D.content disk.old)

@@ -5,9 +5,6 @@ use Rattle.answer_journal.proofs.decode.answer_of.Goals as goal
 pub returns-in_err-question-clause-none : goal.returns-in_err-question-clause-none
 returns-in_err-question-clause-none c = rw c.from_residual-in_err-question.ensures (answer_none c.args.payload.now c.in_err-question.ensures)
 
-pub valued_count-requires : goal.valued_count-requires
-valued_count-requires c = let size = (options_sound 128 0 _ c.in_ok-question.question (sym c.in_ok-question.ensures)).size in omega (arith, size)
-
 pub returns-then-valued_count-count-clause-none : goal.returns-then-valued_count-count-clause-none
 returns-then-valued_count-count-clause-none c = answer_other c.args.payload.now c.in_ok-question.question c.valued_count.result c.in_ok-question.ensures c.valued_count.ensures c.if-valued_count-count.true
 

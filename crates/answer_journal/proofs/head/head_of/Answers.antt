@@ -30,21 +30,3 @@ returns-clause-only_read g c =
     let synced = read_more D c.args.disk.now c.args.disk.now c.sync.new.self none c.sync.ensures.same c.sync.ensures.crash c.sync.ensures.time c.sync.ensures.cause.later in
     let sized = read_more D c.args.disk.now c.sync.new.self c.len.new.self synced c.len.ensures.same c.len.ensures.crash c.len.ensures.time c.len.ensures.cause.later in
     read_more D c.args.disk.now c.len.new.self c.read.new.self sized c.read.ensures.same c.read.ensures.crash c.read.ensures.time c.read.ensures.cause.later
-
-pub returns-then-size-le9-clause-durable : goal.returns-then-size-le9-clause-durable
-returns-then-size-le9-clause-durable g c = search rules
-
-pub returns-then-size-le9-clause-synced : goal.returns-then-size-le9-clause-synced
-returns-then-size-le9-clause-synced g c = search rules
-
-pub returns-in_err-size-clause-synced : goal.returns-in_err-size-clause-synced
-returns-in_err-size-clause-synced g c = search rules
-
-pub returns-in_err-read-clause-synced : goal.returns-in_err-read-clause-synced
-returns-in_err-read-clause-synced g c = search rules
-
-pub returns-clause-durable : goal.returns-clause-durable
-returns-clause-durable g c = search rules
-
-pub returns-clause-synced : goal.returns-clause-synced
-returns-clause-synced g c = search rules

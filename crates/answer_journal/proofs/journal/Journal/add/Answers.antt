@@ -8,9 +8,6 @@ use Rattle.answer_journal.proofs.journal.Journal.add.Goals as goal
 pub add_record-requires-clause-closed : goal.add_record-requires-clause-closed
 add_record-requires-clause-closed g c old told = rw (ap (λ p. p.at) c.self.view_is) (closed_here c.args.self.now old (c.requires.there.sits old told))
 
-pub add_record-requires-clause-durable : goal.add_record-requires-clause-durable
-add_record-requires-clause-durable g c old told = c.requires.there.durable old told
-
 pub returns-in-Ok-clause-leaves : goal.returns-in-Ok-clause-leaves
 returns-in-Ok-clause-leaves g c =
     let place = c.args.self.now in
@@ -76,6 +73,3 @@ returns-in-Ok-clause-there g c = record {
       let s = c.in-Ok.ensures.leaves.now was.0 was.1 in
       subst (λ (f : List ℕ). Only f (g.D.Disk.may_leave c.add_record.new.disk)) (told_same _ s.now x s.tells told_new) s.durable;
 }
-
-pub returns-in-Err-clause-stays : goal.returns-in-Err-clause-stays
-returns-in-Err-clause-stays g c = search rules
