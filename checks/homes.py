@@ -33,7 +33,6 @@ SAME = {
 # Words that mean something else in each crate, and why that is clear.
 OWN = {
     "IsSound": "what holds of each value of a type, as the library calls it",
-    "masks_of": "the masks of what it is applied to: what is left on each scope, sets of values",
     "seen": "what is seen of a type's fields, as the library calls it",
     "values_of": "the values of what it is applied to: an assignment, a variable, a table",
     "widened": "an assignment gets more variables, a relation more tuples",

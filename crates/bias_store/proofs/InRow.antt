@@ -33,6 +33,15 @@ word_passes q relations accepting masks shown first second from count left word 
 pub word_within : (masks : List ℕ) (from count left word j : ℕ) → IsLeftFrom masks from count left → is_one (bit_and left word) j ≡ true → j < count
 word_within masks from count left word j is on = is.within j ((and_parts (is_one left j) (is_one word j) (sym (is_one-and left word j) ∙ on)).0)
 
+-- and where it is one the question gives the second variable a value
+pub word_asked : (q : Assignment) (shown : List ℕ) (second from left word j : ℕ) → shown ≡ variables_of q → j < 64 → second + (from + j) < 128 →
+    ((j : ℕ) → j < 64 → is_one word j ≡ has shown (second + from + j)) → is_one (bit_and left word) j ≡ true → is_some (value_of q (second + (from + j))) ≡ true
+word_asked q shown second from left word j all low fits bits on =
+    let there : has (variables_of q) (second + (from + j)) ≡ true =
+    ap (λ v. has (variables_of q) v) (let e : second + (from + j) ≡ second + from + j = omega arith in e) ∙ sym (ap (λ xs. has xs (second + from + j)) all) ∙ sym (bits j low)
+    ∙ (and_parts (is_one left j) (is_one word j) (sym (is_one-and left word j) ∙ on)).1 in
+    sym (has-set_where (λ v. is_some (value_of q v)) (second + (from + j)) fits) ∙ there
+
 -- ---- the least one of a word
 
 module _ (word at others : ℕ) (least : IsLeastOne word at others) where
@@ -41,24 +50,24 @@ module _ (word at others : ℕ) (least : IsLeastOne word at others) where
 
   gone : is_one others at ≡ false
   gone =
-      ap (λ m. is_one m at) least.rest ∙ is_one-and_not word (2 ^ at) at (pow_below at 64 least.within) least.within
+      ap (λ m. is_one m at) least.without ∙ is_one-and_not word (2 ^ at) at (pow_below at 64 least.within) least.within
       ∙ (λ i. is_one word at && not ((is_one-pow at at ∙ eq-eqb at at refl) i)) ∙ and-false (is_one word at)
 
   same : (j : ℕ) → j < 64 → j ≢ at → is_one others j ≡ is_one word j
   same j low apart =
-      ap (λ m. is_one m j) least.rest ∙ is_one-and_not word (2 ^ at) j (pow_below at 64 least.within) low
+      ap (λ m. is_one m j) least.without ∙ is_one-and_not word (2 ^ at) j (pow_below at 64 least.within) low
       ∙ (λ i. is_one word j && not ((is_one-pow at j ∙ ne_eqb at j (λ e. apart (sym e))) i)) ∙ and-true (is_one word j)
 
   -- fewer ones are left
   pub others_less : others < word
   others_less =
-      let most : others ≤ word = subst (λ m. m ≤ word) (sym least.rest) (and_le_l word (bit_not w64 (2 ^ at))) in
+      let most : others ≤ word = subst (λ m. m ≤ word) (sym least.without) (and_le_l word (bit_not w64 (2 ^ at))) in
       let apart : others ≢ word = (λ e. let on : is_one others at ≡ true = ap (λ m. is_one m at) e ∙ there in let off = gone in absurd (cc)) in
       omega arith
 
   -- which the word has too
   pub others_within : (j : ℕ) → is_one others j ≡ true → is_one word j ≡ true
-  others_within j on = (and_parts (is_one word j) (is_one (bit_not w64 (2 ^ at)) j) (sym (is_one-and word (bit_not w64 (2 ^ at)) j) ∙ sym (ap (λ m. is_one m j) least.rest) ∙ on)).0
+  others_within j on = (and_parts (is_one word j) (is_one (bit_not w64 (2 ^ at)) j) (sym (is_one-and word (bit_not w64 (2 ^ at)) j) ∙ sym (ap (λ m. is_one m j) least.without) ∙ on)).0
 
   module _ (q : Assignment) (relations accepting : List ℕ) (second from count violated : ℕ) (few : count ≤ 64) (is : AreNoneBut q relations accepting second from count word)
       (here : (value : ℕ) → value_of q (second + (from + at)) ≡ Some value → ones_of violated ≡ violated_at relations accepting (from + at) value) where
