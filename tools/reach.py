@@ -36,7 +36,7 @@ def module(path):
     parts, name, kind = {}, None, None
     for line in text.splitlines():
         code = line.split("-- ")[0] if not line.lstrip().startswith("--") else ""
-        head = re.match(rf"^\s*(?:pub )?(abbrev|record|inductive|data)(?: pub)? ({WORD})", code)
+        head = re.match(rf"^\s*(?:pub )?(unfoldable|abbrev|record|inductive|data)(?: pub)? ({WORD})", code)
         if head:
             kind, name = head.group(1), head.group(2)
             parts.setdefault(name, "")
