@@ -57,8 +57,7 @@ impl Calls for Trials {
         match call {
             "random-searches" => searches::random(alloc, arguments, false),
             "wide-searches" => searches::random(alloc, arguments, true),
-            "random-questions" => questions::random(alloc, arguments, false),
-            "random-budgets" => questions::random(alloc, arguments, true),
+            "random-questions" => questions::random(alloc, arguments),
             "halves" => halving::halves(alloc, arguments),
             "finds" => halving::finds(alloc, arguments),
             "finds-each" => halving::finds_each(alloc, arguments),

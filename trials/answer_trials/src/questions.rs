@@ -100,30 +100,6 @@ fn is_open_as_listed(lang: &Language, screen: &Screen, listed: &[(Candidate, Out
     true
 }
 
-/// Whether the search of each possible candidate that is open is spent by the plain list.
-fn are_open_spent(
-    alloc: Global,
-    lang: &Language,
-    screen: &Screen,
-    kept: &Kept,
-    net: &Network,
-    all: &[Vec<u8>],
-    budget: u32,
-) -> Option<bool> {
-    for scope in 0..lang.scopes() as u16 {
-        for rel in 0..4 {
-            let c = Candidate { scope, rel };
-            if kept.is_kept(c)
-                && screen.is_open(c)
-                && outcome_of(alloc, lang, net.list(), c, all, budget)? != Outcome::Spent
-            {
-                return Some(false);
-            }
-        }
-    }
-    Some(true)
-}
-
 /// The next question, and whether it, and what is open where nothing is decided, are those of the
 /// plain list.
 fn compare(
@@ -213,8 +189,7 @@ fn read(lang: &Language, e: &Partial) -> Partial {
     question
 }
 
-/// A few questions with one screen, and what changes between them. Each has a budget of its own
-/// where budgets are drawn, and is followed by a look at what is open.
+/// A few questions with one screen, and what changes between them.
 fn turns(
     alloc: Global,
     numbers: &mut Numbers,
@@ -222,21 +197,14 @@ fn turns(
     lang: &Language,
     kept: &mut Kept,
     net: &mut Network,
-    first_budget: u32,
-    are_drawn: bool,
+    budget: u32,
     all: &[Vec<u8>],
     tally: &mut Tally,
 ) -> Option<()> {
-    let mut budget = first_budget;
     let mut work = Work::new(alloc, lang).ok()?;
     'turns: for _ in 0..6 {
         let (query, is_same) = compare(alloc, &mut work, screen, lang, kept, net, budget, all)?;
-        if are_drawn {
-            tally.take(is_same && are_open_spent(alloc, lang, screen, kept, net, all, budget)?);
-            budget = 1 + numbers.below(8) as u32;
-        } else {
-            tally.take(is_same);
-        }
+        tally.take(is_same);
         change(numbers, screen, lang, kept, net, budget, query);
     }
     Some(())
@@ -249,7 +217,6 @@ fn begun(
     lang: &Language,
     kept: &mut Kept,
     budget: u32,
-    are_drawn: bool,
     all: &[Vec<u8>],
     tally: &mut Tally,
 ) -> Option<()> {
@@ -266,35 +233,31 @@ fn begun(
         kept,
         &mut net,
         budget,
-        are_drawn,
         all,
         tally,
     )
 }
 
 /// The same over some language.
-fn session(alloc: Global, numbers: &mut Numbers, are_drawn: bool, tally: &mut Tally) -> Option<()> {
+fn session(alloc: Global, numbers: &mut Numbers, tally: &mut Tally) -> Option<()> {
     let lang = some_language(alloc, numbers)?;
     let all = prefixes(alloc, lang.n(), lang.d())?;
     let budget = 1 + numbers.below(8) as u32;
     let Ok(mut kept) = Kept::of(alloc, &lang) else {
         return None;
     };
-    begun(
-        alloc, numbers, &lang, &mut kept, budget, are_drawn, &all, tally,
-    )
+    begun(alloc, numbers, &lang, &mut kept, budget, &all, tally)
 }
 
-/// A first number, and how many languages: so many questions beside the plain list, each under the
-/// budget of the first one or under a drawn one.
-pub(crate) fn random(alloc: Global, arguments: &str, are_drawn: bool) -> Option<String> {
+/// A first number, and how many languages: so many questions beside the plain list.
+pub(crate) fn random(alloc: Global, arguments: &str) -> Option<String> {
     let mut words = arguments.split_whitespace();
     let mut numbers = Numbers::new(number(&mut words)?);
     let count = number::<u32>(&mut words)?;
     end(&mut words)?;
     let mut tally = Tally::new();
     for _ in 0..count {
-        session(alloc, &mut numbers, are_drawn, &mut tally)?;
+        session(alloc, &mut numbers, &mut tally)?;
     }
     tally.text(alloc)
 }
