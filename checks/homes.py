@@ -43,7 +43,7 @@ TWICE = {
     "and_true": "the library's `and-true` takes its place where a crate is next changed",
 }
 # What the checker of certificates has in common with the learner: what a vocabulary says, and how text is read.
-SHARED = {"shared_lemmas", "assign", "line_text", "rel_table", "rel_formula", "language", "voc_read"}
+SHARED = {"shared_lemmas", "assign", "line_text", "rel_table", "rel_formula", "language", "language_laws", "voc_read"}
 NAME = r"[A-Za-z_][\w'\-]*"
 DEFINED = re.compile(rf"(?: *(?:abbrev|unfoldable) pub|(?: *pub (?:record|data))|pub) ({NAME})(?= ).*:")
 STATED = re.compile(rf"(?:pub )?({NAME}) : (.*)")

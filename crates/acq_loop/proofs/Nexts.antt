@@ -1,9 +1,9 @@
 -- What comes next in a session.
 use Rattle.acq_loop.proofs.Prelude.{same_state, ◌≡◌, ℕ, true, List, length, refl, sym, ◌∙◌, ap, Option, Some, None, ◌≢◌, is_some, not, option_map, and_parts, numbers, Assignment, Answer, Plan, Scopes, Candidate, Language, IsLanguage, IsNetwork, IsCovered, has_scope, kept, find_some, next_query, State, Idle, Over, At, is_just, is_lawful, is_undecided, next_scope, scope_question, state_after, WalkEnd, network_in, assignment_same, implied_is_covered, over_means_none, idle_is_in_step, Knowledge, Session, Stands, Knows, IsAskedIn, knowledge_of, open_in, question_put, IsSettled, IsLawfulAfter, Terms, terms_with, Next, Puts, Ends, Converged, Collapsed, searched, idle_next, next_in, next_after, IsDone, IsCollapsed, IsLeftOpen, NextIs, answers_are_few}
 use Rattle.acq_loop.proofs.Short.{puts_or, there_is}
-use Rattle.language.proofs.Covered.{covered_converged}
-use Rattle.language.specs.TellingApart.{splitting_tuple}
-use Rattle.language.specs.Scenes.{scene_of, on_scope, free_choices}
+use Rattle.language_laws.proofs.Covered.{covered_converged}
+use Rattle.language_laws.specs.TellingApart.{splitting_tuple}
+use Rattle.language_laws.specs.Scenes.{scene_of, on_scope, free_choices}
 use Rattle.query_gen.specs.declared.query.Query.TheVariants as query
 use Rattle.session_laws.proofs.ScopeByScope.{scopes_are_covered, scopes_never_over}
 use Rattle.session_core.specs.declared.session.Asking as askings

@@ -1,6 +1,6 @@
 -- What the next question's search says of a session.
 use Rattle.acq_loop.proofs.Prelude.{◌≡◌, ◌≢◌, refl, ℕ, true, List, Option, ◌∙◌, ap, IsTrue, Any, All-filter, list_any_at, and_from, Assignment, Answer, Plan, Scopes, Candidate, Language, IsLanguage, IsCandidate, IsQuestion, candidates, violates, IsNetwork, kept, Ask, next_query, AskedIsLawful, AllAreImplied, UndecidedIsSpent, MarksStay, Idle, At, is_lawful, state_after, WalkEnd, violates_some, all_candidates, idle_is_in_step}
-use Rattle.language.proofs.Ranged.{question_passes}
+use Rattle.language_laws.proofs.Ranged.{question_passes}
 use Rattle.fd_solver.specs.Laws.{IsQuestionAgainst}
 use Rattle.fd_solver.proofs.Outcomes.{absent_is_implied, absent_stays, found_is_lawful}
 use Rattle.fd_solver.proofs.Outcomes as outcomes

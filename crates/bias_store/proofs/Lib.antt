@@ -17,3 +17,5 @@ pub mod Violating
 pub mod Striking
 pub mod Within
 pub mod RowMasks
+mod Whole
+mod Alike

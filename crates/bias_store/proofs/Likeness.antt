@@ -10,7 +10,7 @@ use Rattle.language.specs.Ranges.{is_in, range_in, are_in}
 use Rattle.language.proofs.Beside.{tuple_fits}
 use Rattle.language.proofs.PairOrders.{in_pair}
 use Rattle.language.proofs.OneLanguage.{one_closing}
-use Rattle.language.proofs.Plain.{length-tuple_on}
+use Rattle.language.proofs.Beside.{length-tuple_on}
 use Rattle.language.proofs.Within.{all_within, wholes_from}
 use Rattle.bias_store.specs.Made.{HasTables, HasMasksAt}
 use Rattle.bias_store.proofs.PairPlaces.{first_below}

@@ -1,6 +1,6 @@
 -- Tables of masks, made one place after another and one scope after another.
 use Rattle.bias_store.proofs.Prelude.{◌≡◌, ℕ, ◌+◌, ◌*◌, ◌^◌, ◌<◌, ◌≤◌, ◌≢◌, true, false, List, [], ◌∷◌, ◌++◌, length, get_or, refl, sym, ◌∙◌, ap, subst, arith, inl, inr, ◌⊎◌, length-append, replicate, get_or-set_same, get_or-set_other, slice_set, filter, cases_eq, get_or_append_left, get_or_push, length-set, length-replicate, get_or-replicate, All-append, All-cons, All-nil, numbers, Language, IsLanguage, scope_at, is_whole, ones_of, Accepts, places_on, mask_in, AreRunsFrom, AreRowsFrom, IsAcceptingOf, AreAdded, IsTableOf, NO_TABLE}
-use Rattle.language.proofs.Alike.{whole_alike}
+use Rattle.bias_store.proofs.Alike.{whole_alike}
 use Rattle.bias_store.specs.Made.{AcceptBy, HasMasksAt, AreClasses, AreBegun, AreWider}
 use Rattle.bias_store.specs.declared.tables.Class.{Class}
 use Rattle.bias_store.proofs.Likeness.{table_whole}

@@ -24,22 +24,23 @@ pub use Rattle.assign.specs.Events.{Answer}
 pub use Rattle.assign.specs.SetLemmas.{is_one, is_one-or}
 pub use Rattle.assign.specs.Sets.{has, is_same, is_within, numbers}
 pub use Rattle.assign.proofs.Masks.{list_same, same_list}
-pub use Rattle.language.proofs.Accepts.{accepted_at}
 pub use Rattle.language.proofs.Beside.{beside_none, tuple_fits, value_of_assigned}
 pub use Rattle.language.proofs.Counting.{count, count_few, count_more, length-candidates_on, numbered}
-pub use Rattle.language.proofs.Covered.{covered_converged, covered_within, same_scope}
-pub use Rattle.language.proofs.Filling.{assigned_blank, assigned_pop, assigned_push, next_known, question_there, ranged_blank, ranged_push, size_of}
-pub use Rattle.language.proofs.Fronts.{HasMore, assigned_more, plain_fronts, ranged_from, ranged_more, satisfies_more, violates_more}
 pub use Rattle.language.proofs.Lists.{all_below, all_numbers, any_weaker, filter_all}
 pub use Rattle.language.proofs.Members.{any-filter, any-map, any_candidate, any_number}
 pub use Rattle.language.proofs.Orders.{covers_all, next_variable, order_small, orders_are_known, whole_prefix}
-pub use Rattle.language.proofs.Plain.{complete_there, length-tuple_on, long_order, scope_small, violated_there}
+pub use Rattle.language.proofs.Beside.{length-tuple_on}
 pub use Rattle.language.specs.Answers.{IsConverged, IsCovered, IsNetwork, IsNoOn, has_scope, is_struck, kept}
 pub use Rattle.language.specs.Language.{IsCandidate, IsImplied, IsLanguage, IsQuestion, IsScope, Language, accepts, candidates, candidates_on, is_ranged, number_of, place_on, range_of, relations_on, scope_at, scope_number, scope_of, values_of, variable_count, violates}
 pub use Rattle.language.specs.Ranges.{IsRange, is_in, range_in}
 pub use Rattle.language.specs.Search.{IsOrder, are_ranged, assignment_of, is_plain, order_of, plain_size, prefixes, satisfies}
 pub use Rattle.language.specs.declared.candidates.Candidate.{Candidate}
 pub use Rattle.language.specs.declared.ranges.ValueRange.{ValueRange}
+pub use Rattle.language_laws.proofs.Accepts.{accepted_at}
+pub use Rattle.language_laws.proofs.Covered.{covered_converged, covered_within, same_scope}
+pub use Rattle.language_laws.proofs.Filling.{assigned_blank, assigned_pop, assigned_push, next_known, question_there, ranged_blank, ranged_push, size_of}
+pub use Rattle.language_laws.proofs.Fronts.{HasMore, assigned_more, plain_fronts, ranged_from, ranged_more, satisfies_more, violates_more}
+pub use Rattle.language_laws.proofs.Plain.{complete_there, long_order, scope_small, violated_there}
 pub use Rattle.line_text.proofs.Avoiding.{Lacks, behind_byte, cut_found, lacks_both, lacks_by, lacks_first, spaced, spaced_lacks, words_joined}
 pub use Rattle.line_text.proofs.Decimals.{IsNoDigit, below_read, decimal_lacks, decimal_read, from_read}
 pub use Rattle.line_text.specs.Left.{words_left}

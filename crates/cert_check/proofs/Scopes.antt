@@ -1,6 +1,6 @@
 -- A network has no more candidates than there are scopes.
 use Rattle.cert_check.proofs.Prelude.{◌≡◌, ◌<◌, ◌^◌, List, length, refl, arith, ◌==◌, AllPairs, slice_index_or, length-range_with_len, eq-eqb, numbers, Candidate, Language, IsLanguage, IsNetwork, any_number}
-use Rattle.language.proofs.FewScopes.{as_many}
+use Rattle.language_laws.proofs.FewScopes.{as_many}
 
 pub few_items : (l : Language) (network : List Candidate) → IsLanguage l → IsNetwork l network → AllPairs (λ c d. (c.scope ≡ d.scope) → ⊥) network → length network < 2 ^ 32
 few_items l network lawful legal apart =

@@ -1,6 +1,6 @@
 -- The tree of a candidate that the network implies.
 use Rattle.cert_check.proofs.Prelude.{◌≡◌, ℕ, zero, suc, ◌+◌, ◌-◌, ◌<◌, ◌≤◌, Bool, true, false, cond, ◌&&◌, not, List, [], ◌∷◌, ◌++◌, length, map, Option, Some, None, refl, sym, ◌∙◌, ap, subst, arith, inl, inr, ◌⊎◌, append_assoc, length-append, All, position, slice_index_or, filter, flat_map, append-nil, length-map, flat_map-append, All-head, All-tail, All-nil, All-append, All-push, All-weaker, filter-append, position-Some, list_all-from_AllPass, and_parts, both_ways, false_from_ne_true, not_from_false, cases_lt, numbers, Assignment, Candidate, is_in, Language, IsLanguage, IsCandidate, IsImplied, variable_count, range_of, values_of, violates, accepts, order_of, prefixes, assignment_of, satisfies, are_ranged, is_plain, plain_size, accepted_at, question_there, size_of, plain_fronts, orders_are_known, complete_there, violated_there, Token, Branch, Holds, Item, children, node_of, node_at, tree_from, tree_of, is_branch, branches}
-use Rattle.language.proofs.Preorder.{none_passes, prefixes_small}
+use Rattle.language_laws.proofs.Preorder.{none_passes, prefixes_small}
 use Rattle.cert_check.proofs.Finding.{all_fail}
 use Rattle.cert_check.proofs.Within.{IsNext, IsRanged, all_next, next_of, ranged_none, ranged_front, ranged_longer, ranged_last}
 use Rattle.std.proofs.Math.Bool.{and-false}

@@ -1,7 +1,7 @@
 -- Alive prefixes: what they say of plain ones, their fronts, and the domains on the way down.
 use Rattle.fd_solver.proofs.Prelude.{◌≡◌, ℕ, ◌<◌, ◌≤◌, Bool, true, false, ◌&&◌, not, List, [], ◌∷◌, ◌++◌, length, Option, Some, None, refl, sym, ◌∙◌, ap, subst, arith, inl, inr, ◌⊎◌, slice_index_or, All, is_some, unwrap_or, list_all, get_or-eq_default, get_or-map, All-head, All-tail, All-nil, All-cons, All-map, AllPass-from_list_all, list_all-from_AllPass, and_parts, and_from, both_ways, not-true, not_from_false, false_from_ne_true, cases_lt, numbers, has, Assignment, value_of, assigned, covers, tuple_on, is_complete, Candidate, is_in, Language, IsLanguage, IsCandidate, variable_count, range_of, is_ranged, scope_of, accepts, are_ranged, all_below, AreConstraints, satisfies_one, is_allowed, Family, Arc, arc_of, arcs_of, is_not_empty, domain_of, left_by, sets_on, is_consistent, is_arc_consistent, has_family, IsSubfamily, IsLargest, largest, IsWithin, largest_is, supporting, consistent, full_above, largest_tells, largest_long, supported_through, through_supported, all_full, tells_more, is_alive_in, PassesFronts, assigned_more, ranged_from, covers_all}
 use Rattle.std.specs.Option.{ForSome}
-use Rattle.language.proofs.Accepts.{accepted_at, accepted_from}
+use Rattle.language_laws.proofs.Accepts.{accepted_at, accepted_from}
 use Rattle.propagators.proofs.Filled.{value_there}
 use Rattle.propagators.proofs.Replacing.{member_of_some, some_of_member}
 use Rattle.fd_solver.proofs.Left.{length-left, left_at, left_only, left_own, left_more}

@@ -1,8 +1,9 @@
 -- What outcomes say of a network and a candidate.
 use Rattle.fd_solver.proofs.Prelude.{◌≡◌, ℕ, zero, suc, ◌<◌, ◌≤◌, Bool, true, false, cond, ◌&&◌, not, List, [], ◌∷◌, ◌++◌, length, take, Option, Some, None, refl, sym, ◌∙◌, ap, subst, arith, ◌==◌, All, list_all-append, find, nat_le, list_any, filter, take_all, All-filter, All-take, filter_passes, length-map-range_with_len, and_parts, and_from, both_ways, eq-eqb, eqb-true, leb-true, leb-false, le-leb, false_from_ne_true, Assignment, assigned, value_beside, tuple_on, is_complete, Candidate, Language, IsLanguage, IsCandidate, IsImplied, IsQuestion, variable_count, scope_of, violates, accepts, order_of, prefixes, assignment_of, satisfies, are_ranged, is_plain, any-filter, find_none, find_some, tuple_fits, find_all, any_weaker, find_nothing, fewer_pass, prefixes_small, question_there, order_small, whole_prefix, covers_all, Found, Absent, Spent, outcome_from, outcome_by, is_alive, alive_walk, outcome_of_candidate, AreConstraints, has_family}
 use Rattle.language.specs.Answers.{IsNetwork}
-use Rattle.language.proofs.Plain.{any_prefix, length-tuple_on, scope_small, long_order, lets_plain, complete_there, violated_there}
-use Rattle.language.proofs.Plain as plain
+use Rattle.language_laws.proofs.Plain.{any_prefix, scope_small, long_order, lets_plain, complete_there, violated_there}
+use Rattle.language.proofs.Beside.{length-tuple_on}
+use Rattle.language_laws.proofs.Plain as plain
 use Rattle.fd_solver.specs.Laws.{AbsentIsImplied, SpentIsLong, PlainIsLess, IsQuestionAgainst, FoundIsLawful, AbsentStays, FoundStays, AliveIsPlain, AliveIsAllowed, WholeIsAlive}
 use Rattle.fd_solver.proofs.Alive.{front_all, family_is_plain, family_is_ranged, whole_has_family, family_of_fewer}
 

@@ -13,16 +13,16 @@ pub use Rattle.assign.specs.Assignment.{Assignment, assigned, covers, is_complet
 pub use Rattle.assign.specs.Sets.{has, numbers, with_member}
 pub use Rattle.assign.proofs.Ones.{has-filter}
 pub use Rattle.language.proofs.Beside.{tuple_fits, value_of_assigned}
-pub use Rattle.language.proofs.Filling.{assigned_blank, assigned_pop, assigned_push, beside_next, beside_push, next_known, question_there, size_of}
-pub use Rattle.language.proofs.Fronts.{HasMore, assigned_more, ranged_at, ranged_from}
 pub use Rattle.language.proofs.Lists.{all_below, any_weaker, fewer_pass, find_all, find_nothing}
 pub use Rattle.language.proofs.Members.{any-filter, any_number, find_none, find_some}
 pub use Rattle.language.proofs.Orders.{covers_all, order_small, orders_are_known, whole_prefix}
-pub use Rattle.language.proofs.Preorder.{PassesFronts, none_passes, pending, pending_begin, pending_end, pending_pop, pending_skip, pending_step, prefixes_small, skip_shorter}
 pub use Rattle.language.specs.Language.{IsCandidate, IsImplied, IsLanguage, IsQuestion, Language, accepts, is_ranged, range_of, scope_of, values_of, variable_count, violates}
 pub use Rattle.language.specs.Ranges.{is_in}
 pub use Rattle.language.specs.Search.{are_ranged, assignment_of, is_plain, order_of, prefixes, satisfies}
 pub use Rattle.language.specs.declared.candidates.Candidate.{Candidate}
+pub use Rattle.language_laws.proofs.Filling.{assigned_blank, assigned_pop, assigned_push, beside_next, beside_push, next_known, question_there, size_of}
+pub use Rattle.language_laws.proofs.Fronts.{HasMore, assigned_more, ranged_at, ranged_from}
+pub use Rattle.language_laws.proofs.Preorder.{PassesFronts, none_passes, pending, pending_begin, pending_end, pending_pop, pending_skip, pending_step, prefixes_small, skip_shorter}
 pub use Rattle.propagators.proofs.Living.{full_above, largest_long, largest_tells}
 pub use Rattle.propagators.proofs.Pruned.{consistent, filter_has, largest_again, largest_is, supporting}
 pub use Rattle.propagators.proofs.Replacing.{all_full, full_from, some_of_member, supported_through, through_supported}

@@ -16,13 +16,13 @@ pub use Rattle.assign.proofs.Masks.{is_one-and}
 pub use Rattle.bias_store.specs.Accepting.{accepting_on}
 pub use Rattle.language.proofs.ByNames.{IsMaskOf, mask_more, no_mask}
 pub use Rattle.language.proofs.Lists.{find_all, nothing_passes}
-pub use Rattle.language.proofs.Ranged.{split_is_question, told_apart_within}
 pub use Rattle.language.specs.Language.{IsCandidate, IsLanguage, IsQuestion, IsScope, Language, is_whole, place_on, range_of, relation_of, relations_on, scope_at, scope_of, variable_count, violates}
 pub use Rattle.language.specs.Ranges.{are_in, is_in, range_in, widened}
-pub use Rattle.language.specs.Scenes.{free_choices, scene_of, violated_choices}
-pub use Rattle.language.specs.TellingApart.{Choice, Chosen, Got, Scene, Wants as WantsReply, after_reply, allows, remaining, splitting_tuple, tells_apart}
-unfoldable pub use Rattle.language.specs.TellingApart.{choose}
 pub use Rattle.language.specs.declared.candidates.Candidate.{Candidate}
+pub use Rattle.language_laws.proofs.Ranged.{split_is_question, told_apart_within}
+pub use Rattle.language_laws.specs.Scenes.{free_choices, scene_of, violated_choices}
+pub use Rattle.language_laws.specs.TellingApart.{Choice, Chosen, Got, Scene, Wants as WantsReply, after_reply, allows, remaining, splitting_tuple, tells_apart}
+unfoldable pub use Rattle.language_laws.specs.TellingApart.{choose}
 pub use Rattle.rel_table.proofs.PlaceLemmas.{get_or-tuples, length-tuple_at, length-tuples, place-tuple_at, tuple_at-below, tuple_at-place}
 pub use Rattle.rel_table.specs.Relation.{Relation, holds, place, tuple_at, tuples}
 pub use Rattle.find_c.specs.Choices.{allows_at, beside_none, choices_of, differ_at, is_accepting}

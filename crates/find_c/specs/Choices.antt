@@ -3,7 +3,7 @@ use Rattle.std.specs.Prelude.{ℕ, ◌==◌, Bool, true, false, not, ◌&&◌, L
 use Rattle.std.specs.Prelude.{Option, Some, None, slice_index_or, if◌then◌else◌}
 use Rattle.std.specs.List.{list_any}
 use Rattle.std.specs.Int.{bit_at}
-use Rattle.language.specs.TellingApart.{Choice, Scene}
+use Rattle.language_laws.specs.TellingApart.{Choice, Scene}
 use Rattle.assign.specs.Sets.{ones_of}
 
 -- the relations of a mask as choices, and none where it is one

@@ -4,8 +4,8 @@ use Rattle.std.specs.Prelude.{find}
 use Rattle.rel_table.specs.Relation.{tuples, tuple_at}
 use Rattle.language.specs.Language.{Language, scope_at}
 use Rattle.language.specs.Ranges.{are_in}
-use Rattle.language.specs.Scenes.{scene_of}
-use Rattle.language.specs.TellingApart.{Choice, tells_apart, splitting_tuple}
+use Rattle.language_laws.specs.Scenes.{scene_of}
+use Rattle.language_laws.specs.TellingApart.{Choice, tells_apart, splitting_tuple}
 use Rattle.find_c.specs.Choices.{differ_at}
 
 -- so many rows are before a place, and so many are left from it on

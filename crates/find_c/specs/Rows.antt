@@ -1,6 +1,6 @@
 -- What the worked rows are about.
 use Rattle.std.specs.Prelude.{true, false, List, [], ◌∷◌, Some, None}
-use Rattle.language.specs.TellingApart.{Choice, Scene}
+use Rattle.language_laws.specs.TellingApart.{Choice, Scene}
 
 -- equal, unequal and never, over two values
 abbrev pub pairs : Scene

@@ -2,8 +2,8 @@
 use Rattle.std.specs.Prelude.{ℕ, ◌≡◌, ◌<◌, List, length, All, Some}
 use Rattle.std.specs.Option.{ForSome}
 use Rattle.language.specs.Language.{Language, relations_on}
-use Rattle.language.specs.TellingApart.{Choice, splitting_tuple}
-use Rattle.language.specs.Scenes.{scene_of}
+use Rattle.language_laws.specs.TellingApart.{Choice, splitting_tuple}
+use Rattle.language_laws.specs.Scenes.{scene_of}
 
 -- A run waits for the reply about its tuple on its scope. The choices are those that are left.
 pub record TellingRun : Type 0 where

@@ -4,9 +4,10 @@ use Rattle.language.specs.declared.candidates.Candidate.{Candidate}
 use Rattle.language.specs.Language.{Language, IsCandidate}
 use Rattle.find_c.specs.declared.run.RelNext.{RelNext}
 use Rattle.find_c.specs.declared.run.RelNext.TheVariants.{Nothing, Wants, Found, Free}
-use Rattle.language.specs.TellingApart.{Choice, Chosen, Got, choose, splitting_tuple, remaining}
-use Rattle.language.specs.TellingApart.{Wants as WantsReply}
-use Rattle.language.specs.Scenes.{scene_of}
+use Rattle.language_laws.specs.TellingApart.{Choice, Chosen, Got, choose, splitting_tuple}
+use Rattle.language_laws.specs.TellingApart.{remaining}
+use Rattle.language_laws.specs.TellingApart.{Wants as WantsReply}
+use Rattle.language_laws.specs.Scenes.{scene_of}
 use Rattle.find_c.specs.Run.{TellingRun, IsRun}
 
 -- what comes of further replies

@@ -8,8 +8,8 @@ ghost use Rattle.std.specs.Int.{bit_at};
 ghost use Rattle.language.specs.Language.{IsLanguage, variable_count, range_of, scope_at};
 ghost use Rattle.language.specs.Language.{relations_on};
 ghost use Rattle.language.specs.Ranges.{is_in, are_in};
-ghost use Rattle.language.specs.Scenes.{scene_of};
-ghost use Rattle.language.specs.TellingApart.{remaining};
+ghost use Rattle.language_laws.specs.Scenes.{scene_of};
+ghost use Rattle.language_laws.specs.TellingApart.{remaining};
 ghost use Rattle.find_c.specs.Choices.{allows_at, choices_of, beside_none, is_accepting, differ_at};
 ghost use Rattle.find_c.specs.Inside.{IsAtRow, is_outside};
 ghost use Rattle.find_c.specs.Run.{IsChoiceOn};
@@ -31,7 +31,7 @@ pub struct Choices {
 
 impl Model for Choices {
     ghost use Rattle.std.specs.Prelude.{List, ◌<◌, ◌^◌};
-    ghost use Rattle.language.specs.TellingApart.{Choice};
+    ghost use Rattle.language_laws.specs.TellingApart.{Choice};
     ghost use Rattle.find_c.specs.Choices.{choices_of};
 
     ghost Value = { List Choice };

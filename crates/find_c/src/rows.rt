@@ -1,7 +1,7 @@
 //! Worked rows, which the definitions compute.
 
 ghost use Rattle.std.specs.Prelude.{◌≡◌, [], ◌∷◌, Some, None, true, false};
-ghost use Rattle.language.specs.TellingApart.{choose, Wants, Got};
+ghost use Rattle.language_laws.specs.TellingApart.{choose, Wants, Got};
 ghost use Rattle.find_c.specs.Rows.{pairs, each_or_none, each_unequal};
 
 /// Equal, unequal, never, and none of them.

@@ -5,8 +5,8 @@ ghost use Rattle.std.specs.Prelude.{◌∷◌, ◌++◌, length, Some, None, sli
 ghost use Rattle.rel_table.specs.Relation.{place, tuples};
 ghost use Rattle.language.specs.Language.{is_whole, scope_at, IsQuestion};
 ghost use Rattle.bias_store.specs.KeptSet.{IsMadeFor};
-ghost use Rattle.language.specs.TellingApart.{Choice, splitting_tuple, after_reply};
-ghost use Rattle.language.specs.Scenes.{scene_of, on_scope, free_choices, violated_choices};
+ghost use Rattle.language_laws.specs.TellingApart.{Choice, splitting_tuple, after_reply};
+ghost use Rattle.language_laws.specs.Scenes.{scene_of, on_scope, free_choices, violated_choices};
 ghost use Rattle.find_c.specs.Choices.{beside_none, is_accepting, allows_at};
 ghost use Rattle.find_c.specs.Inside.{IsFoundFrom, IsFurthest};
 ghost use Rattle.find_c.specs.Run.{IsRun, IsChoiceOn};

@@ -1,5 +1,5 @@
 -- Values beside variables, as an assignment and as a tuple, and scopes as rising lists.
-use Rattle.language.proofs.Prelude.{◌≡◌, ℕ, zero, suc, ◌+◌, ◌<◌, ◌≤◌, Bool, true, false, cond, List, [], ◌∷◌, length, Some, None, refl, subst, arith, ◌==◌, All, AllPairs, slice_index_or, is_some, unwrap_or, ForSome, IsStrictlyIncreasing, get_or-map-range_with_len, All-head, All-tail, All-nil, All-cons, AllPairs-from_increasing, and_parts, Rises, Assignment, value_of, value_beside, assigned, covers, tuple_on}
+use Rattle.language.proofs.Prelude.{◌≡◌, ℕ, zero, suc, ◌+◌, ◌<◌, ◌≤◌, Bool, true, false, cond, List, [], ◌∷◌, length, Some, None, refl, ap, subst, arith, ◌==◌, All, AllPairs, slice_index_or, is_some, unwrap_or, ForSome, IsStrictlyIncreasing, get_or-map-range_with_len, All-head, All-tail, All-nil, All-cons, AllPairs-from_increasing, and_parts, Rises, Assignment, value_of, value_beside, assigned, covers, tuple_on}
 
 pub value_of_assigned : (n : ℕ) (vars values : List ℕ) (v : ℕ) → v < n → value_of (assigned n vars values) v ≡ value_beside vars values v
 value_of_assigned n vars values v h = get_or-map-range_with_len (value_beside vars values) 0 n v v None h (omega arith)
@@ -43,3 +43,8 @@ rises_from n a (x ∷ xs) h p small low = (
 
 pub scope_rises : (n : ℕ) (scope : List ℕ) → n ≤ 128 → IsStrictlyIncreasing scope → All (λ v. v < n) scope → Rises 0 scope
 scope_rises n scope h rising small = rises_from n 0 scope h (AllPairs-from_increasing scope rising) small (λ some. omega arith)
+
+-- a tuple of an assignment has a value for each of its variables
+pub length-tuple_on : (e : Assignment) (scope : List ℕ) → length (tuple_on e scope) ≡ length scope
+length-tuple_on e [] = refl
+length-tuple_on e (v ∷ scope) = ap suc (length-tuple_on e scope)

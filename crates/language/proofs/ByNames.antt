@@ -78,16 +78,6 @@ pointwise-ends (name ∷ names) [] i same low = absurd (omega arith)
 pointwise-ends (name ∷ names) (other ∷ others) zero same low = absurd (omega arith)
 pointwise-ends (name ∷ names) (other ∷ others) (suc i) same low = pointwise-ends names others i (omega arith) (omega arith)
 
-pub pointwise-lengths : (names others : List (List ℕ)) → length names ≢ length others → pointwise bytes_eq names others ≡ false
-pointwise-lengths [] [] other = absurd (other refl)
-pointwise-lengths [] (o ∷ others) other = refl
-pointwise-lengths (name ∷ names) [] other = refl
-pointwise-lengths (name ∷ names) (o ∷ others) other = go (bytes_eq name o) (pointwise-lengths names others (λ e. other (ap suc e)))
-  where
-    go : (b : Bool) → pointwise bytes_eq names others ≡ false → (b && pointwise bytes_eq names others) ≡ false
-    go true h = h
-    go false h = refl
-
 -- the names of some variables
 abbrev pub named_by : List (String Global) → List ℕ → List (List ℕ)
 named_by all scope = map (λ (v : ℕ). slice_index_or (map string_bytes all) v []) scope

@@ -116,10 +116,3 @@ module _ (ranges : List ValueRange) (d : ℕ) (given : List Given) (tables : Lis
         (λ s low. let few = all.few s low in omega (arith, few, ap length (old s low)))
         (let few = chosen.few in omega (arith, few, ap length new, length-map more (λ (k : ℕ). widened ranges d (variables_in scope) (get_or (truths (tables_for tables scope)) k []))));
   }
-
-pub none_yet : (ranges : List ValueRange) (d : ℕ) (given : List Given) (tables : List (List TruthTable)) → AreAll ranges d given tables [] [] (0 ∷ [])
-none_yet ranges d given tables = record {
-  parts = record { long = refl; first = refl; part = λ s low. absurd (omega arith) };
-  closing = λ s low. absurd (omega arith);
-  few = λ s low. absurd (omega arith);
-}

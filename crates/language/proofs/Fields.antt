@@ -1,5 +1,5 @@
 -- What the fields of a language say of the language that they stand for.
-use Rattle.language.proofs.Prelude.{◌≡◌, ℕ, zero, suc, ◌+◌, ◌-◌, ◌^◌, ◌<◌, ◌≤◌, ◌++◌, ◌∷◌, List, [], length, map, true, false, Bool, cond, ◌&&◌, nat_le, nat_lt, nat_eq, Some, None, refl, sym, ◌∙◌, ap, subst, arith, ◌⊎◌, inl, inr, slice_index_or, string_bytes, All, AllPairs, flat_map, range_with_len, length-range_with_len, get_or-map-range_with_len, get_or-map, get_or_read, length-map, IsNonDecreasingBy, IsPartitionedBy, IsPartitionPoint, IsNonDecreasingBy-from_default, IsPartitionedBy-leb, AllPass-from_list_all, position_or_len_is, leb-true, leb-false, lt-ltb, le-ltb, eqb-true, cases_order, and_parts, All-head, All-tail, AllPairs-from_increasing, pointwise, pairs_head, pairs_tail, is_same, IsSet, Rises, TruthTable, IsOfKind, Relation, Language, Given, variable_count, candidates, of_arity, given_within, given_on, scope_at, scope_of, scope_number, relations_on, is_name, IsScope, IsLanguage, joined, names_containing, scope_names, candidate_text, Candidate, RelPart, Scope, Inside, variables_in, seen, given_by, truths, tables_for, between, scope_in, relations_at, ranges_in, IsSound, ValueRange, widened}
+use Rattle.language.proofs.Prelude.{◌≡◌, ℕ, zero, suc, ◌+◌, ◌-◌, ◌^◌, ◌<◌, ◌≤◌, ◌++◌, ◌∷◌, List, [], length, map, true, false, Bool, cond, ◌&&◌, nat_le, nat_lt, nat_eq, Some, None, refl, sym, ◌∙◌, ap, subst, arith, ◌⊎◌, inl, inr, slice_index_or, string_bytes, All, AllPairs, flat_map, range_with_len, length-range_with_len, get_or-map-range_with_len, get_or-map, get_or_read, length-map, IsNonDecreasingBy, IsPartitionedBy, IsPartitionPoint, IsNonDecreasingBy-from_default, IsPartitionedBy-leb, AllPass-from_list_all, position_or_len_is, leb-true, leb-false, lt-ltb, le-ltb, cases_order, and_parts, All-head, All-tail, AllPairs-from_increasing, pointwise, pairs_head, pairs_tail, is_same, IsSet, Rises, TruthTable, IsOfKind, Relation, Language, Given, variable_count, candidates, of_arity, given_within, given_on, scope_at, scope_of, scope_number, relations_on, is_name, IsScope, IsLanguage, joined, names_containing, scope_names, candidate_text, Candidate, RelPart, Scope, Inside, variables_in, seen, given_by, truths, tables_for, between, scope_in, relations_at, ranges_in, IsSound, ValueRange, widened}
 use Rattle.language.proofs.Counting.{count, count_more, count_rises, count_few}
 use Rattle.assign.proofs.Masks.{same_list}
 
@@ -148,9 +148,6 @@ text_here l c d ranges truth scope given names text values rs t s g n is =
 pub known_here : (l : Language) → IsLanguage l → (scope : List ℕ) → IsScope (variable_count l) scope → All (λ v. v < length l.ranges) scope
 known_here l lawful scope is k v low = let known = is.known k v low in let ranged = lawful.ranged in omega (arith, known, ranged)
 
-pub scope_of_ranges : (l : Language) → IsLanguage l → (ranges : List ValueRange) (scope : List ℕ) → length ranges ≡ variable_count l → IsScope (variable_count l) scope → IsScope (length ranges) scope
-scope_of_ranges l lawful ranges scope same is = subst (λ (n : ℕ). IsScope n scope) (sym same) is
-
 -- a scope has room for its variables
 pub room_here : (a : Inside) → IsSound a → (l : Language) → seen a ≡ l → (s : ℕ) (scope : Scope) → s < length l.scopes → scope ≡ slice_index_or a.scopes.items s scope → scope.size ≤ 4
 room_here a sound l view s scope low is =
@@ -285,15 +282,6 @@ same_scope [] [] = refl
 same_scope [] (y ∷ ys) = refl
 same_scope (x ∷ xs) [] = refl
 same_scope (x ∷ xs) (y ∷ ys) = ap (λ b. nat_eq x y && b) (same_scope xs ys)
-
-pub other_scope : (l : Language) (w scope : List ℕ) (s : ℕ) (same : Bool) → same ≡ pointwise nat_eq w scope → same ≡ false → scope ≡ scope_at l s →
-    ((k : ℕ) → k < s → is_same w (scope_at l k) ≡ false) → (k : ℕ) → k < s + 1 → is_same w (scope_at l k) ≡ false
-other_scope l w scope s same is off here before k low = go (cases_order k s)
-  where
-    go : (k ≡ s) ⊎ ((k < s) ⊎ (s < k)) → is_same w (scope_at l k) ≡ false
-    go (inl e) = ap (λ (n : ℕ). is_same w (scope_at l n)) e ∙ ap (is_same w) (sym here) ∙ same_scope w scope ∙ sym is ∙ off
-    go (inr (inl e)) = before k e
-    go (inr (inr e)) = absurd (omega arith)
 
 pub found_scope : (l : Language) (w scope : List ℕ) (s : ℕ) (same : Bool) → same ≡ pointwise nat_eq w scope → same ≡ true → scope ≡ scope_at l s → s < length l.scopes →
     ((k : ℕ) → k < s → is_same w (scope_at l k) ≡ false) → (Some s ≡ scope_number l w) × (scope_at l s ≡ w)

@@ -1,6 +1,4 @@
 mod Prelude
-pub mod Whole
-pub mod Ranged
 pub mod Widening
 pub mod Within
 pub mod Chosen
@@ -8,9 +6,7 @@ pub mod Sizes
 pub mod ByScope
 pub mod SameRanges
 pub mod Meets
-pub mod Covered
 pub mod Members
-pub mod FewScopes
 pub mod Fields
 pub mod Placing
 pub mod Wording
@@ -30,19 +26,11 @@ pub mod Lawful
 pub mod Listed
 pub mod Lists
 pub mod Beside
-pub mod Accepts
-pub mod Preorder
-pub mod Fronts
-pub mod Filling
 pub mod Orders
-pub mod Plain
 pub mod ByNames
 pub mod OneLanguage
 pub mod InOrder
-pub mod Alike
 pub mod PairMasking
-pub mod Running
 pub mod Domains
 pub mod Filled
 pub mod PairOrders
-pub mod RangeRuns

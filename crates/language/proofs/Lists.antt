@@ -1,5 +1,5 @@
 -- Lists: what some or all of their members pass.
-use Rattle.language.proofs.Prelude.{◌≡◌, ℕ, zero, suc, ◌+◌, ◌<◌, ◌≤◌, Bool, true, false, cond, ◌||◌, List, [], ◌∷◌, ◌++◌, length, Some, None, sym, ◌∙◌, ap, subst, refl, arith, inl, inr, ◌⊎◌, All, find, list_any, list_all, filter, range_with_len, list_all-append, All-head, All-tail, All-cons, All-nil, and_parts, both_ways, or_cases, or_left, or_right, numbers}
+use Rattle.language.proofs.Prelude.{◌≡◌, ℕ, zero, suc, ◌+◌, ◌<◌, ◌≤◌, Bool, true, false, cond, ◌||◌, List, [], ◌∷◌, length, Some, None, sym, ◌∙◌, ap, subst, refl, arith, inl, inr, ◌⊎◌, All, find, list_any, filter, range_with_len, All-head, All-tail, All-cons, All-nil, both_ways, or_cases, or_left, or_right, numbers}
 
 pub find_all : {X : Type 0} (Q : X → Type 0) (p : X → Bool) (xs : List X) (y : X) → All Q xs → find p xs ≡ Some y → Q y
 find_all Q p [] y all h = cc
@@ -46,9 +46,6 @@ find_nothing p (x ∷ xs) h = go (p x) refl h (find_nothing p xs)
     go : (b : Bool) → p x ≡ b → (p x || list_any p xs) ≡ false → (list_any p xs ≡ false → find p xs ≡ None) → cond (p x) (Some x) (find p xs) ≡ None
     go true e h rest = absurd (both_ways _ h (or_left _ _ e))
     go false e h rest = ap (λ b. cond b (Some x) (find p xs)) e ∙ rest (sym (ap (λ b. b || list_any p xs) e) ∙ h)
-
-pub front_of : {X : Type 0} (p : X → Bool) (xs ys : List X) → list_all p (xs ++ ys) ≡ true → list_all p xs ≡ true
-front_of p xs ys h = (and_parts (list_all p xs) (list_all p ys) (sym (list_all-append p xs ys) ∙ h)).0
 
 -- a stricter test lets no more pass
 pub fewer_pass : {X : Type 0} (p q : X → Bool) (xs : List X) → ((x : X) → p x ≡ true → q x ≡ true) → length (filter p xs) ≤ length (filter q xs)

@@ -1,8 +1,5 @@
 -- The order of a candidate has each variable once, and a prefix of all its values gives a whole assignment.
-use Rattle.language.proofs.Prelude.{length-range_with_len, ◌≡◌, ℕ, zero, suc, ◌+◌, ◌<◌, ◌≤◌, Bool, true, false, cond, ◌||◌, ◌&&◌, not, List, [], ◌∷◌, ◌++◌, length, map, take, Option, Some, None, refl, sym, ◌∙◌, ap, subst, arith, inl, inr, ◌⊎◌, length-append, append_assoc, ◌==◌, ◌≢◌, All, AllPairs, slice_index_or, is_some, unwrap_or, list_any, filter, range_with_len, append-nil, All-head, All-tail, All-nil, All-append, All-filter, All-push, filter_passes, filter_more, fill_by_all, length-range_with_len, get_or-range_with_len, AllPairs-cons, AllPairs-filter, AllPairs-from_increasing, list_all-from_AllPass, AllPass-from_list_all, list_any-append, list_any_at, cases_eq, and_from, or_left, or_cases, both_ways, not-true, not_from_false, true_from_ne_false, eq-eqb, ne_eqb, eqb-true, IsDistinct, eqb, numbers, has, Rises, Assignment, value_of, value_beside, covers, tuple_on, is_complete, filter_agree_from, rises_lower, lacks, Candidate, Language, IsLanguage, IsCandidate, variable_count, scope_of, IsOrder, order_of, assignment_of}
-use Rattle.std.proofs.lemmas.Map.Keys.{IsDistinct-from_apart, IsDistinct-push}
-use Rattle.std.proofs.lemmas.Map.Steps.{length-le_from_distinct_below}
-use Rattle.std.proofs.lemmas.Cmp.{nat_eq_equiv}
+use Rattle.language.proofs.Prelude.{length-range_with_len, ◌≡◌, ℕ, zero, suc, ◌+◌, ◌<◌, ◌≤◌, Bool, true, false, cond, ◌||◌, ◌&&◌, not, List, [], ◌∷◌, ◌++◌, length, map, take, Option, Some, None, refl, sym, ◌∙◌, ap, arith, inl, inr, ◌⊎◌, length-append, append_assoc, ◌==◌, ◌≢◌, All, AllPairs, slice_index_or, is_some, unwrap_or, list_any, filter, range_with_len, append-nil, All-head, All-tail, All-nil, All-append, All-filter, filter_passes, filter_more, fill_by_all, length-range_with_len, get_or-range_with_len, AllPairs-cons, AllPairs-filter, AllPairs-from_increasing, list_all-from_AllPass, AllPass-from_list_all, list_any-append, list_any_at, cases_eq, and_from, or_left, both_ways, not-true, not_from_false, eq-eqb, ne_eqb, eqb-true, numbers, has, Rises, Assignment, value_of, value_beside, covers, tuple_on, is_complete, filter_agree_from, rises_lower, lacks, Candidate, Language, IsLanguage, IsCandidate, variable_count, scope_of, IsOrder, order_of, assignment_of}
 use Rattle.language.proofs.Members.{any-filter, any_number}
 use Rattle.language.proofs.Beside.{scope_rises}
 use Rattle.language.proofs.Lists.{all_numbers, all_below}
@@ -122,37 +119,6 @@ orders_are_known l c is candidate = record {
 }
 
 -- ---- each variable stands in an order
-
-pub differ_tail : (x : ℕ) (xs : List ℕ) → AllPairs (λ v w. v ≢ w) (x ∷ xs) → AllPairs (λ v w. v ≢ w) xs
-differ_tail x xs h = λ i j d low k. h (suc i) (suc j) d (omega arith) (omega arith)
-
-below_where : (n : ℕ) (xs : List ℕ) (q : ℕ) → All (λ v. v < n) xs → list_any (eqb q) xs ≡ true → q < n
-below_where n [] q all h = absurd (both_ways _ refl h)
-below_where n (x ∷ xs) q all h = go (or_cases (eqb q x) (list_any (eqb q) xs) h) (below_where n xs q (All-tail (λ v. v < n) x xs all))
-  where
-    go : (eqb q x ≡ true) ⊎ (list_any (eqb q) xs ≡ true) → (list_any (eqb q) xs ≡ true → q < n) → q < n
-    go (inl here) rest = subst (λ v. v < n) (sym (eqb-true q x here)) (All-head (λ v. v < n) x xs all)
-    go (inr there) rest = rest there
-
-flipped : (v : ℕ) (xs : List ℕ) → has xs v ≡ list_any (eqb v) xs
-flipped v [] = refl
-flipped v (x ∷ xs) = λ i. turned x v i || flipped v xs i
-  where
-    turned : (a b : ℕ) → (a == b) ≡ (b == a)
-    turned a b = go (cases_eq a b)
-      where
-        go : (a ≡ b) ⊎ (a ≢ b) → (a == b) ≡ (b == a)
-        go (inl same) = eq-eqb a b same ∙ sym (eq-eqb b a (sym same))
-        go (inr other) = ne_eqb a b other ∙ sym (ne_eqb b a (λ e. other (sym e)))
-
--- n different numbers below n are all of them
-pub order_has_each : (n : ℕ) (order : List ℕ) → IsOrder n order → (v : ℕ) → v < n → has order v ≡ true
-order_has_each n order is v low = true_from_ne_false _ (λ missing.
-    let apart : IsDistinct eqb order = IsDistinct-from_apart eqb order (λ i j d before fits. ne_eqb _ _ (is.different i j d before fits)) in
-    let more : IsDistinct eqb (order ++ v ∷ []) = IsDistinct-push nat_eq_equiv order v apart (sym (flipped v order) ∙ missing) in
-    let few : length (order ++ v ∷ []) ≤ n = length-le_from_distinct_below (order ++ v ∷ []) n more
-    (λ q h. below_where n (order ++ v ∷ []) q (All-push (λ w. w < n) order v is.known low) h) in
-    omega (arith, few, is.size, length-append order (v ∷ [])))
 
 -- ---- how an order is written
 

@@ -62,9 +62,6 @@ rejected_same d p q h = ap length (filter_agree_from (λ x. not (p x)) (λ x. no
 
 -- ---- the largest number
 
-pub most_more : (f : ℕ → ℕ) (k : ℕ) → most_of f (k + 1) ≡ max (most_of f k) (f k)
-most_more f k = let next : k + 1 ≡ suc k = omega arith in ap (most_of f) next
-
 pub most_same : (f g : ℕ → ℕ) (d : ℕ) → ((k : ℕ) → k < d → f k ≡ g k) → most_of f d ≡ most_of g d
 most_same f g zero h = refl
 most_same f g (suc d) h = λ i. max (most_same f g d (λ k low. h k (omega arith)) i) (h d (omega arith) i)
@@ -214,7 +211,3 @@ masks_here a sound l view pairs t b is are =
     subst (λ (d : ℕ). ArePairMasksAt d (slice_index_or pairs t []) a.pairs.rows.items a.pairs.columns.items (64 * t) (slice_index_or a.pairs.bounds.items t b)) (ap (λ (x : Language). x.value_count) view)
     (subst (λ (ps : List Relation). ArePairMasksAt a.value_count (slice_index_or ps t []) a.pairs.rows.items a.pairs.columns.items (64 * t) (slice_index_or a.pairs.bounds.items t b)) (sym same)
     (sound.masks.at t b low))
-
--- there are masks for each number of a table
-pub table_below : (a : Inside) → IsSound a → (l : Language) → seen a ≡ l → (t : ℕ) → IsPairTable l t → t < length (pairs_in a)
-table_below a sound l view t is = is (pairs_in a) (subst (λ (x : Language). ArePairTables x (pairs_in a)) view sound.pairs)

@@ -1,7 +1,6 @@
 -- The first pair of scopes that is related.
-use Rattle.language.proofs.Prelude.{and_from, ◌≡◌, ℕ, zero, suc, ◌+◌, ◌<◌, ◌≤◌, Bool, true, false, cond, ◌&&◌, ◌||◌, true≢false, Option, Some, None, List, [], ◌∷◌, ◌++◌, length, take, drop, is_some, refl, sym, ◌∙◌, ap, subst, arith, nat_eq, not, position, slice_index_or, ◌==◌, list_any, position_or_len, position_from, list_any_at, list_all-from_AllPass, and_parts, both_ways, eq-eqb, eqb-true, false_from_ne_true, or_left, pointwise, take_more, drop_more, has, is_same, is_within, are_nested, pair_after, first_pair}
+use Rattle.language.proofs.Prelude.{◌≡◌, ℕ, zero, suc, ◌+◌, ◌<◌, ◌≤◌, Bool, true, false, cond, ◌&&◌, ◌||◌, true≢false, Option, Some, None, List, [], ◌∷◌, ◌++◌, length, take, drop, is_some, refl, sym, ◌∙◌, ap, subst, arith, nat_eq, not, position, slice_index_or, ◌==◌, list_any, position_or_len, position_from, list_any_at, list_all-from_AllPass, both_ways, eq-eqb, false_from_ne_true, or_left, pointwise, take_more, drop_more, has, is_same, is_within, are_nested, pair_after, first_pair}
 use Rattle.std.proofs.lemmas.Iterator.Adapters.{position_from-zero}
-use Rattle.std.proofs.lemmas.List.Quantifiers.{position-Some}
 use Rattle.std.proofs.lemmas.List.{drop_all}
 use Rattle.language.proofs.Lists.{any_weaker}
 use Rattle.assign.proofs.Masks.{same_list}
@@ -74,9 +73,6 @@ pair_later related xs scope j low is so_far none =
 
 pub no_pair : (related : List ℕ → List ℕ → Bool) (xs : List (List ℕ)) (j : ℕ) → length xs ≤ j → first_pair related xs ≡ pair_after related (take j xs) (drop j xs) → None ≡ first_pair related xs
 no_pair related xs j all so_far = sym (so_far ∙ ap (pair_after related (take j xs)) (drop_all j xs all) ∙ at_end related (take j xs))
-
-pub found_below : {X : Type 0} (p : X → Bool) (xs : List X) (i j : ℕ) (d : X) → j ≤ length xs → position p (take j xs) ≡ Some i → i < j
-found_below p xs i j d low found = let at = position-Some p (take j xs) i d found in let long = length-take xs j low in let below = at.0 in omega (arith, long, below)
 
 pub same_first : (xs : List (List ℕ)) (ys : List ℕ) → position (λ xs. pointwise nat_eq xs ys) xs ≡ position (λ xs. is_same xs ys) xs
 same_first xs ys = λ i. position (λ zs. same_is zs ys i) xs

@@ -1,5 +1,5 @@
 -- The rising lists of a size, by least variable, and how many there are.
-use Rattle.language.proofs.Prelude.{◌≡◌, ℕ, zero, suc, ◌+◌, ◌-◌, ◌<◌, ◌≤◌, Bool, true, false, cond, ◌&&◌, List, [], ◌∷◌, ◌++◌, length, map, refl, sym, ◌∙◌, ap, arith, append_assoc, append-nil, length-append, subst, take, nat_le, All, slice_index_or, flat_map, range_with_len, le-leb, lt-leb, length-map, flat_map-append, flat_map-map, filter-append, filter_agree, filter_passes, All-nil, All-cons, All-append, All-map, All-weaker, tuples, Scope, variables_in, choices, past, longer_by, is_rising, rising_lists}
+use Rattle.language.proofs.Prelude.{◌≡◌, ℕ, zero, suc, ◌+◌, ◌-◌, ◌<◌, ◌≤◌, Bool, true, false, ◌&&◌, List, [], ◌∷◌, ◌++◌, length, map, refl, sym, ◌∙◌, ap, arith, append_assoc, append-nil, length-append, subst, nat_le, All, flat_map, range_with_len, le-leb, lt-leb, length-map, flat_map-append, flat_map-map, filter-append, filter_agree, filter_passes, All-nil, All-cons, All-append, All-map, All-weaker, tuples, Scope, variables_in, choices, longer_by, is_rising, rising_lists}
 use Rattle.std.specs.Prelude.{filter}
 use Rattle.std.proofs.lemmas.Simd.{map-map}
 use Rattle.shared_lemmas.proofs.Lists.{filter-map, map-flat_map}
@@ -22,10 +22,6 @@ count-rising_from a (suc m) (suc size) =
 filter-flat_map : {X Y : Type 0} (p : Y → Bool) (f : X → List Y) (xs : List X) → filter p (flat_map f xs) ≡ flat_map (λ x. filter p (f x)) xs
 filter-flat_map p f [] = refl
 filter-flat_map p f (x ∷ xs) = filter-append p (f x) (flat_map f xs) ∙ ap (λ ys. filter p (f x) ++ ys) (filter-flat_map p f xs)
-
-map-cond : {X Y : Type 0} (f : X → Y) (b : Bool) (x : X) (xs : List X) → map f (cond b (x ∷ xs) xs) ≡ cond b (f x ∷ map f xs) (map f xs)
-map-cond f true x xs = refl
-map-cond f false x xs = refl
 
 -- a rising list of numbers from a on
 abbrev pub rises : ℕ → List ℕ → Bool
@@ -155,14 +151,6 @@ pub lists_next : (n size : ℕ) → flat_map (longer_by n 0) (rising_lists n siz
 lists_next n size = lists_longer n size ∙ ap (rising_lists n) (let e : suc size ≡ size + 1 = omega arith in e)
 
 -- ---- One list more
-
-past_last : (a : ℕ) (xs : List ℕ) (k d : ℕ) → k < length xs → past a (take (suc k) xs) ≡ slice_index_or xs k d + 1
-past_last a [] k d low = absurd (omega arith)
-past_last a (x ∷ xs) zero d low = refl
-past_last a (x ∷ xs) (suc k) d low = past_last (x + 1) xs k d (omega arith)
-
-pub past_at : (xs : List ℕ) (size d : ℕ) → 1 ≤ size → size ≤ length xs → past 0 (take size xs) ≡ slice_index_or xs (size - 1) d + 1
-past_at xs size d some low = ap (λ k. past 0 (take k xs)) (let e : size ≡ suc (size - 1) = omega arith in e) ∙ past_last 0 xs (size - 1) d (omega arith)
 
 pub one_more : (whole : List (List ℕ)) (scopes : List Scope) (one : Scope) (f : ℕ → List ℕ) (v n : ℕ) → v < n → variables_in one ≡ f v →
     whole ≡ map variables_in scopes ++ map f (range_with_len v (n - v)) → whole ≡ map variables_in (scopes ++ one ∷ []) ++ map f (range_with_len (v + 1) (n - (v + 1)))

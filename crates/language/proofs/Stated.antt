@@ -1,5 +1,5 @@
 -- Lists of numbers as scopes: their order, and their sets.
-use Rattle.language.proofs.Prelude.{◌≡◌, ℕ, ◌+◌, ◌<◌, ◌≤◌, true, ◌&&◌, List, [], ◌∷◌, length, take, refl, sym, ◌∙◌, ap, arith, All, nat_lt, slice_index_or, ◌==◌, take_more, All-nil, All-cons, All-get_or, list_any-append, Rises, IsSet, has, with_member, set_where-same, canonical, rises_take, is_ordered}
+use Rattle.language.proofs.Prelude.{◌≡◌, ℕ, ◌+◌, ◌<◌, ◌≤◌, true, List, [], ◌∷◌, length, take, refl, sym, ◌∙◌, ap, arith, All, slice_index_or, ◌==◌, take_more, All-nil, All-cons, All-get_or, list_any-append, Rises, IsSet, has, with_member, set_where-same, canonical, rises_take, is_ordered}
 
 -- ---- Sets
 
@@ -21,11 +21,5 @@ pub one_ordered : (xs : List ℕ) → 1 ≤ length xs → length xs < 2 → true
 one_ordered (a ∷ []) low high = refl
 one_ordered [] low high = absurd (omega arith)
 one_ordered (a ∷ b ∷ xs) low high = absurd (omega arith)
-
-pub two_ordered : (xs : List ℕ) → 2 ≤ length xs → length xs < 3 → is_ordered xs ≡ (nat_lt (slice_index_or xs 0 0) (slice_index_or xs 1 0) && true)
-two_ordered (a ∷ b ∷ []) low high = refl
-two_ordered [] low high = absurd (omega arith)
-two_ordered (a ∷ []) low high = absurd (omega arith)
-two_ordered (a ∷ b ∷ c ∷ xs) low high = absurd (omega arith)
 
 -- ---- All of what a list is made of

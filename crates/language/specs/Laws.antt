@@ -4,9 +4,7 @@ use Rattle.language.specs.declared.candidates.Candidate.{Candidate}
 use Rattle.assign.specs.Assignment.{Assignment}
 use Rattle.language.specs.Language.{Language, Given, IsLanguage, IsCandidate, candidates, number_of}
 use Rattle.language.specs.Language.{violates}
-use Rattle.assign.specs.Events.{Answer}
 use Rattle.language.specs.Building.{Frame, IsBuilt}
-use Rattle.language.specs.Answers.{IsNetwork, IsCovered, IsConverged}
 
 -- a candidate that is violated wherever one of two is
 pub record IsMeetOf (l : Language) (c d m : Candidate) : Type 0 where
@@ -21,12 +19,6 @@ HasMeets l = (c d : Candidate) → IsCandidate l c → IsCandidate l d → c.sco
 
 abbrev pub CandidatesAreClosed : Type 0
 CandidatesAreClosed = (l : Language) → IsLanguage l → HasMeets l
-
--- a covered network is the one that the answers converge on
-abbrev pub CoveredIsConverged : Type 0
-CoveredIsConverged =
-    (l : Language) (network : List Candidate) (t : List Answer) →
-    IsLanguage l → IsNetwork l network → IsCovered l network t → IsConverged l network t
 
 -- Each candidate stands in the list of all at its number, and no two have one number.
 pub record AreNumbered (l : Language) : Type 0 where

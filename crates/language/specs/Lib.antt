@@ -11,8 +11,6 @@ pub mod Inside
 pub mod Building
 pub mod Framing
 pub mod Built
-pub mod TellingApart
-pub mod Scenes
 pub mod Pairs
 pub mod PairMasks
 pub mod PairOrder

@@ -14,3 +14,4 @@ pub mod Valuing
 pub mod Taking
 pub mod Modelled
 pub mod EachText
+mod RangeRuns

@@ -1,6 +1,6 @@
 -- A relation on a scope rejects only tuples within the ranges.
 use Rattle.net_cnf.proofs.Prelude.{◌≡◌, ℕ, zero, suc, ◌^◌, ◌<◌, ◌≤◌, true, false, List, [], ◌∷◌, length, get_or, sym, ◌∙◌, ap, arith, nat_le, and_parts, leb-true, both_ways, true_from_ne_false, tuple_at, length-tuple_at, tuple_at-below, place-tuple_at, Candidate, ValueRange, is_in, range_in, are_in, Language, IsLanguage, IsCandidate, scope_of, relation_of, accepts_there}
-use Rattle.language.proofs.Ranged.{accepted_outside}
+use Rattle.language_laws.proofs.Ranged.{accepted_outside}
 
 -- the place of a tuple that is rejected is that of one within the ranges
 pub rejected_within : (l : Language) (c : Candidate) (at : ℕ) → IsLanguage l → IsCandidate l c → at < l.value_count ^ length (scope_of l c) → accepts_there l c at ≡ false →

@@ -1,6 +1,6 @@
 -- The values of a variable are a run of numbers.
 use Rattle.net_cnf.proofs.Prelude.{◌≡◌, ℕ, ◌+◌, ◌-◌, ◌<◌, ◌≤◌, ◌&&◌, Bool, true, sym, ◌∙◌, subst, arith, All, nat_le, list_any, range_with_len, and_from, and_parts, leb-true, numbers, is_in, IsRange, Language, IsLanguage, variable_count, range_of, values_of, all_numbers, any-filter, any_number}
-use Rattle.language.proofs.RangeRuns.{in_between, numbers_in, size_in}
+use Rattle.net_cnf.proofs.RangeRuns.{in_between, numbers_in, size_in}
 
 abbrev pub first_of : Language → ℕ → ℕ
 first_of l v = (range_of l v).first

@@ -10,12 +10,12 @@ pub use Rattle.std.specs.Option.{ok_or, option_and_then, option_map}
 pub use Rattle.std.specs.Prelude.{All, AllPairs, Contains, IsTrue, IsUtf8, bit_and, nat_eq, nat_le, position, string_bytes, ◌==◌}
 pub use Rattle.std.specs.Str.{bytes_eq, is_utf8}
 pub use Rattle.language.proofs.ByNames.{position_here, position_nowhere}
-pub use Rattle.language.proofs.Ranged.{given_on_sized}
 pub use Rattle.language.specs.Answers.{IsNetwork, has_scope}
 pub use Rattle.language.specs.ByName.{TellsNamed, relation_named, scope_named, texts_of}
 pub use Rattle.language.specs.Language.{AreApart, Given, IsCandidate, IsLanguage, IsScope, Language, given_of, given_on, is_name, is_name_byte, on_scope_of, relation_of, relations_on, scope_at, scope_of, violates}
 pub use Rattle.language.specs.Texts.{candidate_text, containing, is_part, joined, scope_names}
 pub use Rattle.language.specs.declared.candidates.Candidate.{Candidate}
+pub use Rattle.language_laws.proofs.Ranged.{given_on_sized}
 pub use Rattle.rel_table.proofs.Tables.{not_above_itself, one_number}
 pub use Rattle.rel_table.specs.Relation.{IsClosing, IsIntersection, Relation, is_above, meet, meet_all}
 pub use Rattle.serde_json.specs.Data.{Data, Items, item, no_items}

@@ -29,3 +29,4 @@ pub mod FromOn
 pub mod Along
 pub mod Steps
 pub mod Words
+mod Running

@@ -1,7 +1,7 @@
 -- The masks and the bounds of conditions on two variables, and the briefs that rest on them.
 use Rattle.propagators.proofs.Prelude.{◌≡◌, ℕ, ◌+◌, ◌*◌, ◌<◌, ◌≤◌, Bool, true, false, not, ◌&&◌, List, [], ◌∷◌, length, refl, sym, ◌∙◌, ap, subst, arith, inl, inr, ◌⊎◌, ◌==◌, ◌≢◌, slice_index_or, slice_set, bit_at, get_or-set_same, get_or-set_other, cases_eq, eq-eqb, and_parts, filter, numbers, has, any_number, ones_of, Relation, Language, go_together, rejected_of, first_bound, second_bound, is_running, is_chain, AreMasksOf, PairBounds, Arc, is_wanted, IsChain, IsBounded, by_table, AreSides, IsBriefOf, Brief, has-filter, has-ones_of}
 use Rattle.language.proofs.PairMasking.{most_bound, rejected_same}
-use Rattle.language.proofs.Running.{running_between}
+use Rattle.propagators.proofs.Running.{running_between}
 use Rattle.propagators.proofs.Chains.{running_wanted}
 
 module _ (l : Language) (pairs : List Relation) (t : ℕ) (holding : Bool) where

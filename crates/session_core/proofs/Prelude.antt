@@ -21,12 +21,12 @@ pub use Rattle.find_scope.specs.Standing.{StandsFor}
 pub use Rattle.find_scope.specs.declared.run.ScopeNext.{ScopeNext}
 pub use Rattle.language.proofs.Lists.{all_below, any_weaker, find_all}
 pub use Rattle.language.proofs.Members.{any-filter, any-map, find_some}
-pub use Rattle.language.proofs.Ranged.{question_is, split_is_question}
 pub use Rattle.language.specs.Answers.{IsNetwork, has_scope, kept}
 pub use Rattle.language.specs.Language.{IsCandidate, IsLanguage, IsQuestion, Language, candidates, place_on, scope_at, scope_number, scope_of, variable_count, violates}
-pub use Rattle.language.specs.Scenes.{free_choices, on_scope, scene_of, violated_choices}
-pub use Rattle.language.specs.TellingApart.{Choice, Scene, after_reply, allows, splitting_tuple, tells_apart}
 pub use Rattle.language.specs.declared.candidates.Candidate.{Candidate}
+pub use Rattle.language_laws.proofs.Ranged.{question_is, split_is_question}
+pub use Rattle.language_laws.specs.Scenes.{free_choices, on_scope, scene_of, violated_choices}
+pub use Rattle.language_laws.specs.TellingApart.{Choice, Scene, after_reply, allows, splitting_tuple, tells_apart}
 pub use Rattle.multi_tree.specs.Stage.{Asked, Done, IsWalkOn, Ready, Stage, first_asked, put_again, stage_after, turn_at, walk_in}
 pub use Rattle.rel_table.specs.Relation.{place, tuple_at, tuples}
 pub use Rattle.session_laws.proofs.Folds.{assignment_same, one_answer_more, same_assignment}

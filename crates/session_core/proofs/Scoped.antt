@@ -1,6 +1,6 @@
 -- A scope by what is kept there, and a question that is about one scope alone.
 use Rattle.session_core.proofs.Prelude.{◌≡◌, ℕ, Bool, true, false, cond, ◌&&◌, not, List, [], ◌∷◌, ◌++◌, length, map, Some, None, refl, ◌∙◌, ap, sym, subst, arith, ◌==◌, find, is_some, filter, and_from, and_right, eqb-true, All-head, All-tail, is_within, tuples, Candidate, Language, IsLanguage, scope_at, has_scope, scene_of, free_choices, Choice, Scene, tells_apart, splitting_tuple, TellingRun, IsRun, IsRunOn, run_tuple, is_undecided, exact_question, Knowledge, Put, FirstTuple, Tuple, IsAbout, IsFirstTuple, IsTelling, IsPut, AreUnlearned, IsNew, run_question, question_put}
-use Rattle.language.proofs.Covered.{covered_within, same_scope}
+use Rattle.language_laws.proofs.Covered.{covered_within, same_scope}
 use Rattle.bias_store.specs.KeptSet.{kept_relations}
 
 -- ---- what is kept on a scope

@@ -1,6 +1,6 @@
 -- How a walk begins, and where there is none.
 use Rattle.session_core.proofs.Prelude.{◌≡◌, ◌⊎◌, inl, inr, true, ◌&&◌, List, [], ◌∷◌, ◌∙◌, refl, sym, ap, Option, Some, None, and_left, numbers, is_within, Assignment, Multi, Answer, Candidate, Language, IsLanguage, variable_count, scope_of, violates, kept, Turn, Asks, Ends, WalkEnd, violates_some, next_turn, Idle, MOST_SETS, at_turn, go_on, is_lawful, restrict_all, Stage, Ready, Asked, Done, walk_in, turn_at, put_again}
-use Rattle.language.proofs.Accepts.{accepted_at}
+use Rattle.language_laws.proofs.Accepts.{accepted_at}
 use Rattle.session_laws.proofs.States.{put_is, first_turn, find_nothing}
 use Rattle.multi_tree.specs.declared.tree.TreeNext.{TreeNext}
 use Rattle.multi_tree.specs.declared.tree.TreeNext.TheVariants.{Ask, End, Capped}

@@ -5,7 +5,7 @@ use Rattle.assign.specs.Assignment.{Assignment, restrict}
 use Rattle.assign.specs.declared.events.Plan.TheVariants.{Scopes, Multi}
 use Rattle.language.specs.Language.{Language, IsQuestion}
 use Rattle.language.specs.Answers.{has_scope}
-use Rattle.language.specs.Scenes.{on_scope}
+use Rattle.language_laws.specs.Scenes.{on_scope}
 use Rattle.find_c.specs.Run.{TellingRun, IsRun}
 use Rattle.session_laws.specs.Session.{is_lawful}
 use Rattle.multi_tree.specs.Stage.{asked_in, first_asked}

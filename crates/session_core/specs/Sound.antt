@@ -8,8 +8,8 @@ use Rattle.language.specs.Answers.{has_scope}
 use Rattle.find_scope.specs.declared.run.ScopeNext.{ScopeNext}
 use Rattle.find_scope.specs.declared.run.ScopeNext.TheVariants.{Wants, Found}
 use Rattle.find_c.specs.Run.{TellingRun, IsRun}
-use Rattle.language.specs.TellingApart.{Choice}
-use Rattle.language.specs.Scenes.{free_choices}
+use Rattle.language_laws.specs.TellingApart.{Choice}
+use Rattle.language_laws.specs.Scenes.{free_choices}
 use Rattle.find_c.specs.Standing.{LeavesChoices}
 use Rattle.find_c.specs.declared.run.RelNext.{RelNext}
 use Rattle.session_laws.specs.Walk.{violates_some}

@@ -10,8 +10,8 @@ ghost use Rattle.language.specs.Language.{scope_number, IsCandidate, IsQuestion}
 ghost use Rattle.language.specs.Answers.{has_scope};
 ghost use Rattle.find_scope.specs.Standing.{StandsFor};
 ghost use Rattle.find_c.specs.Run.{IsRun};
-ghost use Rattle.language.specs.TellingApart.{Choice, after_reply};
-ghost use Rattle.language.specs.Scenes.{scene_of};
+ghost use Rattle.language_laws.specs.TellingApart.{Choice, after_reply};
+ghost use Rattle.language_laws.specs.Scenes.{scene_of};
 ghost use Rattle.find_c.specs.Standing.{LeavesChoices};
 ghost use Rattle.session_laws.specs.Session.{found, go_on, settle_choices, settle_halving};
 ghost use Rattle.multi_tree.specs.Stage.{walk_in, asked_in};

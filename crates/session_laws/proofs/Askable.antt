@@ -1,6 +1,6 @@
 -- Each question that is asked is one of the language, and gives some variable a value.
 use Rattle.session_laws.proofs.Prelude.{◌≡◌, ℕ, zero, suc, ◌*◌, ◌<◌, ◌≤◌, Bool, true, false, ◌&&◌, not, List, [], ◌∷◌, ◌++◌, length, map, Option, Some, None, refl, sym, ◌∙◌, ap, subst, arith, inl, inr, ◌⊎◌, ⊎_elim, All, slice_index_or, is_some, option_map, option_and_then, position, list_any, cases_lt, and_parts, or_cases, or_left, All-head, All-tail, All-nil, All-cons, All-map, All-weaker, list_any_at, get_or-eq_default, numbers, is_same, Assignment, value_of, covers, restrict, is_complete, Answer, Plan, Scopes, Quacq, Multi, tuples, Candidate, Language, IsLanguage, IsCandidate, IsQuestion, candidates, is_question, variable_count, scope_at, scope_of, relations_on, violates, accepts, kept, is_struck, has_scope, scene_of, on_scope, free_choices, violated_choices, Choice, splitting_tuple, tells_apart, remaining, find_all, all_below, any-filter, Halved, Wants, Got, Walk, Asks, violates_some, learned_within, parts_without, take_set, next_turn, State, Idle, Halving, Choosing, Walking, Over, At, MOST_SETS, wanted_set, open_question, next_scope, is_undecided, scope_question, is_just, is_lawful, learn, at_turn, go_on, settle_choices, chosen, begin_choosing, found, with_quiet_replies, halved, settle_halving, replied, replied_tuple, on_scope_asked, begun, step, state_after, has_value, IsAskable, QuestionsHaveValues, all_flat_map, all_candidates}
-use Rattle.language.proofs.Ranged.{question_is, split_is_question}
+use Rattle.language_laws.proofs.Ranged.{question_is, split_is_question}
 use Rattle.session_laws.proofs.Lists.{tuples_long}
 use Rattle.session_laws.proofs.OnScope.{covers_assigned}
 use Rattle.session_laws.proofs.Choices.{free_known}

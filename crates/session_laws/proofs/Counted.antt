@@ -13,7 +13,7 @@ use Rattle.session_laws.proofs.Lengths.{scope_length, arity_fits}
 use Rattle.session_laws.proofs.Noes.{IsLive, noes_yes, noes_no, quiet_counts, nothing_left}
 use Rattle.session_laws.proofs.Counts.{cost, IsShort, IsOnShort, Counts, go_on_counts, settle_counts, choose_counts}
 use Rattle.shared_lemmas.proofs.Lists.{fewer_kept}
-use Rattle.language.proofs.FewScopes.{as_many, few_scopes}
+use Rattle.language_laws.proofs.FewScopes.{as_many, few_scopes}
 
 -- ---- settling a halving
 

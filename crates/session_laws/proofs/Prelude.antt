@@ -27,16 +27,16 @@ pub use Rattle.find_scope.proofs.Runs.{Every, IsKnown, RunTo, Sub, asked_within,
 pub use Rattle.find_scope.specs.Bound.{log_up, noes}
 pub use Rattle.find_scope.specs.Halving.{Got, Halved, Wants, ask, halve, is_empty, then_got}
 unfoldable pub use Rattle.find_scope.specs.Halving.{halve_within}
-pub use Rattle.language.proofs.Accepts.{accepted_at, accepted_from}
 pub use Rattle.language.proofs.Beside.{scope_rises, tuple_fits, value_of_assigned}
-pub use Rattle.language.proofs.Covered.{IsGathered, IsTold, covered_converged, denied, gather, learned_is, none_on, not_struck, only_there, rejected_on, same_scope}
 pub use Rattle.language.proofs.Lists.{all_below, find_all}
 pub use Rattle.language.proofs.Members.{all_candidates, any-filter, any-map, any_candidate, any_number, any_tuple, find_none, find_some}
 pub use Rattle.language.specs.Answers.{IsNetwork, IsNoOn, NoneAgrees, agrees, has_scope, is_struck, kept}
 pub use Rattle.language.specs.Language.{AreApart, Given, IsCandidate, IsImplied, IsLanguage, IsQuestion, IsScope, Language, accepts, candidates, candidates_on, given_on, is_question, is_ranged, relation_of, relations_on, scope_at, scope_of, variable_count, violates}
-pub use Rattle.language.specs.Scenes.{free_choices, on_scope, scene_of, violated_choices}
-pub use Rattle.language.specs.TellingApart.{Choice, Scene, after_reply, allows, remaining, splitting_tuple, tells_apart}
 pub use Rattle.language.specs.declared.candidates.Candidate.{Candidate}
+pub use Rattle.language_laws.proofs.Accepts.{accepted_at, accepted_from}
+pub use Rattle.language_laws.proofs.Covered.{IsGathered, IsTold, covered_converged, denied, gather, learned_is, none_on, not_struck, only_there, rejected_on, same_scope}
+pub use Rattle.language_laws.specs.Scenes.{free_choices, on_scope, scene_of, violated_choices}
+pub use Rattle.language_laws.specs.TellingApart.{Choice, Scene, after_reply, allows, remaining, splitting_tuple, tells_apart}
 pub use Rattle.rel_table.specs.Relation.{IsClosing, IsIntersection, Relation, holds, is_above, meet, meet_all, tuples}
 pub use Rattle.session_laws.specs.Bound.{greatest_arity, most_answers}
 pub use Rattle.session_laws.specs.Examples.{binary, eq, equal_or_not, ne, none, pair, says, three_equal, untrue}

@@ -3,7 +3,7 @@ use Rattle.session_laws.proofs.Prelude.{◌≡◌, ℕ, ◌<◌, Bool, true, fal
 use Rattle.session_laws.proofs.Lists.{is_none_option}
 use Rattle.session_laws.proofs.Choices.{kept_is_choice, none_is_choice, IsSound, IsHalfway, reply_halfway, settled, begin_halfway, nothing_yet}
 use Rattle.session_laws.proofs.Folds.{passed, asked_is, reached}
-use Rattle.language.proofs.Plain.{length-tuple_on}
+use Rattle.language.proofs.Beside.{length-tuple_on}
 use Rattle.assign.proofs.Masks.{not_alone}
 
 -- ---- the end: what is kept where nothing is learned accepts every tuple

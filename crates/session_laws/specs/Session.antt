@@ -11,8 +11,8 @@ use Rattle.language.specs.Language.{is_question, Language, variable_count, accep
 use Rattle.assign.specs.Events.{Answer}
 use Rattle.language.specs.Answers.{kept, has_scope}
 use Rattle.find_scope.specs.Halving.{Halved, Wants, Got, halve}
-use Rattle.language.specs.Scenes.{scene_of, on_scope, free_choices, violated_choices}
-use Rattle.language.specs.TellingApart.{Choice, Scene, splitting_tuple, after_reply, remaining}
+use Rattle.language_laws.specs.Scenes.{scene_of, on_scope, free_choices, violated_choices}
+use Rattle.language_laws.specs.TellingApart.{Choice, Scene, splitting_tuple, after_reply, remaining}
 use Rattle.session_laws.specs.Walk.{Walk, WalkEnd, Turn, Asks, Ends, next_turn, violates_some}
 
 -- What a session is doing, with its network last but for the walk that it goes on with.

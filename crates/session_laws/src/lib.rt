@@ -15,7 +15,7 @@
 //! - Where nothing is open, the network is one of the language, gives every answer, and has at most
 //!   one candidate a scope. If each kept candidate is implied too, or no scope is next in plan
 //!   Scopes, it is covered, and so it is what the answers converge on
-//!   (`language::laws::covered_is_converged`).
+//!   (`language_laws::laws::covered_is_converged`).
 //! - A session is over only where no network gives the answers. In plan Scopes it never is.
 //! - Where the walk of an example has ended and wasn't cut off, nothing is left to learn from the
 //!   example.

@@ -1,20 +1,11 @@
 -- Plain prefixes: each list of values is a prefix, and what one with a value for each variable tells.
-use Rattle.language.proofs.Prelude.{◌≡◌, ℕ, zero, suc, ◌<◌, ◌≤◌, Bool, true, false, cond, ◌&&◌, ◌||◌, not, List, [], ◌∷◌, ◌++◌, length, map, Some, refl, sym, ◌∙◌, ap, subst, arith, ◌==◌, All, is_some, list_any, All-head, All-tail, All-map, list_all-from_AllPass, and_parts, and_from, or_left, or_right, numbers, Assignment, value_beside, covers, tuple_on, is_complete, holds, Candidate, Language, IsLanguage, IsCandidate, IsQuestion, variable_count, scope_of, relation_of, violates, accepts, order_of, prefixes, assignment_of, satisfies, are_ranged, is_plain, plain_size}
+use Rattle.language_laws.proofs.Prelude.{◌≡◌, ℕ, zero, suc, ◌<◌, ◌≤◌, Bool, true, false, cond, ◌&&◌, ◌||◌, not, List, [], ◌∷◌, length, map, Some, refl, sym, ◌∙◌, subst, arith, ◌==◌, All, is_some, list_any, All-head, All-tail, All-map, list_all-from_AllPass, and_from, or_left, or_right, numbers, Assignment, value_beside, covers, tuple_on, is_complete, holds, Candidate, Language, IsLanguage, IsCandidate, IsQuestion, variable_count, scope_of, relation_of, violates, accepts, order_of, prefixes, assignment_of, satisfies, are_ranged, is_plain}
 use Rattle.language.proofs.Members.{any-map, any-flat_map, any_number}
-use Rattle.language.proofs.Lists.{all_below, fewer_pass, front_of}
-use Rattle.language.proofs.Fronts.{ranged_from}
+use Rattle.language.proofs.Lists.{all_below}
+use Rattle.language_laws.proofs.Fronts.{ranged_from}
 use Rattle.language.proofs.Orders.{order_has, length-order, whole_prefix, covers_all, rises_there}
 
 -- ---- a longer network lets fewer prefixes pass
-
-longer_is_stricter : (l : Language) (network more : List Candidate) (c : Candidate) (p : List ℕ) → is_plain l (network ++ more) c p ≡ true → is_plain l network c p ≡ true
-longer_is_stricter l network more c p h =
-    let ranged = and_parts (are_ranged l (assignment_of l c p)) _ h in
-    let both = and_parts (accepts l (network ++ more) (assignment_of l c p)) _ ranged.1 in
-    and_from _ _ ranged.0 (and_from _ _ (front_of (λ b. not (violates l b (assignment_of l c p))) network more both.0) both.1)
-
-pub plain_is_less : (l : Language) (network more : List Candidate) (c : Candidate) → plain_size l (network ++ more) c ≤ plain_size l network c
-plain_is_less l network more c = fewer_pass (is_plain l (network ++ more) c) (is_plain l network c) (prefixes l.value_count (variable_count l)) (longer_is_stricter l network more c)
 
 -- ---- the prefixes have each list of values
 
@@ -26,10 +17,6 @@ any_prefix p d (suc k) (x ∷ values) short small at = or_right (p []) _
     (any-flat_map p (λ (y : ℕ). map (λ rest. y ∷ rest) (prefixes d k)) (numbers d)
     ∙ any_number (λ y. list_any p (map (λ rest. y ∷ rest) (prefixes d k))) d x (All-head (λ y. y < d) x values small)
     (any-map p (λ rest. x ∷ rest) (prefixes d k) ∙ any_prefix (λ rest. p (x ∷ rest)) d k values (omega arith) (All-tail (λ y. y < d) x values small) at))
-
-pub length-tuple_on : (e : Assignment) (scope : List ℕ) → length (tuple_on e scope) ≡ length scope
-length-tuple_on e [] = refl
-length-tuple_on e (v ∷ scope) = ap suc (length-tuple_on e scope)
 
 -- what a list of variables gives, where there is a value for each
 beside_some : (vars values : List ℕ) (v : ℕ) → length values ≡ length vars → is_some (value_beside vars values v) ≡ list_any (λ x. x == v) vars

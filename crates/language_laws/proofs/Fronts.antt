@@ -1,9 +1,9 @@
 -- What an assignment with more values tells of a candidate and of ranges.
-use Rattle.language.proofs.Prelude.{◌≡◌, ℕ, ◌+◌, ◌<◌, ◌≤◌, Bool, true, false, cond, not, List, [], ◌∷◌, ◌++◌, Option, Some, None, refl, sym, ◌∙◌, ap, arith, inl, inr, ◌⊎◌, ◌==◌, is_some, unwrap_or, get_or-eq_default, length-map-range_with_len, length-range_with_len, get_or-range_with_len, list_all-from_AllPass, AllPass-from_list_all, and_parts, and_from, both_ways, not-true, not_from_false, false_from_ne_true, cases_lt, Assignment, value_of, value_beside, assigned, covers, tuple_on, holds, Candidate, Language, variable_count, scope_of, relation_of, violates, accepts, is_ranged, order_of, satisfies, are_ranged, is_plain, numbers}
-use Rattle.language.proofs.Accepts.{accepted_at, accepted_from}
+use Rattle.language_laws.proofs.Prelude.{◌≡◌, ℕ, ◌+◌, ◌<◌, ◌≤◌, Bool, true, false, cond, not, List, [], ◌∷◌, ◌++◌, Option, Some, None, refl, sym, ◌∙◌, ap, arith, inl, inr, ◌⊎◌, ◌==◌, is_some, unwrap_or, get_or-eq_default, length-map-range_with_len, length-range_with_len, get_or-range_with_len, list_all-from_AllPass, AllPass-from_list_all, and_parts, and_from, both_ways, not-true, not_from_false, false_from_ne_true, cases_lt, Assignment, value_of, value_beside, assigned, covers, tuple_on, holds, Candidate, Language, variable_count, scope_of, relation_of, violates, accepts, is_ranged, order_of, satisfies, are_ranged, is_plain, numbers}
+use Rattle.language_laws.proofs.Accepts.{accepted_at, accepted_from}
 use Rattle.language.proofs.Lists.{all_below}
 use Rattle.language.proofs.Beside.{value_of_assigned}
-use Rattle.language.proofs.Preorder.{PassesFronts}
+use Rattle.language_laws.proofs.Preorder.{PassesFronts}
 use Rattle.shared_lemmas.proofs.Read.{known_one}
 
 -- f has each value of e

@@ -1,6 +1,8 @@
 -- Scopes of one length whose variables have all values have the same relations.
-use Rattle.language.proofs.Prelude.{◌≡◌, ℕ, ◌<◌, true, length, map, sym, ◌∙◌, ap, subst, IsClosing, Language, Given, IsLanguage, scope_at, given_of, given_on, relations_on, is_whole}
-use Rattle.language.proofs.Whole.{given_there}
+use Rattle.bias_store.proofs.Prelude.{◌≡◌, ℕ, ◌<◌, true, length, map, sym, ◌∙◌, ap, subst, Language, IsLanguage, scope_at, relations_on, is_whole}
+use Rattle.rel_table.specs.Relation.{IsClosing}
+use Rattle.language.specs.Language.{Given, given_of, given_on}
+use Rattle.bias_store.proofs.Whole.{given_there}
 use Rattle.language.proofs.OneLanguage.{one_closing}
 
 pub whole_alike : (l : Language) → IsLanguage l → (s t : ℕ) → s < length l.scopes → t < length l.scopes → is_whole l s ≡ true → is_whole l t ≡ true → length (scope_at l s) ≡ length (scope_at l t) →

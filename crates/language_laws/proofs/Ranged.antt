@@ -1,11 +1,12 @@
 -- What the ranges ask of a question, and why no tuple outside them is asked: each relation on a scope accepts it there.
-use Rattle.language.proofs.Prelude.{◌≡◌, ℕ, zero, suc, ◌+◌, ◌^◌, ◌<◌, Bool, true, false, cond, ◌||◌, not, List, [], ◌∷◌, length, map, Option, Some, None, refl, sym, ◌∙◌, ap, subst, arith, All, slice_index_or, ◌==◌, nat_le, ForSome, list_all, list_any, zip, leb-true, and_from, and_parts, eqb-true, eq-eqb, both_ways, true_from_ne_false, or_left, get_or_default, All-head, All-tail, All-contains, All-map, All-filter, All-weaker, filter_passes, get_or-range_with_len, length-range_with_len, length-map-range_with_len, list_all-from_AllPass, AllPass-from_list_all, numbers, Assignment, value_of, value_beside, Relation, place, holds, tuples, tuple_at, meet, meet_all, IsIntersection, length-tuples, get_or-tuples, place-below, tuple_at-place, ValueRange, is_in, are_in, widened, Language, Given, IsLanguage, IsQuestion, is_question, is_ranged, variable_count, scope_at, relations_on, range_of, on_scope_of, given_of, given_on}
-use Rattle.language.specs.Scenes.{scene_of, on_scope}
-use Rattle.language.specs.TellingApart.{Choice, allows, tells_apart, splitting_tuple}
+use Rattle.language_laws.proofs.Prelude.{◌≡◌, ℕ, zero, suc, ◌+◌, ◌^◌, ◌<◌, Bool, true, false, cond, ◌||◌, not, List, [], ◌∷◌, length, map, Option, Some, None, refl, sym, ◌∙◌, ap, subst, arith, All, slice_index_or, ◌==◌, nat_le, ForSome, list_all, list_any, zip, leb-true, and_from, and_parts, eqb-true, eq-eqb, both_ways, true_from_ne_false, or_left, get_or_default, All-head, All-tail, All-contains, All-map, All-filter, All-weaker, filter_passes, get_or-range_with_len, length-range_with_len, length-map-range_with_len, list_all-from_AllPass, AllPass-from_list_all, numbers, Assignment, value_of, value_beside, Relation, place, holds, tuples, tuple_at, meet, meet_all, IsIntersection, length-tuples, get_or-tuples, place-below, tuple_at-place, ValueRange, is_in, are_in, widened, Language, Given, IsLanguage, IsQuestion, is_question, is_ranged, variable_count, scope_at, relations_on, range_of, on_scope_of, given_of, given_on}
+use Rattle.language_laws.specs.Scenes.{scene_of, on_scope}
+use Rattle.language_laws.specs.TellingApart.{Choice, allows, tells_apart, splitting_tuple}
 use Rattle.language.proofs.Beside.{value_of_assigned, beside_fits}
 use Rattle.language.proofs.Lists.{all_below}
 use Rattle.language.proofs.Meets.{meet_at}
 use Rattle.language.proofs.Members.{find_some}
+use Rattle.language.proofs.Within.{length-widened}
 
 -- ---- a question by its test
 
@@ -62,14 +63,6 @@ widened_at ranges d scope r u size long small =
   where
     low : place d u < d ^ length scope
     low = subst (λ n. place d u < d ^ n) long (place-below d u small)
-
-pub length-widened : (ranges : List ValueRange) (d : ℕ) (scope : List ℕ) (r : Relation) → length r ≡ d ^ length scope → length (widened ranges d scope r) ≡ d ^ length scope
-length-widened ranges d scope r size = zipped (tuples d (length scope)) r (length-tuples d (length scope) ∙ sym size) ∙ length-tuples d (length scope)
-  where
-    zipped : (us : List (List ℕ)) (r : Relation) → length us ≡ length r → length (map (λ (both : List ℕ × Bool). not (are_in ranges scope both.0) || both.1) (zip us r)) ≡ length us
-    zipped [] r same = refl
-    zipped (u ∷ us) [] same = absurd (omega arith)
-    zipped (u ∷ us) (b ∷ r) same = ap suc (zipped us r (omega arith))
 
 -- ---- a tuple with a value outside
 

@@ -1,5 +1,5 @@
 -- Candidates on different scopes are no more than there are scopes.
-use Rattle.language.proofs.Prelude.{◌≡◌, ℕ, suc, ◌≤◌, Bool, true, false, cond, ◌||◌, ◌&&◌, not, List, [], ◌∷◌, length, refl, sym, ◌∙◌, arith, ◌==◌, All, AllPairs, slice_index_or, filter, length-range_with_len, and_from, both_ways, not_from_false, eqb-true, eq-eqb, false_from_ne_true, numbers, has, Candidate, Language}
+use Rattle.language_laws.proofs.Prelude.{◌≡◌, ℕ, suc, ◌≤◌, Bool, true, false, cond, ◌||◌, ◌&&◌, not, List, [], ◌∷◌, length, refl, sym, ◌∙◌, arith, ◌==◌, All, AllPairs, slice_index_or, filter, length-range_with_len, and_from, both_ways, not_from_false, eqb-true, eq-eqb, false_from_ne_true, numbers, has, Candidate, Language}
 use Rattle.shared_lemmas.proofs.Lists.{fewer_kept}
 use Rattle.language.specs.Answers.{IsNetwork}
 use Rattle.language.proofs.Lists.{any_weaker}

@@ -1,5 +1,5 @@
 -- The values of a range are a run of numbers.
-use Rattle.language.proofs.Prelude.{◌≡◌, ℕ, ◌+◌, ◌-◌, ◌<◌, ◌≤◌, ◌++◌, ◌∙◌, ap, arith, true, ◌⊎◌, inl, inr, cases_lt, append-nil, filter-append, filter, range_with_len, numbers, ValueRange, is_in}
+use Rattle.net_cnf.proofs.Prelude.{◌≡◌, ℕ, ◌+◌, ◌-◌, ◌<◌, ◌≤◌, ◌++◌, ◌∙◌, ap, arith, true, ◌⊎◌, inl, inr, cases_lt, append-nil, filter-append, filter, range_with_len, numbers, ValueRange, is_in}
 use Rattle.std.specs.Prelude.{min}
 use Rattle.shared_lemmas.proofs.Runs.{run_parts, none_pass, all_pass}
 use Rattle.language.proofs.PairOrders.{below_range, past_range, within_range}

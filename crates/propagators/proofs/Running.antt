@@ -1,5 +1,8 @@
 -- Tests that change once at most.
-use Rattle.language.proofs.Prelude.{◌≡◌, ℕ, zero, suc, ◌+◌, ◌<◌, ◌≤◌, Bool, true, false, cond, refl, sym, ◌∙◌, ap, subst, arith, inl, inr, ◌⊎◌, ◌≢◌, nat_le, beq, cases_eq, both_ways, leb-true, changes_of, is_running}
+use Rattle.propagators.proofs.Prelude.{◌≡◌, ℕ, zero, suc, ◌+◌, ◌<◌, ◌≤◌, Bool, true, false, cond, refl, sym, ◌∙◌, ap, subst, arith, inl, inr, ◌⊎◌, ◌≢◌, nat_le, cases_eq, both_ways, is_running}
+use Rattle.std.specs.Bool.{beq}
+use Rattle.std.proofs.lemmas.Bool.{leb-true}
+use Rattle.language.specs.Pairs.{changes_of}
 use Rattle.language.proofs.PairMasking.{running_fails}
 use Rattle.shared_lemmas.proofs.Booleans.{beq_same}
 

@@ -4,7 +4,7 @@ use Rattle.std.specs.Prelude.{slice_index_or}
 use Rattle.assign.specs.Assignment.{Assignment, assigned}
 use Rattle.language.specs.declared.candidates.Candidate.{Candidate}
 use Rattle.language.specs.Language.{Language, variable_count, scope_at, relations_on, violates}
-use Rattle.language.specs.TellingApart.{Choice, Scene}
+use Rattle.language_laws.specs.TellingApart.{Choice, Scene}
 
 -- what the choices on a scope are about
 abbrev pub scene_of : Language → ℕ → Scene

@@ -1,9 +1,9 @@
 -- The assignment of a prefix, as its values come and go.
-use Rattle.language.proofs.Prelude.{◌≡◌, ℕ, suc, ◌<◌, true, false, cond, ◌&&◌, List, [], ◌∷◌, ◌++◌, length, replicate, Some, None, refl, sym, ◌∙◌, ap, arith, inl, inr, ◌⊎◌, ◌==◌, ◌≢◌, slice_index_or, slice_set, All, AllPairs, ForSome, get_or-set_same, get_or-set_other, get_or-replicate, length-replicate, fill_by_all, length-map-range_with_len, All-map, cases_eq, eq-eqb, ne_eqb, and_parts, and_from, value_of, value_beside, assigned, IsAssignment, is_in, Language, IsQuestion, variable_count, range_of, is_ranged, IsOrder, are_ranged}
+use Rattle.language_laws.proofs.Prelude.{◌≡◌, ℕ, suc, ◌<◌, true, false, cond, ◌&&◌, List, [], ◌∷◌, ◌++◌, length, replicate, Some, None, refl, sym, ◌∙◌, ap, arith, inl, inr, ◌⊎◌, ◌==◌, ◌≢◌, slice_index_or, slice_set, All, AllPairs, ForSome, get_or-set_same, get_or-set_other, get_or-replicate, length-replicate, fill_by_all, length-map-range_with_len, All-map, cases_eq, eq-eqb, ne_eqb, and_parts, and_from, value_of, value_beside, assigned, IsAssignment, is_in, Language, IsQuestion, variable_count, range_of, is_ranged, IsOrder, are_ranged}
 use Rattle.std.proofs.Math.ListN.{length-set}
 use Rattle.language.proofs.Beside.{value_of_assigned, beside_none, beside_fits}
 use Rattle.language.proofs.Lists.{all_below}
-use Rattle.language.proofs.Fronts.{assigned_more, ranged_at, ranged_from, ranged_more}
+use Rattle.language_laws.proofs.Fronts.{assigned_more, ranged_at, ranged_from, ranged_more}
 use Rattle.shared_lemmas.proofs.Booleans.{both_true}
 
 -- ---- the value beside a variable, with one value more

@@ -1,5 +1,5 @@
 -- A covered network is the one that the answers converge on.
-use Rattle.language.proofs.Prelude.{◌≡◌, ℕ, ◌<◌, Bool, true, false, ◌||◌, ◌&&◌, not, List, [], ◌∷◌, length, refl, sym, ◌∙◌, ap, subst, arith, inl, inr, ◌⊎◌, ◌==◌, All, Any, slice_index_or, is_some, beq, list_any, All-head, All-tail, list_any_at, Any-from_list_any, AllPass-from_list_all, list_all-from_AllPass, eqb-true, eq-eqb, cases_eq, cases_order, cases_Bool, and_parts, or_parts, or_from, or_left, or_right, and_left, and_right, and_from, not-true, not_from_false, both_ways, false_from_ne_true, Candidate, is_within, Assignment, covers, value_of, variables_of, is_complete, Language, IsLanguage, IsCandidate, IsQuestion, IsImplied, scope_of, violates, accepts, HasMeets, CoveredIsConverged, has-set_where}
+use Rattle.language_laws.proofs.Prelude.{◌≡◌, ℕ, ◌<◌, Bool, true, false, ◌||◌, ◌&&◌, not, List, [], ◌∷◌, length, refl, sym, ◌∙◌, ap, subst, arith, inl, inr, ◌⊎◌, ◌==◌, All, Any, slice_index_or, is_some, beq, list_any, All-head, All-tail, list_any_at, Any-from_list_any, AllPass-from_list_all, list_all-from_AllPass, eqb-true, eq-eqb, cases_eq, cases_order, cases_Bool, and_parts, or_parts, or_from, or_left, or_right, and_left, and_right, and_from, not-true, not_from_false, both_ways, false_from_ne_true, Candidate, is_within, Assignment, covers, value_of, variables_of, is_complete, Language, IsLanguage, IsCandidate, IsQuestion, IsImplied, scope_of, violates, accepts, HasMeets, CoveredIsConverged, has-set_where}
 use Rattle.assign.specs.Events.{Answer}
 use Rattle.language.specs.Answers.{IsNetwork, IsNoOn, IsCovered, has_scope, agrees, is_struck}
 use Rattle.language.proofs.Meets.{closed_candidates}

@@ -1,5 +1,7 @@
 -- Where the variables of a scope have all values, the vocabulary's relations on it are those of its arity.
-use Rattle.language.proofs.Prelude.{◌≡◌, ◌^◌, Bool, true, false, cond, List, [], ◌∷◌, length, map, refl, ◌∙◌, ap, ℕ, All, ◌==◌, filter, eqb-true, All-head, All-tail, range_in, IsWhole, Language, Given, IsLanguage, scope_at, given_of, given_on, on_scope_of, is_whole}
+use Rattle.bias_store.proofs.Prelude.{◌≡◌, ◌^◌, Bool, true, false, cond, List, [], ◌∷◌, length, map, refl, ◌∙◌, ap, ℕ, All, ◌==◌, filter, eqb-true, All-head, All-tail, Language, IsLanguage, scope_at, is_whole}
+use Rattle.language.specs.Ranges.{range_in, IsWhole}
+use Rattle.language.specs.Language.{Given, given_of, given_on, on_scope_of}
 use Rattle.language.proofs.Within.{wholes_from, widened_where_whole}
 
 same_given : (l : Language) (scope : List ℕ) → All (λ v. IsWhole l.value_count (range_in l.ranges v)) scope → (given : List Given) →

@@ -1,5 +1,5 @@
 -- How a depth-first search goes on in the list of the prefixes.
-use Rattle.language.proofs.Prelude.{◌≡◌, ℕ, zero, suc, ◌+◌, ◌-◌, ◌<◌, Bool, true, false, cond, List, [], ◌∷◌, ◌++◌, length, map, refl, sym, ◌∙◌, ap, subst, arith, length-append, All, slice_index_or, filter, flat_map, range_with_len, All-head, All-tail, All-nil, All-cons, All-append, All-map, filter-append, length-map, both_ways, false_from_ne_true, numbers, prefixes}
+use Rattle.language_laws.proofs.Prelude.{◌≡◌, ℕ, zero, suc, ◌+◌, ◌-◌, ◌<◌, Bool, true, false, cond, List, [], ◌∷◌, ◌++◌, length, map, refl, sym, ◌∙◌, ap, subst, arith, length-append, All, slice_index_or, filter, flat_map, range_with_len, All-head, All-tail, All-nil, All-cons, All-append, All-map, filter-append, length-map, both_ways, false_from_ne_true, numbers, prefixes}
 use Rattle.language.proofs.Lists.{all_below}
 use Rattle.shared_lemmas.proofs.Lists.{filter-map}
 
@@ -25,10 +25,6 @@ pending d (suc n) (y ∷ p) x = map (λ q. y ∷ q) (pending d n p x) ++ childre
 pub none_passes : {X : Type 0} (P : X → Type 0) (t : X → Bool) (xs : List X) → All P xs → ((x : X) → P x → t x ≡ false) → filter t xs ≡ []
 none_passes P t [] all h = refl
 none_passes P t (x ∷ xs) all h = ap (λ b. cond b (x ∷ filter t xs) (filter t xs)) (h x (All-head P x xs all)) ∙ none_passes P t xs (All-tail P x xs all) h
-
-filter_flat : {X Y : Type 0} (P : X → Type 0) (t : Y → Bool) (f g : X → List Y) (xs : List X) → All P xs → ((x : X) → P x → filter t (f x) ≡ g x) → filter t (flat_map f xs) ≡ flat_map g xs
-filter_flat P t f g [] all h = refl
-filter_flat P t f g (x ∷ xs) all h = filter-append t (f x) (flat_map f xs) ∙ (λ i. h x (All-head P x xs all) i ++ filter_flat P t f g xs (All-tail P x xs all) h i)
 
 -- ---- the values of prefixes
 

@@ -1,5 +1,0 @@
-use Rattle.language.proofs.Covered.{covered_converged}
-use Rattle.language.proofs.laws.covered_is_converged.Goals as goal
-
-pub returns : goal.returns
-returns c = covered_converged

@@ -1,0 +1,3 @@
+pub mod TellingApart
+pub mod Scenes
+pub mod Laws
