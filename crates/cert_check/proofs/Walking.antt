@@ -148,9 +148,6 @@ fronts_other before q p r n x y items now fronts = subst (HasFronts before n) (s
     let at = subst (HasFronts before n) items fronts j long in
     (at.0, front_of j y p low ∙ sym (front_of j x p long) ∙ at.1))
 
-pub fronts_none : (before q : List ℕ) (n : ℕ) → q ≡ [] → HasFronts before n q
-fronts_none before q n none j low = absurd (let size = ap length none in omega (arith, low, size))
-
 -- ---- the tokens that are left
 
 module _ (l : Language) (network : List Candidate) (c : Candidate) where

@@ -13,7 +13,7 @@ pub use Rattle.assign.specs.declared.events.Plan.{Plan}
 pub use Rattle.assign.specs.declared.events.Plan.TheVariants.{Multi, Quacq, Scopes}
 pub use Rattle.find_c.proofs.Replies.{run_tuple}
 pub use Rattle.find_c.specs.Run.{IsRun, TellingRun}
-pub use Rattle.find_c.specs.Standing.{IsFound, IsFree, IsRunOn, LeavesChoices}
+pub use Rattle.find_c.specs.Standing.{IsFound, IsRunOn, LeavesChoices}
 pub use Rattle.find_scope.proofs.Moves.{standing_tells}
 pub use Rattle.find_scope.specs.Halving.{Halved, Wants, halve}
 pub use Rattle.find_scope.specs.Run.{Run as ScopeRun}

@@ -39,10 +39,6 @@ new_run l live network s run all some on =
       and_from _ _ (ap not free) ((λ i. is_some (splitting_tuple (scene_of l (sym on.scope i)) (sym on.choices i))) ∙ ap is_some on.sound.tuple),
     )
 
--- where the choices on a scope don't differ, it is decided
-pub none_splits : (l : Language) (live network : List Candidate) (s : ℕ) → splitting_tuple (scene_of l s) (free_choices live s) ≡ None → is_undecided l live network s ≡ false
-none_splits l live network s none = and_right (not (has_scope network s)) _ (ap is_some none)
-
 -- ---- a question about a tuple
 
 pub about_tuple : (l : Language) → IsLanguage l → (run : TellingRun) → IsRun l run → IsAbout l (run_question l run) run.scope

@@ -1,5 +1,5 @@
 -- What an answer makes of a session.
-use Rattle.session_core.proofs.Prelude.{◌≡◌, ℕ, zero, suc, ◌+◌, ◌<◌, ◌≤◌, Bool, true, false, cond, List, [], ◌∷◌, ◌++◌, refl, sym, ◌∙◌, ap, arith, inl, inr, ◌⊎◌, Option, Some, None, find, range_with_len, option_map, cases_eq, numbers, Assignment, restrict, Answer, Plan, Scopes, Quacq, Multi, Candidate, Language, IsLanguage, scope_number, variable_count, kept, Wants, halve, TellingRun, IsRunOn, IsFound, IsFree, Choice, splitting_tuple, after_reply, scene_of, on_scope, free_choices, violated_choices, Walk, WalkEnd, State, Idle, Halving, Choosing, Walking, At, at_turn, replied, begun, learn, chosen, go_on, if_passes, is_just, replied_tuple, settle_choices, settle_halving, found, begin_choosing, Over, wanted_set, on_scope_asked, scope_question, is_undecided, next_scope, is_lawful, state_after, OneAnswerMore, assignment_same, Stage, Asked, walk_in, first_asked, NoneBefore, part_replied}
+use Rattle.session_core.proofs.Prelude.{◌≡◌, ℕ, zero, suc, ◌+◌, ◌<◌, ◌≤◌, Bool, true, false, cond, List, [], ◌∷◌, ◌++◌, refl, sym, ◌∙◌, ap, arith, inl, inr, ◌⊎◌, Option, Some, None, find, range_with_len, option_map, cases_eq, numbers, Assignment, restrict, Answer, Plan, Scopes, Quacq, Multi, Candidate, Language, IsLanguage, scope_number, variable_count, kept, Wants, halve, IsFound, Choice, splitting_tuple, after_reply, scene_of, on_scope, free_choices, violated_choices, Walk, WalkEnd, State, Idle, Halving, Choosing, Walking, At, at_turn, replied, begun, learn, chosen, go_on, if_passes, is_just, replied_tuple, settle_choices, settle_halving, found, begin_choosing, wanted_set, on_scope_asked, scope_question, is_undecided, next_scope, is_lawful, state_after, OneAnswerMore, assignment_same, Stage, Asked, walk_in, first_asked, NoneBefore, part_replied}
 use Rattle.session_core.proofs.Walks.{first_turns, again_rests}
 
 abbrev pub said : Assignment → Bool → Answer
@@ -91,13 +91,6 @@ part_step more l plan t e set replies network walk w reply at wants =
 
 -- ---- where the choices stand
 
--- the choices still differ
-pub still_choosing : (l : Language) (t : List Answer) (s : ℕ) (choices : List Choice) (network : List Candidate) (walk : Option Walk) (run : TellingRun) → IsRunOn l s choices run →
-    settle_choices l t s choices network walk ≡ Choosing run.scope run.choices network walk
-still_choosing l t s choices network walk run on =
-    let differ : splitting_tuple (scene_of l s) choices ≡ Some run.tuple = (λ i. splitting_tuple (scene_of l (sym on.scope i)) (sym on.choices i)) ∙ on.sound.tuple in
-    ap (chosen l t s choices network walk) differ ∙ (λ i. Choosing (sym on.scope i) (sym on.choices i) network walk)
-
 -- one remains
 pub has_learned : (l : Language) (t : List Answer) (s : ℕ) (choices : List Choice) (network : List Candidate) (walk : Option Walk) (c : Candidate) → IsFound l s choices c →
     settle_choices l t s choices network walk ≡ go_on l t (network ++ c ∷ []) walk
@@ -105,12 +98,6 @@ has_learned l t s choices network walk c found =
     ap (chosen l t s choices network walk) found.settled
     ∙ ap (λ r. go_on l t (learn network s r) walk) found.remains
     ∙ ap (λ v. go_on l t (network ++ (let d : Candidate = record { scope = v; rel = c.rel } in d) ∷ []) walk) (sym found.scope)
-
--- none remains
-pub has_none : (l : Language) (t : List Answer) (s : ℕ) (choices : List Choice) (network : List Candidate) (walk : Option Walk) → IsFree l s choices →
-    settle_choices l t s choices network walk ≡ go_on l t network walk
-has_none l t s choices network walk free =
-    ap (chosen l t s choices network walk) free.settled ∙ ap (λ r. go_on l t (learn network s r) walk) free.remains
 
 -- what is found among the scopes has choices
 pub found_choices : (l : Language) (t : List Answer) (e : Assignment) (network live : List Candidate) (walk : Option Walk) (set : List ℕ) (s : ℕ) → live ≡ kept l t network → scope_number l set ≡ Some s →
@@ -121,12 +108,6 @@ found_choices l t e network live walk set s is at some =
     begins : (choices : List Choice) → (choices ≡ [] → ⊥) → begin_choosing l t s choices network walk ≡ settle_choices l t s choices network walk
     begins [] some = absurd (some refl)
     begins (c ∷ choices) some = refl
-
--- or none
-pub found_none : (l : Language) (t : List Answer) (e : Assignment) (network live : List Candidate) (walk : Option Walk) (set : List ℕ) (s : ℕ) → live ≡ kept l t network → scope_number l set ≡ Some s →
-    violated_choices l live e s ≡ [] → found l t e network walk (scope_number l set) ≡ Over network
-found_none l t e network live walk set s is at none =
-    ap (found l t e network walk) at ∙ ap (λ cs. begin_choosing l t s (violated_choices l cs e s) network walk) (sym is) ∙ ap (λ choices. begin_choosing l t s choices network walk) none
 
 -- ---- the next scope
 

@@ -1,5 +1,5 @@
 -- The table of a relation's tuples.
-use Rattle.voc_read.proofs.Prelude.{◌≡◌, ℕ, zero, suc, ℤ, pos, ◌^◌, ◌<◌, ◌≤◌, Bool, false, List, length, nat_eq, Some, None, Ok, Err, refl, sym, ap, ◌∙◌, ap₂, arith, list_any, same_lists, get_or_default, get_or-map-range_with_len, length-map-range_with_len, le-leb, same_Some, arity_of, place_of_shown, first_fault, refusal_of, IsMade, Marks, TableFault, Table, accepting, relation_of_tuples}
+use Rattle.voc_read.proofs.Prelude.{◌≡◌, ℕ, zero, suc, ℤ, pos, ◌^◌, ◌<◌, ◌≤◌, Bool, false, List, length, nat_eq, Some, None, Ok, refl, sym, ap, ◌∙◌, ap₂, arith, list_any, same_lists, get_or_default, get_or-map-range_with_len, length-map-range_with_len, le-leb, same_Some, arity_of, place_of_shown, first_fault, refusal_of, IsMade, Marks, accepting, relation_of_tuples}
 use Rattle.rel_table.specs.Table.{TruthTable, IsTable}
 
 -- the truth values that are marked so are those of the relation that accepts exactly the tuples
@@ -20,10 +20,6 @@ small (suc (suc (suc (suc (suc a))))) h k = absurd (omega arith)
 -- nothing but the tuples is wrong
 pub refusal-small : (a : ℕ) (lo : ℤ) (d : ℕ) (tuples : List (List ℤ)) → 1 ≤ a → a ≤ 4 → d ^ a ≤ 65536 → refusal_of (pos a) lo d tuples ≡ first_fault a lo d 0 tuples
 refusal-small a lo d tuples some short fits = rw (small a some short, le-leb (d ^ a) 65536 fits) refl
-
-pub table-refused : (i a : ℕ) (lo : ℤ) (d : ℕ) (tuples : List (List ℤ)) (fault : TableFault) → 1 ≤ a → a ≤ 4 → d ^ a ≤ 65536
-    → refusal_of (pos a) lo d tuples ≡ Some fault → relation_of_tuples i lo d a tuples ≡ Err (Table i fault)
-table-refused i a lo d tuples fault some short fits h = rw (sym (refusal-small a lo d tuples some short fits) ∙ h) refl
 
 pub table-made : (i a : ℕ) (lo : ℤ) (d : ℕ) (tuples : List (List ℤ)) (table : TruthTable) → 1 ≤ a → a ≤ 4 → d ^ a ≤ 65536
     → IsMade (pos a) lo d tuples table → IsTable table → (table.arity ≡ a) × (table.value_count ≡ d) × (relation_of_tuples i lo d a tuples ≡ Ok table.truth)
