@@ -5,8 +5,6 @@ use Rattle.language.proofs.Lists.{all_below}
 use Rattle.language_laws.proofs.Fronts.{ranged_from}
 use Rattle.language.proofs.Orders.{order_has, length-order, whole_prefix, covers_all, rises_there}
 
--- ---- a longer network lets fewer prefixes pass
-
 -- ---- the prefixes have each list of values
 
 pub any_prefix : (p : List ℕ → Bool) (d k : ℕ) (values : List ℕ) → length values ≤ k → All (λ x. x < d) values → p values ≡ true → list_any p (prefixes d k) ≡ true
