@@ -118,8 +118,6 @@ orders_are_known l c is candidate = record {
       (list_any_at (λ x. x == slice_index_or (filter (λ v. not (has (scope_of l c) v)) (numbers (variable_count l))) j e) (scope_of l c) k d low (eq-eqb _ _ same)));
 }
 
--- ---- each variable stands in an order
-
 -- ---- how an order is written
 
 -- one that the scope has is passed over, and another one is put

@@ -21,5 +21,3 @@ pub one_ordered : (xs : List ℕ) → 1 ≤ length xs → length xs < 2 → true
 one_ordered (a ∷ []) low high = refl
 one_ordered [] low high = absurd (omega arith)
 one_ordered (a ∷ b ∷ xs) low high = absurd (omega arith)
-
--- ---- All of what a list is made of
