@@ -1,5 +1,5 @@
 -- A text that grows by pieces, and what is known where it would be too long.
-use Rattle.net_cnf.proofs.Prelude.{◌≡◌, ℕ, zero, suc, ◌+◌, ◌-◌, ◌<◌, ◌≤◌, List, [], ◌∷◌, ◌++◌, length, Result, Ok, Err, sym, ◌∙◌, ap, arith, append_assoc, flat_map, range_with_len, append-nil, length-append, map-id, flat_map-append, map-range_with_len_more, MOST_BYTES, Grown, IsTooLong, AddsText}
+use Rattle.net_cnf.proofs.Prelude.{◌≡◌, ℕ, zero, suc, ◌+◌, ◌-◌, ◌<◌, ◌≤◌, List, [], ◌∷◌, ◌++◌, length, Result, Ok, Err, sym, ◌∙◌, ap, arith, append_assoc, flat_map, range_with_len, append-nil, length-append, map-id, flat_map-append, map-range_with_len_more, MOST_CNF, Grown, IsTooLong, AddsText}
 use Rattle.net_cnf.specs.declared.fault.CnfFault.{CnfFault}
 use Rattle.net_cnf.specs.declared.fault.CnfFault.TheVariants.{TooLarge, Memory}
 

@@ -41,7 +41,7 @@ pub use Rattle.net_cnf.specs.Marked.{AreNamed, AreOnes, IsMarked, marks, signs_o
 pub use Rattle.net_cnf.specs.Models.{IsModel, MOST_MODEL, modelled_assignment, boolean_count, both_named, is_named, literals_of, not_one, only_of, solution_in, solution_of, true_values, truths_of, refused_where, violated}
 unfoldable pub use Rattle.net_cnf.specs.Models.{model_of}
 pub use Rattle.net_cnf.specs.Paired.{accepts_there, item_piece, paired, place_piece, tuple_there}
-pub use Rattle.net_cnf.specs.Texts.{MOST_BYTES, boolean_text, clause_text, cnf_text, head_text, literal_text}
+pub use Rattle.net_cnf.specs.Texts.{MOST_CNF, boolean_text, clause_text, cnf_text, head_text, literal_text}
 pub use Rattle.net_cnf.specs.Tokens.{all_tokens, bad_token, behind_v, is_blank, is_end, is_newline, is_number, is_remark, literals_in, number_in, signed, tokens_of_line, words}
 unfoldable pub use Rattle.net_cnf.specs.Tokens.{literal_in, tokens}
 pub use Rattle.net_cnf.specs.declared.literal.Literal.{Literal}

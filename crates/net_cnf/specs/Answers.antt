@@ -1,6 +1,6 @@
 -- What calls answer, beside what is stated.
 use Rattle.std.specs.Prelude.{◌≡◌, ◌≢◌, ◌<◌, ◌≤◌, ℕ, ◌+◌, List, ◌++◌, length, Result, Ok, Err}
-use Rattle.net_cnf.specs.Texts.{MOST_BYTES}
+use Rattle.net_cnf.specs.Texts.{MOST_CNF}
 use Rattle.net_cnf.specs.declared.fault.CnfFault.{CnfFault}
 use Rattle.net_cnf.specs.declared.fault.CnfFault.TheVariants.{TooLarge, Memory}
 use Rattle.net_cnf.specs.declared.model_fault.ModelFault.{ModelFault}
@@ -13,11 +13,11 @@ Writes seen stated (Err fault) = fault ≢ Memory → stated ≡ Err fault
 
 -- a text with a piece more, and not too long
 abbrev pub Grown : List ℕ → List ℕ → List ℕ → Type 0
-Grown old piece new = (new ≡ old ++ piece) × (length new ≤ MOST_BYTES)
+Grown old piece new = (new ≡ old ++ piece) × (length new ≤ MOST_CNF)
 
 -- the text would be too long with the piece
 abbrev pub IsTooLong : List ℕ → List ℕ → CnfFault → Type 0
-IsTooLong old piece TooLarge = MOST_BYTES < length old + length piece
+IsTooLong old piece TooLarge = MOST_CNF < length old + length piece
 IsTooLong old piece Memory = Unit {0}
 
 -- a call adds a piece to a text, or finds that the text would be too long with it

@@ -13,8 +13,8 @@ use Rattle.net_cnf.specs.declared.fault.CnfFault.{CnfFault}
 use Rattle.net_cnf.specs.declared.fault.CnfFault.TheVariants.{TooLarge}
 
 -- the most bytes that the text may have
-abbrev pub MOST_BYTES : ℕ
-MOST_BYTES = 67108864
+abbrev pub MOST_CNF : ℕ
+MOST_CNF = 67108864
 
 -- the number, with a sign before it where the negation is meant
 abbrev pub literal_text : Literal → List ℕ
@@ -42,5 +42,5 @@ cnf_text l network = flat_map (boolean_text l) (booleans l) ++ (head_text (lengt
 
 -- the text, where it isn't too long
 abbrev pub cnf_of : Language → List Candidate → Result (List ℕ) CnfFault
-cnf_of l network = if nat_lt MOST_BYTES (length (cnf_text l network)) then Err TooLarge
+cnf_of l network = if nat_lt MOST_CNF (length (cnf_text l network)) then Err TooLarge
     else Ok (cnf_text l network)

@@ -17,7 +17,7 @@ ghost use Rattle.net_cnf.specs.Booleans.{boolean, booleans_of, boolean_number};
 ghost use Rattle.net_cnf.specs.Clauses.{literal, some_value, not_both, no_two_values};
 ghost use Rattle.net_cnf.specs.Models.{boolean_count};
 ghost use Rattle.net_cnf.specs.Paired.{paired};
-ghost use Rattle.net_cnf.specs.Texts.{MOST_BYTES, literal_text, clause_text, boolean_text};
+ghost use Rattle.net_cnf.specs.Texts.{MOST_CNF, literal_text, clause_text, boolean_text};
 ghost use Rattle.net_cnf.specs.Texts.{head_text};
 
 use crate::fault::CnfFault;
@@ -26,7 +26,7 @@ use language::{Language, Memory};
 use std::alloc::Global;
 
 /// The most bytes that the text may have.
-const MOST_TEXT: usize = 67_108_864;
+const MOST_CNF: usize = 67_108_864;
 
 /// How many values a variable may have.
 pub(crate) fn width(lang: &Language, v: u8) -> u32
@@ -75,10 +75,10 @@ pub(crate) fn number_of(lang: &Language, v: u8, x: u8) -> u32
 
 /// Whether a text of so many bytes isn't too long.
 fn within(bytes: usize) -> Result<(), CnfFault>
-    ensures { MatchResult result (λ _. bytes ≤ MOST_BYTES) (λ fault. (fault ≡ CnfFault.TooLarge)
-        × (MOST_BYTES < bytes)) }
+    ensures { MatchResult result (λ _. bytes ≤ MOST_CNF) (λ fault. (fault ≡ CnfFault.TooLarge)
+        × (MOST_CNF < bytes)) }
 {
-    if bytes > MOST_TEXT {
+    if bytes > MOST_CNF {
         return Err(CnfFault::TooLarge);
     }
     Ok(())
@@ -117,7 +117,7 @@ fn add_end(text: &mut String) -> Result<(), CnfFault>
 
 /// Adds the clause that a variable has a value: `1 2 0`.
 pub(crate) fn add_some_value(text: &mut String, lang: &Language, v: u8) -> Result<(), CnfFault>
-    requires room { length (string_bytes text.old) ≤ MOST_BYTES }
+    requires room { length (string_bytes text.old) ≤ MOST_CNF }
     requires variable { v < variable_count lang.now }
     requires lawful { IsLanguage lang.now }
     ensures { AddsText (string_bytes text.old) (clause_text (some_value lang.now v))
@@ -132,7 +132,7 @@ pub(crate) fn add_some_value(text: &mut String, lang: &Language, v: u8) -> Resul
 
 /// Adds the clause that a variable hasn't both values: `-1 -2 0`.
 fn add_not_both(text: &mut String, lang: &Language, v: u8, x: u8, y: u8) -> Result<(), CnfFault>
-    requires room { length (string_bytes text.old) ≤ MOST_BYTES }
+    requires room { length (string_bytes text.old) ≤ MOST_CNF }
     requires variable { v < variable_count lang.now }
     requires from { (range_of lang.now v).first ≤ x }
     requires rising { x < y }
@@ -147,7 +147,7 @@ fn add_not_both(text: &mut String, lang: &Language, v: u8, x: u8, y: u8) -> Resu
 
 /// Adds those clauses for a value and each value of the variable above it.
 fn add_not_above(text: &mut String, lang: &Language, v: u8, x: u8) -> Result<(), CnfFault>
-    requires room { length (string_bytes text.old) ≤ MOST_BYTES }
+    requires room { length (string_bytes text.old) ≤ MOST_CNF }
     requires variable { v < variable_count lang.now }
     requires from { (range_of lang.now v).first ≤ x }
     requires to { x ≤ (range_of lang.now v).last }
@@ -165,7 +165,7 @@ fn add_not_above(text: &mut String, lang: &Language, v: u8, x: u8) -> Result<(),
 
 /// Adds the clauses that a variable has no two values.
 pub(crate) fn add_no_two_values(text: &mut String, lang: &Language, v: u8) -> Result<(), CnfFault>
-    requires room { length (string_bytes text.old) ≤ MOST_BYTES }
+    requires room { length (string_bytes text.old) ≤ MOST_CNF }
     requires variable { v < variable_count lang.now }
     requires lawful { IsLanguage lang.now }
     ensures { AddsText (string_bytes text.old) (flat_map clause_text (no_two_values lang.now v))
@@ -185,7 +185,7 @@ pub(crate) fn add_not_all(
     scope: &[u8],
     values: &[u8],
 ) -> Result<(), CnfFault>
-    requires room { length (string_bytes text.old) ≤ MOST_BYTES }
+    requires room { length (string_bytes text.old) ≤ MOST_CNF }
     requires long { length scope.now ≡ length values.now }
     requires variables { All (λ v. v < variable_count lang.now) scope.now }
     requires values { IsTrue (are_in lang.now.ranges scope.now values.now) }

@@ -6,6 +6,7 @@ ghost use Rattle.language.specs.Language.{variable_count, IsLanguage, IsQuestion
 ghost use Rattle.net_cnf.specs.Answers.{Reads};
 ghost use Rattle.net_cnf.specs.Marked.{IsMarked, MarksTokens, Names, HasOnes, positive_signs};
 ghost use Rattle.net_cnf.specs.Models.{boolean_count, true_values, only_of, both_named, violated};
+ghost use Rattle.net_cnf.specs.Models.{MOST_MODEL};
 ghost use Rattle.net_cnf.specs.Models.{solution_of, model_of, IsModel};
 ghost use Rattle.net_cnf.specs.Tokens.{tokens};
 ghost use Rattle.net_cnf.specs.declared.literal.Literal.{Literal};
@@ -50,7 +51,7 @@ fn mark(signs: &mut [Signs], literal: Literal)
 fn mark_all(signs: &mut [Signs], bytes: &[u8]) -> Result<(), ModelFault>
     requires none { IsMarked [] signs.old }
     requires few { length signs.old ≤ 8192 }
-    requires short { length bytes.now ≤ 4194304 }
+    requires short { length bytes.now ≤ MOST_MODEL }
     ensures { MarksTokens (tokens bytes.now) signs.new result }
 {
     let count = signs.len() as u32;
@@ -68,7 +69,7 @@ fn mark_all(signs: &mut [Signs], bytes: &[u8]) -> Result<(), ModelFault>
 
 /// The signs with which a model's tokens name the Booleans, or the first token that is no literal.
 fn named(alloc: Global, bytes: &[u8], count: u32) -> Result<Vec<Signs>, ModelFault>
-    requires short { length bytes.now ≤ 4194304 }
+    requires short { length bytes.now ≤ MOST_MODEL }
     requires few { count ≤ 8192 }
     ensures { Names count (tokens bytes.now) result }
 {

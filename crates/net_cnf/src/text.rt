@@ -13,7 +13,7 @@ ghost use Rattle.net_cnf.specs.Clauses.{some_value, no_two_values, rejected, non
 ghost use Rattle.net_cnf.specs.Clauses.{clauses};
 ghost use Rattle.net_cnf.specs.ModelTexts.{solution_line};
 ghost use Rattle.net_cnf.specs.Paired.{place_piece};
-ghost use Rattle.net_cnf.specs.Texts.{MOST_BYTES, boolean_text, clause_text, cnf_text, cnf_of};
+ghost use Rattle.net_cnf.specs.Texts.{MOST_CNF, boolean_text, clause_text, cnf_text, cnf_of};
 
 use crate::fault::CnfFault;
 use crate::lines::{
@@ -92,7 +92,7 @@ fn clause_count(lang: &Language, net: &Network) -> u64
 
 /// What each Boolean of a variable stands for.
 fn add_booleans_of(text: &mut String, alloc: Global, lang: &Language, v: u8) -> Result<(), CnfFault>
-    requires room { length (string_bytes text.old) ≤ MOST_BYTES }
+    requires room { length (string_bytes text.old) ≤ MOST_CNF }
     requires variable { v < variable_count lang.now }
     requires lawful { IsLanguage lang.now }
     ensures { AddsText (string_bytes text.old)
@@ -107,7 +107,7 @@ fn add_booleans_of(text: &mut String, alloc: Global, lang: &Language, v: u8) -> 
 
 /// What each Boolean stands for.
 fn add_booleans(text: &mut String, alloc: Global, lang: &Language) -> Result<(), CnfFault>
-    requires { length (string_bytes text.old) ≤ MOST_BYTES }
+    requires { length (string_bytes text.old) ≤ MOST_CNF }
     ensures { AddsText (string_bytes text.old)
         (flat_map (boolean_text lang.now) (booleans lang.now)) (string_bytes text.new) result }
 {
@@ -119,7 +119,7 @@ fn add_booleans(text: &mut String, alloc: Global, lang: &Language) -> Result<(),
 
 /// That each variable has a value.
 fn add_some_values(text: &mut String, lang: &Language) -> Result<(), CnfFault>
-    requires { length (string_bytes text.old) ≤ MOST_BYTES }
+    requires { length (string_bytes text.old) ≤ MOST_CNF }
     ensures { AddsText (string_bytes text.old) (flat_map clause_text (map (some_value lang.now)
         (numbers (variable_count lang.now)))) (string_bytes text.new) result }
 {
@@ -131,7 +131,7 @@ fn add_some_values(text: &mut String, lang: &Language) -> Result<(), CnfFault>
 
 /// That no variable has two values.
 fn add_all_no_two_values(text: &mut String, lang: &Language) -> Result<(), CnfFault>
-    requires { length (string_bytes text.old) ≤ MOST_BYTES }
+    requires { length (string_bytes text.old) ≤ MOST_CNF }
     ensures { AddsText (string_bytes text.old) (flat_map clause_text (flat_map (no_two_values
         lang.now) (numbers (variable_count lang.now)))) (string_bytes text.new) result }
 {
@@ -143,7 +143,7 @@ fn add_all_no_two_values(text: &mut String, lang: &Language) -> Result<(), CnfFa
 
 /// That the tuple at a place isn't taken, where a candidate rejects it.
 fn add_place(text: &mut String, lang: &Language, c: Candidate, place: u32) -> Result<(), CnfFault>
-    requires room { length (string_bytes text.old) ≤ MOST_BYTES }
+    requires room { length (string_bytes text.old) ≤ MOST_CNF }
     requires candidate { IsCandidate lang.now c }
     requires place { place < lang.now.value_count ^ length (scope_of lang.now c) }
     ensures { AddsText (string_bytes text.old) (place_piece lang.now c place)
@@ -159,7 +159,7 @@ fn add_place(text: &mut String, lang: &Language, c: Candidate, place: u32) -> Re
 
 /// That no tuple is taken that a candidate rejects.
 fn add_none_rejected(text: &mut String, lang: &Language, c: Candidate) -> Result<(), CnfFault>
-    requires room { length (string_bytes text.old) ≤ MOST_BYTES }
+    requires room { length (string_bytes text.old) ≤ MOST_CNF }
     requires candidate { IsCandidate lang.now c }
     ensures { AddsText (string_bytes text.old) (flat_map clause_text (none_rejected lang.now c))
         (string_bytes text.new) result }
@@ -172,7 +172,7 @@ fn add_none_rejected(text: &mut String, lang: &Language, c: Candidate) -> Result
 
 /// That no learned candidate is violated.
 fn add_items(text: &mut String, lang: &Language, net: &Network) -> Result<(), CnfFault>
-    requires room { length (string_bytes text.old) ≤ MOST_BYTES }
+    requires room { length (string_bytes text.old) ≤ MOST_CNF }
     requires network { IsNetwork lang.now net.now.list }
     ensures { AddsText (string_bytes text.old) (flat_map clause_text
         (flat_map (none_rejected lang.now) net.now.list)) (string_bytes text.new) result }
@@ -185,7 +185,7 @@ fn add_items(text: &mut String, lang: &Language, net: &Network) -> Result<(), Cn
 
 /// The clauses.
 fn add_clauses(text: &mut String, lang: &Language, net: &Network) -> Result<(), CnfFault>
-    requires room { length (string_bytes text.old) ≤ MOST_BYTES }
+    requires room { length (string_bytes text.old) ≤ MOST_CNF }
     requires network { IsNetwork lang.now net.now.list }
     ensures { AddsText (string_bytes text.old)
         (flat_map clause_text (clauses lang.now net.now.list)) (string_bytes text.new) result }
@@ -197,7 +197,7 @@ fn add_clauses(text: &mut String, lang: &Language, net: &Network) -> Result<(), 
 
 /// The Booleans, the head and the clauses.
 fn add_all(text: &mut String, alloc: Global, lang: &Language, net: &Network) -> Result<(), CnfFault>
-    requires room { length (string_bytes text.old) ≤ MOST_BYTES }
+    requires room { length (string_bytes text.old) ≤ MOST_CNF }
     requires network { IsNetwork lang.now net.now.list }
     ensures { AddsText (string_bytes text.old) (cnf_text lang.now net.now.list)
         (string_bytes text.new) result }
