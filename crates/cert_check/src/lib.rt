@@ -34,7 +34,7 @@ pub use checking::check;
 pub use entry::Entry;
 pub use fault::{CertFault, MakeFault};
 pub use making::make_cert;
-pub use reading::read_cert;
+pub use reading::{MOST_CERTIFICATE, read_cert};
 pub use text::{cert_fault_text, confirmed_text, flaw_text, make_fault_text};
 pub use token::Token;
 pub use verdict::{Flaw, Verdict};

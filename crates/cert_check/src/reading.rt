@@ -3,6 +3,7 @@
 ghost use Rattle.std.specs.Prelude.{◌≡◌, ◌≢◌, ◌≤◌, length, IfOk, IfErr};
 ghost use Rattle.language.specs.Language.{IsLanguage};
 ghost use Rattle.cert_check.specs.Reading.{IsRead, IsUnreadable, certificate_in, last_line_in};
+ghost use Rattle.cert_check.specs.Reading.{MOST_CERTIFICATE};
 ghost use Rattle.cert_check.specs.Reading.{vocabulary_in};
 ghost use Rattle.cert_check.specs.Read.{AreFew, Reads, unread};
 ghost use Rattle.cert_check.specs.Sound.{IsSound};
@@ -18,7 +19,7 @@ use std::alloc::Global;
 use voc_read::{MOST_VOCABULARY, VocFault, read_vocabulary};
 
 /// The most bytes that a certificate has.
-const MOST_CERTIFICATE: usize = 67_108_864;
+pub const MOST_CERTIFICATE: u32 = 67_108_864;
 
 /// The most answers that a certificate has.
 const MOST_ANSWERS: u32 = 999_999;
@@ -26,7 +27,7 @@ const MOST_ANSWERS: u32 = 999_999;
 #[tactic(auto, unfolding(crate::specs::Reading::vocabulary_in))]
 /// The vocabulary's bytes, and the lines behind them.
 fn vocabulary_in(bytes: &[u8]) -> Result<(&[u8], Lines<'_>), CertFault>
-    requires { length bytes.now ≤ 67108864 }
+    requires { length bytes.now ≤ MOST_CERTIFICATE }
     ensures is { Reads (λ x. (x.0.now, unread x.1)) (vocabulary_in bytes.entry.now) result }
     ensures few { IfOk result (λ x. AreFew x.1) }
 {
@@ -101,7 +102,7 @@ fn certificate_in(alloc: Global, lang: Language, lines: Lines<'_>) -> Result<Cer
 
 /// What a text of few enough bytes is read as.
 fn read_short(alloc: Global, bytes: &[u8]) -> Result<Cert, CertFault>
-    requires { length bytes.now ≤ 67108864 }
+    requires { length bytes.now ≤ MOST_CERTIFICATE }
     ensures read { IfOk result (λ cert. IsRead bytes.now cert) }
     ensures refused { IfErr result (λ fault. fault ≢ CertFault.Memory →
         IsUnreadable bytes.now fault) }
@@ -124,7 +125,7 @@ pub fn read_cert(alloc: Global, bytes: &[u8]) -> Result<Cert, CertFault>
     ensures refused { IfErr result (λ fault. fault ≢ CertFault.Memory →
         IsUnreadable bytes.now fault) }
 {
-    if bytes.len() > MOST_CERTIFICATE {
+    if bytes.len() > MOST_CERTIFICATE as usize {
         return Err(CertFault::TooLong);
     }
     read_short(alloc, bytes)

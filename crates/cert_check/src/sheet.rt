@@ -6,10 +6,8 @@ ghost use Rattle.cert_check.specs.Making.{Makes, fitting_text};
 ghost use Rattle.cert_check.specs.Sheets.{AddsPiece, IsSheetOf};
 
 use crate::fault::MakeFault;
+use crate::reading::MOST_CERTIFICATE;
 use std::alloc::{AllocError, Global};
-
-/// The most bytes that the text of a certificate may have.
-const MOST_TEXT: usize = 67_108_864;
 
 /// The pieces that were added. Once they are too long, no more is written: the whole is too long,
 /// whatever follows.
@@ -38,7 +36,7 @@ impl Sheet {
             return Ok(());
         }
         self.text.push_str(piece)?;
-        self.is_full = self.text.len() > MOST_TEXT;
+        self.is_full = self.text.len() > MOST_CERTIFICATE as usize;
         Ok(())
     }
 
@@ -50,7 +48,7 @@ impl Sheet {
             return Ok(());
         }
         write!(self.text, "{number}")?;
-        self.is_full = self.text.len() > MOST_TEXT;
+        self.is_full = self.text.len() > MOST_CERTIFICATE as usize;
         Ok(())
     }
 
