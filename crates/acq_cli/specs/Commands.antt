@@ -10,6 +10,8 @@ use Rattle.acq_said.specs.declared.ask.Ask.TheVariants as ask
 use Rattle.acq_loop.specs.declared.ending.Ending.TheVariants as ending
 use Rattle.acq_cli.specs.Closed.{EndsAsRun, IsTrying, tried_said}
 use Rattle.acq_cli.specs.Playing.{PlaysExactly}
+use Rattle.acq_said.specs.Prelude.{MOST_MODEL}
+use Rattle.voc_read.specs.Vocabulary.{MOST_VOCABULARY}
 
 -- `run` refuses a journal exactly where its bytes say so, whatever the input tells. Where that
 -- tells too, and the file holds a session, it ends as the run that goes on from there over the
@@ -32,12 +34,13 @@ pub record DemosExactly (number budget : ℕ) (end : Ending) : Type 0 where
 -- what asks nothing as is said of them, and else as a run that they make.
 abbrev pub EndsExactly : Command → (left content : Option (List ℕ)) → Ending → Type 0
 EndsExactly (command.New plan) left content end = ForSome left (λ bytes.
-    ForSome content (λ file. EndsAsSaid (IsMaking (all_of 4194304 bytes).got file) made_said end))
+    ForSome content (λ file.
+    EndsAsSaid (IsMaking (all_of MOST_VOCABULARY bytes).got file) made_said end))
 EndsExactly (command.Run budget) left content end =
     ForSome content (λ file. RunsExactly budget left file end)
 EndsExactly (command.Try plan budget) left content end =
     ForSome left (λ bytes. EndsAsSaid (IsTrying (terms_with plan budget)
-    (first_line_of 4194304 bytes)) (tried_said (terms_with plan budget)) end)
+    (first_line_of MOST_VOCABULARY bytes)) (tried_said (terms_with plan budget)) end)
 EndsExactly (command.Play budget) left content end =
     ForSome left (λ bytes. ForSome content (λ file. PlaysExactly budget bytes file end))
 EndsExactly command.Show left content end =
@@ -50,7 +53,7 @@ EndsExactly (command.Reduce budget) left content end =
 EndsExactly command.Cnf left content end =
     ForSome content (λ file. EndsAsOpened (asked_said ask.Cnf) file end)
 EndsExactly command.Model left content end = ForSome left (λ bytes.
-    ForSome content (λ file. EndsAsOpened (solved_said (all_of 4194304 bytes).got) file end))
+    ForSome content (λ file. EndsAsOpened (solved_said (all_of MOST_MODEL bytes).got) file end))
 EndsExactly (command.Certify budget) left content end =
     ForSome content (λ file. EndsAsOpened (asked_said (ask.Certify budget)) file end)
 EndsExactly command.Check left content end = ForSome left (λ bytes. ConfirmsExactly bytes end)

@@ -10,6 +10,7 @@ use Rattle.acq_cli.specs.Prelude.{trimmed, ℕ}
 use Rattle.acq_words.specs.declared.request.Command.TheVariants as command
 use Rattle.acq_loop.specs.declared.ending.Ending.TheVariants as ending
 use Rattle.acq_cli.specs.Commands.{EndsExactly}
+use Rattle.answer_journal.specs.Format.{MOST_RECORDS}
 
 -- ---- Enough of a session
 
@@ -23,7 +24,8 @@ pub record IsAnswerLine (line : List ℕ) : Type 0 where
 -- For each answer that a session may still take there is a record. So it is where nothing was taken
 -- back.
 abbrev pub HasRecordsLeft : Language → List Event → Type 0
-HasRecordsLeft l events = length events + most_answers l < length (standing_on l events) + 1000000
+HasRecordsLeft l events =
+    length events + most_answers l < length (standing_on l events) + MOST_RECORDS
 
 -- The plan doesn't search; or wherever the session passes through, the budget is at least as great
 -- as the search of each candidate that its answers keep.
@@ -45,6 +47,10 @@ pub record IsEnough (l : Language) (terms : Terms) (events : List Event) (bytes 
   pub each : All IsAnswerLine lines
   pub enough : most_answers l ≤ length (standing_on l events) + length lines
   pub affordable : IsAffordable line_turn l terms events bytes
+
+-- the most steps that a search in a generated language has
+abbrev pub MOST_DEMO_SEARCH : ℕ
+MOST_DEMO_SEARCH = 88573
 
 -- ---- Its end
 
@@ -69,7 +75,7 @@ Completes (command.Play budget) left content end =
     network_of o.lang bytes ≡ Ok target →
     IsAffordable (net_turn target false) o.lang (terms_with o.plan budget) o.events [] →
     (m : ℕ) × (end ≡ ending.Converged m)))
-Completes (command.Demo number budget) left content end = 88573 ≤ budget →
+Completes (command.Demo number budget) left content end = MOST_DEMO_SEARCH ≤ budget →
     (m : ℕ) × (end ≡ ending.Converged m)
 Completes (command.New plan) left content end = EndsExactly (command.New plan) left content end
 Completes command.Show left content end = EndsExactly command.Show left content end

@@ -13,6 +13,7 @@ use Rattle.acq_cli.specs.Playing.{PlaysOn}
 use Rattle.acq_said.specs.declared.ask.Ask.TheVariants as ask
 use Rattle.acq_loop.specs.declared.ending.Ending.TheVariants as ending
 use Rattle.acq_said.specs.declared.said.Unsaid.TheVariants as unsaid
+use Rattle.cert_check.specs.Reading.{MOST_CERTIFICATE}
 
 -- the meanings of a disk
 module _ {D : Type 0} (disk : DiskOf D) where
@@ -39,7 +40,7 @@ module _ {D : Type 0} (disk : DiskOf D) where
   Spoke (command.Certify budget) left left' old new said = Asks (ask.Certify budget) old new said
   -- too many bytes are no certificate
   Spoke command.Check left left' old new said =
-      SaysOfInput 67108864
+      SaysOfInput MOST_CERTIFICATE
       (λ read told. MatchResult told (λ what. MatchResult read (λ bytes. IsCheck bytes what)
       (λ e. what ≡ checked_said (Err form.TooLong))) (λ why. why ≡ unsaid.Memory)) left left' said
   Spoke c left left' old new said = ⊥

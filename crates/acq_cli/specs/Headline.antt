@@ -11,6 +11,7 @@ use Rattle.acq_cli.specs.Prelude.{standing_on, target_of, terms_with, true, ℕ}
 use Rattle.acq_words.specs.declared.request.Command.TheVariants as command
 use Rattle.acq_cli.specs.Closed.{ClosesWith, IsRunTo}
 use Rattle.acq_cli.specs.Playing.{ReadsTarget}
+use Rattle.voc_read.specs.Vocabulary.{MOST_VOCABULARY}
 
 -- ---- Of which session it is said
 
@@ -20,7 +21,7 @@ pub record IsOfInput (chosen : Plan) (budget : ℕ) (left : Option (List ℕ)) (
     (terms : Terms) (events : List Event) (closing : Closing) : Type 0 where
   pub line : List ℕ
   pub rest : Option (List ℕ)
-  pub gives : Gives (first_line_of 4194304) left rest (Ok line)
+  pub gives : Gives (first_line_of MOST_VOCABULARY) left rest (Ok line)
   pub vocabulary : IsVocabulary line l
   pub terms_are : terms ≡ terms_with chosen budget
   pub closes : ClosesWith line_turn l terms [] events rest closing

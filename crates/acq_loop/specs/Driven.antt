@@ -19,6 +19,7 @@ use Rattle.acq_loop.specs.Texts.{open_candidates}
 use Rattle.acq_loop.specs.declared.terms.Terms.{Terms}
 use Rattle.acq_loop.specs.declared.driving.Drove.{Drove}
 use Rattle.acq_loop.specs.declared.driving.Drove.TheVariants as drove
+use Rattle.answer_journal.specs.Format.{MOST_RECORDS}
 
 -- the events, what a source has left and what a sink has, where they tell
 pub record Point : Type 0 where
@@ -191,7 +192,7 @@ pub record Drives (turns : Turns) (l : Language) (terms : Terms) (old new : Poin
   pub unkept : how ≡ drove.DiskFault → (lost : Event) × Loses turns l terms old new lost
   -- the journal is full exactly where a question is due and no record is left
   pub full : (how ≡ drove.JournalFull)
-      ↔ (IsPending l terms (standing_on l new.events) × (length new.events + 1 ≡ 1000000))
+      ↔ (IsPending l terms (standing_on l new.events) × (length new.events + 1 ≡ MOST_RECORDS))
 
 -- what comes of it where this network gave each answer: no collapse, and what was learned has
 -- exactly its solutions

@@ -9,6 +9,7 @@ use Rattle.acq_loop.specs.Run.{Ran, Runs}
 use Rattle.acq_loop.specs.declared.terms.Terms.{Terms}
 use Rattle.acq_loop.specs.declared.driving.Drove.{Drove}
 use Rattle.acq_loop.specs.declared.driving.Drove.TheVariants as drove
+use Rattle.answer_journal.specs.Format.{MOST_RECORDS}
 
 -- The ways in which the loop ends exclude one another. Where the same answers stand, it ends as
 -- converged, as collapsed, as undecided or at a question that was due, and never in two of these
@@ -26,5 +27,5 @@ pub record EndingsExclude : Type 0 where
 abbrev pub EachHasARun : Type 0
 EachHasARun =
     (turns : Turns) (l : Language) (terms : Terms) (events : List Event) (bytes : List ℕ) →
-    IsLanguage l → HavePlaces l terms.plan events → length events < 1000000 →
+    IsLanguage l → HavePlaces l terms.plan events → length events < MOST_RECORDS →
     (run : Ran) × Runs turns l terms events bytes run

@@ -10,6 +10,7 @@ use Rattle.assign.specs.declared.events.Event.TheVariants as event
 use Rattle.query_gen.specs.declared.query.Query.TheVariants as query
 use Rattle.acq_loop.specs.declared.terms.Terms.{Terms}
 use Rattle.target_oracle.specs.Turns.{Ended}
+use Rattle.answer_journal.specs.Format.{MOST_RECORDS}
 
 -- how a run ends
 pub data Closing : Type 0 where
@@ -58,7 +59,7 @@ next_after l terms t = next_in l terms t (state_after l terms.plan t)
 -- a journal takes no further event: it has 1,000,000 records, that of the vocabulary and one for
 -- each event
 abbrev pub is_full : List Event → Bool
-is_full events = (length events + 1) == 1000000
+is_full events = (length events + 1) == MOST_RECORDS
 
 -- a question is put where there is a record for what is said to it
 abbrev pub unless_full : Bool → Next → Next

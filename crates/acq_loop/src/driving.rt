@@ -2,6 +2,7 @@ ghost use Rattle.std.specs.Prelude.{◌≡◌, ◌≢◌, ◌+◌, ◌<◌, List
 ghost use Rattle.std.specs.Prelude.{IsSome, IsTrue, IsFalse};
 ghost use Rattle.std.specs.Option.{ForSome};
 ghost use Rattle.acq_io.specs.Streams.{Rose};
+ghost use Rattle.answer_journal.specs.Format.{MOST_RECORDS};
 ghost use Rattle.assign.specs.Assignment.{Assignment};
 ghost use Rattle.assign.specs.Events.{Answer, standing};
 ghost use Rattle.assign.specs.declared.events.Plan.TheVariants.{Multi};
@@ -136,7 +137,7 @@ fn heard_of(told: Told, count: u32) -> Heard
 /// Keeps what was said. None where the loop goes on.
 pub fn keep_event<D: Disk, P: Keep<D>>(keep: &mut P, disk: &mut D, entry: Entry) -> Option<Drove>
     requires keeper { IsKeeping P.Keep keep.old disk.old }
-    requires room { length (P.record_of keep.old) + 1 < 1000000 }
+    requires room { length (P.record_of keep.old) + 1 < MOST_RECORDS }
     requires may { MayKeep (P.record_of keep.old) (P.question keep.old) entry }
     ensures kept { EventKept (event_on entry (P.question keep.old)) (P.record_of keep.old)
         (P.record_of keep.new) result }

@@ -15,6 +15,7 @@ use Rattle.voc_read.specs.declared.fault.VocFault.TheVariants as vocs
 use Rattle.answer_journal.specs.declared.fault.JFault.TheVariants as journal
 use Rattle.session_store.specs.declared.fault.SFault.TheVariants as store
 use Rattle.acq_loop.specs.declared.ending.Ending.TheVariants as ending
+use Rattle.voc_read.specs.Vocabulary.{MOST_VOCABULARY}
 
 -- ---- What is said
 
@@ -73,7 +74,7 @@ module _ {D : Type 0} (disk : DiskOf D) where
   pub record News (plan : Plan) (left left' : Option (List ℕ)) (old new : D)
       (said : Result Saying Unsaid) : Type 0 where
     pub read : Result (List ℕ) AllFault
-    pub says : SaysOfRead 4194304 (λ bytes told. MatchResult bytes
+    pub says : SaysOfRead MOST_VOCABULARY (λ bytes told. MatchResult bytes
         (λ voc. IsJournalMade plan voc old new told ⊎ IsNotMade plan voc old new told)
         (λ e. IsSaid (voc_refused vocs.TooLong) told)) left left' said read
     pub untouched : IsErr read → new ≡ old

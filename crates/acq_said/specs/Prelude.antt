@@ -49,7 +49,7 @@ pub use Rattle.language.specs.Texts.{question_text}
 pub use Rattle.language.specs.declared.candidates.Candidate.{Candidate}
 pub use Rattle.net_cnf.specs.Laws.{IsEncoded}
 pub use Rattle.net_cnf.specs.ModelTexts.{model_fault_line, solution_line}
-pub use Rattle.net_cnf.specs.Models.{model_of}
+pub use Rattle.net_cnf.specs.Models.{MOST_MODEL, model_of}
 pub use Rattle.net_cnf.specs.Texts.{cnf_of}
 pub use Rattle.net_cnf.specs.declared.fault.CnfFault.{CnfFault}
 pub use Rattle.net_cnf.specs.declared.model_fault.ModelFault.{ModelFault}

@@ -11,6 +11,7 @@ use Rattle.acq_said.specs.Said.{IsSaid}
 use Rattle.acq_said.specs.Saying.{Saying, saying}
 use Rattle.acq_loop.specs.declared.ending.Ending.TheVariants as ending
 use Rattle.acq_said.specs.declared.said.Unsaid.{Unsaid}
+use Rattle.net_cnf.specs.Models.{MOST_MODEL}
 
 -- ---- What is said
 
@@ -29,5 +30,5 @@ solved_said (Err e) o = solution_said o.lang (Err model.TooLong)
 abbrev pub Solves : (left left' : Option (List ℕ)) → Result Opened SFault → Result Saying Unsaid →
     Type 0
 Solves left left' (Ok o) said =
-    SaysOfInput 4194304 (λ read. IsSaid (solved_said read o)) left left' said
+    SaysOfInput MOST_MODEL (λ read. IsSaid (solved_said read o)) left left' said
 Solves left left' (Err fault) said = SaysRefusal fault said × (left' ≡ left)

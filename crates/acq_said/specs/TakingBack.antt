@@ -11,6 +11,7 @@ use Rattle.acq_said.specs.Saying.{Saying, saying}
 use Rattle.acq_loop.specs.declared.ending.Ending.TheVariants as ending
 use Rattle.acq_said.specs.declared.said.Unsaid.{Unsaid}
 use Rattle.acq_said.specs.declared.said.Unsaid.TheVariants as unsaid
+use Rattle.answer_journal.specs.Format.{MOST_RECORDS}
 
 -- ---- What is said
 
@@ -46,7 +47,7 @@ module _ {D : Type 0} (disk : DiskOf D) where
     pub opens : ForSome (disk.content old) (λ bytes. SaysOpened bytes of)
     pub some : (bytes : List ℕ) × SaysOpened bytes of
     pub takes : (back_said of).ending ≡ ending.Done
-    pub room : length of.events + 1 < 1000000
+    pub room : length of.events + 1 < MOST_RECORDS
     pub later : List Event
     pub ends : EndsBack (back_said of) of.events later said
     pub all_places : HavePlaces of.lang of.plan (of.events ++ event.Back ∷ [])

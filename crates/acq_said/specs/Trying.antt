@@ -9,6 +9,7 @@ use Rattle.acq_said.specs.Breaks.{BreaksRun}
 use Rattle.acq_said.specs.Endings.{Tries}
 use Rattle.acq_loop.specs.declared.ending.Ending.TheVariants as ending
 use Rattle.voc_read.specs.declared.fault.VocFault.TheVariants as voc
+use Rattle.voc_read.specs.Vocabulary.{MOST_VOCABULARY}
 
 -- the first line is too long, or is no vocabulary for this reason
 abbrev pub IsRefusal : VocFault → Result (List ℕ) AllFault → Type 0
@@ -28,8 +29,8 @@ pub record IsTextOfRun (terms : Terms) (first : Gathered) (text : List ℕ) : Ty
 -- the whole text that `try` writes for these bytes: why the vocabulary is refused, or that of a run
 abbrev pub IsWholeText : Terms → List ℕ → List ℕ → Type 0
 IsWholeText terms bytes text =
-    ((fault : VocFault) × IsRefusal fault (first_line_of 4194304 bytes).got
-    × (text ≡ refusal_text fault)) ⊎ IsTextOfRun terms (first_line_of 4194304 bytes) text
+    ((fault : VocFault) × IsRefusal fault (first_line_of MOST_VOCABULARY bytes).got
+    × (text ≡ refusal_text fault)) ⊎ IsTextOfRun terms (first_line_of MOST_VOCABULARY bytes) text
 
 -- where the input tells its bytes, nothing was written or a front of the whole text
 abbrev pub Breaks : Terms → (left written written' : Option (List ℕ)) → Type 0
@@ -42,7 +43,7 @@ pub record ReadsVocabulary (left : Option (List ℕ)) (Did : Language → List E
     (rest : Option (List ℕ)) → Type 0) : Type 0 where
   pub line : List ℕ
   pub rest : Option (List ℕ)
-  pub gives : Gives (first_line_of 4194304) left rest (Ok line)
+  pub gives : Gives (first_line_of MOST_VOCABULARY) left rest (Ok line)
   pub lang : Language
   pub vocabulary : IsVocabulary line lang
   pub events : List Event
@@ -51,8 +52,8 @@ pub record ReadsVocabulary (left : Option (List ℕ)) (Did : Language → List E
 -- nothing was written, and no more was taken than the first line
 pub record IsUnbegun (left written left' written' : Option (List ℕ)) : Type 0 where
   pub silent : written' ≡ written
-  pub taken : TakesOfLine 4194304 left left'
-      ⊎ ((got : Result (List ℕ) AllFault) × Gives (first_line_of 4194304) left left' got)
+  pub taken : TakesOfLine MOST_VOCABULARY left left'
+      ⊎ ((got : Result (List ℕ) AllFault) × Gives (first_line_of MOST_VOCABULARY) left left' got)
 
 -- It has broken off for want of the output or of memory: nothing was begun, or a front of a refusal
 -- was written, or a run broke off. Where the input tells its bytes, that is a front of the whole
@@ -61,15 +62,16 @@ pub record HasBrokenOff (terms : Terms) (left written left' written' : Option (L
     Type 0 where
   pub text : Breaks terms left written written'
   pub step : IsUnbegun left written left' written'
-      ⊎ (((fault : VocFault) × (got : Result (List ℕ) AllFault) × Gives (first_line_of 4194304) left
-      left' got × IsRefusal fault got × AddsFront written written' (refusal_text fault))
+      ⊎ (((fault : VocFault) × (got : Result (List ℕ) AllFault)
+      × Gives (first_line_of MOST_VOCABULARY) left left' got × IsRefusal fault got
+      × AddsFront written written' (refusal_text fault))
       ⊎ ReadsVocabulary left
       (λ lang events rest. BreaksRun line_turn lang terms [] events rest written left' written'))
 
 -- what `try` has done
 abbrev pub Acquires : Terms → (left written left' written' : Option (List ℕ)) → Ending → Type 0
 Acquires terms left written left' written' (ending.VocRefused fault) =
-    ((got : Result (List ℕ) AllFault) × Gives (first_line_of 4194304) left left' got
+    ((got : Result (List ℕ) AllFault) × Gives (first_line_of MOST_VOCABULARY) left left' got
     × IsRefusal fault got) × Adds written written' (refusal_text fault)
 -- the input failed in the first line, or in a run that wasn't closed
 Acquires terms left written left' written' ending.ReadFault =

@@ -2,6 +2,7 @@
 
 ghost use Rattle.std.specs.Prelude.{◌≡◌, ◌≢◌, ◌↔◌, ◌<◌, ◌+◌, ◌==◌, ◌||◌, [], true, false, length};
 ghost use Rattle.std.specs.Prelude.{IfOk, MatchResult, None, Some, Err, ◌⊎◌};
+ghost use Rattle.answer_journal.specs.Format.{MOST_RECORDS};
 ghost use Rattle.assign.specs.Events.{standing};
 ghost use Rattle.assign.specs.declared.events.Event.{Event};
 ghost use Rattle.disk_model.specs.Disk.{Rose as DiskRose};
@@ -77,7 +78,7 @@ fn take_last<D: Disk, P: Keep<D>>(
     disk: &mut D,
 ) -> Result<Said, Unsaid>
     requires keeper { IsKeeping P.Keep keep.old disk.old }
-    requires room { length (P.record_of keep.old) + 1 < 1000000 }
+    requires room { length (P.record_of keep.old) + 1 < MOST_RECORDS }
     requires stands { standing (P.record_of keep.old) ≢ [] }
     requires some { (m == 0) ≡ false }
     ensures ends { EndsBack (back_on m false) (P.record_of keep.old) (P.record_of keep.new) result }

@@ -3,6 +3,7 @@
 ghost use Rattle.std.specs.Prelude.{◌≡◌, ◌<◌, ◌++◌, ◌∷◌, [], All, codes, length, IfOk};
 ghost use Rattle.std.specs.Fmt.{decimal};
 ghost use Rattle.acq_words.specs.Request.{IsBudget};
+ghost use Rattle.answer_journal.specs.Format.{MOST_RECORDS};
 ghost use Rattle.cert_check.specs.Making.{certificate_made};
 ghost use Rattle.cert_check.specs.Texts.{make_fault_line};
 ghost use Rattle.language.specs.Answers.{standing_on};
@@ -56,7 +57,7 @@ fn entries_of(
     records: &[u32],
 ) -> Result<Vec<Entry>, Memory>
     requires wide { All IsWide events.now.items }
-    requires few { length events.now.items < 1000000 }
+    requires few { length events.now.items < MOST_RECORDS }
     requires records { records.now ≡ standing_numbers events.now.items }
     ensures { IfOk result (λ entries. entries.items ≡ standing_on lang.now events.now.items) }
 {

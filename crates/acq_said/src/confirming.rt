@@ -2,6 +2,7 @@
 
 ghost use Rattle.std.specs.Prelude.{◌≡◌, ◌≢◌, IfOk, MatchResult, Err};
 ghost use Rattle.acq_io.specs.Streams.{HasCalled, TakesSome};
+ghost use Rattle.cert_check.specs.Reading.{MOST_CERTIFICATE};
 ghost use Rattle.cert_check.specs.Texts.{cert_fault_line, confirmed_text, flaw_line};
 ghost use Rattle.acq_said.specs.Confirming.{IsCheck, checked_said, verdict_said};
 ghost use Rattle.acq_said.specs.Inputs.{SaysOfInput};
@@ -11,14 +12,12 @@ use crate::said::{Said, Unsaid, or_silent};
 use acq_io::{AllFault, Source, read_all};
 use acq_loop::Ending;
 use cert_check::{
-    Cert, CertFault, Flaw, Verdict, cert_fault_text, check, confirmed_text, flaw_text, read_cert,
+    Cert, CertFault, Flaw, MOST_CERTIFICATE, Verdict, cert_fault_text, check, confirmed_text,
+    flaw_text, read_cert,
 };
 use language::Memory;
 use std::alloc::Global;
 use std::thread::Threads;
-
-/// The most bytes that a certificate has.
-const MOST_CERTIFICATE: u32 = 67_108_864;
 
 /// Says that a certificate shows what it says.
 fn confirmed(alloc: Global, cert: &Cert) -> Result<Said, Memory>
@@ -77,8 +76,9 @@ pub fn check_input<R: Threads + Sync, S: Source>(
     alloc: Global,
     input: &mut S,
 ) -> Result<Said, Unsaid>
-    ensures confirms { SaysOfInput 67108864 (λ read said. MatchResult said (λ what. MatchResult read
-        (λ bytes. IsCheck bytes what) (λ e. what ≡ checked_said (Err CertFault.TooLong)))
+    ensures confirms { SaysOfInput MOST_CERTIFICATE (λ read said. MatchResult said
+        (λ what. MatchResult read (λ bytes. IsCheck bytes what)
+        (λ e. what ≡ checked_said (Err CertFault.TooLong)))
         (λ why. why ≡ Unsaid.Memory)) (S.left input.old) (S.left input.new) result }
     ensures takes { TakesSome (S.left input.old) (S.left input.new) }
     ensures read { HasCalled (S.faults input.old) (S.faults input.new) (S.late input.old)

@@ -3,6 +3,7 @@
 ghost use Rattle.std.specs.Prelude.{◌≡◌, ◌++◌, ◌<◌, List, All, codes, filter, if◌then◌else◌};
 ghost use Rattle.std.specs.Prelude.{length, IfOk, OnOk};
 ghost use Rattle.std.specs.String.{string_bytes};
+ghost use Rattle.answer_journal.specs.Format.{MOST_RECORDS};
 ghost use Rattle.assign.specs.Events.{Answer};
 ghost use Rattle.answer_journal.specs.EventList.{is_back};
 ghost use Rattle.language.specs.Language.{variable_count};
@@ -111,7 +112,7 @@ fn event_lines(
     records: &[u32],
 ) -> Result<String, Memory>
     requires wide { All IsWide events.now.items }
-    requires few { length events.now.items < 1000000 }
+    requires few { length events.now.items < MOST_RECORDS }
     requires records { records.now ≡ standing_numbers events.now.items }
     ensures { IfOk result (λ text.
         string_bytes text ≡ answer_lines lang.now 1 (standing_on lang.now events.now.items)) }
@@ -155,7 +156,7 @@ fn show_text(alloc: Global, session: &Session, events: &Events) -> Result<String
     requires settled { IsSettled (knowledge_of session.now).lang (knowledge_of session.now).plan
         (standing_on (knowledge_of session.now).lang events.now.items) (open_in session.now) }
     requires wide { All IsWide events.now.items }
-    requires few { length events.now.items < 1000000 }
+    requires few { length events.now.items < MOST_RECORDS }
     ensures { let k = knowledge_of session.now in IfOk result
         (λ text. string_bytes text ≡ show_text k.lang k.plan (standing_on k.lang events.now.items)
         (length (filter is_back events.now.items)) k.network.list) }

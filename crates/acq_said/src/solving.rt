@@ -4,7 +4,7 @@ ghost use Rattle.std.specs.Prelude.{◌≡◌, ◌≢◌, IfOk, Err};
 ghost use Rattle.acq_io.specs.Streams.{HasCalled, TakesSome};
 ghost use Rattle.disk_model.specs.Disk.{Rose as DiskRose};
 ghost use Rattle.language.specs.Answers.{IsNetwork};
-ghost use Rattle.net_cnf.specs.Models.{model_of};
+ghost use Rattle.net_cnf.specs.Models.{model_of, MOST_MODEL};
 ghost use Rattle.net_cnf.specs.ModelTexts.{model_fault_line, solution_line};
 ghost use Rattle.session_store.specs.Opened.{opened_as};
 ghost use Rattle.acq_said.specs.Inputs.{SaysOfInput};
@@ -64,7 +64,7 @@ fn solved<S: Source, D: Disk, P: Keep<D>>(
     input: &mut S,
 ) -> Result<Said, Unsaid>
     requires { P.sound keep.now }
-    ensures says { SaysOfInput 4194304 (λ read. IsSaid (solved_said read
+    ensures says { SaysOfInput MOST_MODEL (λ read. IsSaid (solved_said read
         (opened_as (P.plan keep.now) (P.voc keep.now) (P.record_of keep.now) (P.lang keep.now))))
         (S.left input.old) (S.left input.new) result }
     ensures takes { TakesSome (S.left input.old) (S.left input.new) }
