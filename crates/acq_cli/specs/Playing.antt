@@ -6,7 +6,7 @@ use Rattle.acq_cli.specs.Prelude.{Language, List, MatchResult, NetFault, Ok, Ope
 use Rattle.acq_cli.specs.Prelude.{Put, SaysRefusal, Result, SFault, Saying, SaysOfInput, SaysOver}
 use Rattle.acq_cli.specs.Prelude.{SaysSo, Terms, Unsaid, [], agrees, all_of, codes, decimal, false}
 use Rattle.acq_cli.specs.Prelude.{learned_after, length, net_fault_text, net_may_say, net_turn}
-use Rattle.acq_cli.specs.Prelude.{network_of, saying, standing_on, terms_with, ℕ}
+use Rattle.acq_cli.specs.Prelude.{MOST_NETWORK, network_of, saying, standing_on, terms_with, ℕ}
 use Rattle.network.specs.declared.fault.NetFault.TheVariants as net
 use Rattle.acq_loop.specs.declared.ending.Ending.TheVariants as ending
 use Rattle.acq_cli.specs.Closed.{EndsAsRun}
@@ -32,7 +32,7 @@ SaysNoNetwork l (Err e) said = IsSaid (target_refused net.TooLong) said
 pub record ReadsTarget (l : Language) (left left' : Option (List ℕ)) (target : List Candidate) :
     Type 0 where
   pub bytes : List ℕ
-  pub gives : Gives (all_of 4194304) left left' (Ok bytes)
+  pub gives : Gives (all_of MOST_NETWORK) left left' (Ok bytes)
   pub is : network_of l bytes ≡ Ok target
   pub lawful : IsNetwork l target
 
@@ -45,7 +45,7 @@ SaysUnplayed left left' (Ok o) said =
     let m = length (standing_on o.lang o.events) in
     ((1 ≤ m) × IsSaid (stale_said m) said × (left' ≡ left))
     ⊎ ((standing_on o.lang o.events ≡ [])
-    × SaysOfInput 4194304 (SaysNoNetwork o.lang) left left' said)
+    × SaysOfInput MOST_NETWORK (SaysNoNetwork o.lang) left left' said)
 SaysUnplayed left left' (Err fault) said = SaysRefusal fault said × (left' ≡ left)
 
 -- ---- Its answers

@@ -42,7 +42,7 @@ pub use Rattle.acq_words.specs.declared.request.WordsFault.TheVariants.{Memory, 
 pub use Rattle.disk_model.specs.Moments.{LeavesOnly}
 pub use Rattle.language.specs.Language.{IsLanguage}
 pub use Rattle.network.specs.FaultTexts.{net_fault_text}
-pub use Rattle.network.specs.Target.{network_of}
+pub use Rattle.network.specs.Target.{MOST_NETWORK, network_of}
 pub use Rattle.network.specs.declared.fault.NetFault.{NetFault}
 pub use Rattle.session_laws.specs.Bound.{bound, most_answers}
 pub use Rattle.session_store.specs.Left.{HoldsAtLeast}

@@ -8,6 +8,7 @@ ghost use Rattle.acq_words.specs.Request.{IsBudget};
 ghost use Rattle.disk_model.specs.Disk.{Rose as DiskRose};
 ghost use Rattle.language.specs.Answers.{standing_on};
 ghost use Rattle.network.specs.Learned.{Learned};
+ghost use Rattle.network.specs.Target.{MOST_NETWORK};
 ghost use Rattle.acq_said.specs.Inputs.{SaysOfInput};
 ghost use Rattle.acq_said.specs.Said.{IsSaid};
 ghost use Rattle.acq_said.specs.Saying.{saying};
@@ -20,15 +21,12 @@ use acq_loop::Ending;
 use acq_said::{Said, Unsaid, lang_of, or_silent, put};
 use disk_model::Disk;
 use language::{Language, Memory};
-use network::{NetFault, Network, net_text, read_network};
+use network::{MOST_NETWORK, NetFault, Network, net_text, read_network};
 use par_screen::Gate;
 use session_store::{Keep, Store};
 use std::alloc::Global;
 use std::thread::Threads;
 use target_oracle::NetTeacher;
-
-/// The most bytes that a target has.
-const MOST_TARGET: u32 = 4_194_304;
 
 /// How many answers of a keeper's session stand.
 fn answers_of<D: Disk, P: Keep<D>>(keep: &P) -> u32
@@ -75,13 +73,13 @@ fn read_target<S: Source>(
     ensures target { IfOk result
         (λ (net : Learned). ReadsTarget lang.now (S.left input.old) (S.left input.new) net.list) }
     ensures lacks { IfErr result
-        (SaysOfInput 4194304 (SaysNoNetwork lang.now) (S.left input.old) (S.left input.new)) }
+        (SaysOfInput MOST_NETWORK (SaysNoNetwork lang.now) (S.left input.old) (S.left input.new)) }
     ensures no_disk { IfErr result (λ said. said ≢ Err Unsaid.DiskFault) }
     ensures takes { TakesSome (S.left input.old) (S.left input.new) }
     ensures called { HasCalled (S.faults input.old) (S.faults input.new) (S.late input.old)
         (S.late input.new) (result ≡ Err (Err Unsaid.ReadFault)) }
 {
-    let bytes = match read_all(alloc, input, MOST_TARGET) {
+    let bytes = match read_all(alloc, input, MOST_NETWORK) {
         Ok(bytes) => bytes,
         Err(AllFault::TooLong) => return Err(untargeted(alloc, NetFault::TooLong)),
         Err(AllFault::Fault) => return Err(Err(Unsaid::ReadFault)),

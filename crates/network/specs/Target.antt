@@ -97,7 +97,11 @@ network_from l before (item value values) =
 abbrev pub network_of_items : Language → Data → Result (List Candidate) NetFault
 network_of_items l whole = then_on (ok_or (as_array whole) NotList) (network_from l [])
 
+-- the most bytes that a network in JSON has
+abbrev pub MOST_NETWORK : ℕ
+MOST_NETWORK = 4194304
+
 -- the network that bytes describe, or why they describe none
 unfoldable pub network_of : Language → List ℕ → Result (List Candidate) NetFault
-network_of l bytes = if nat_lt 4194304 (length bytes) then Err TooLong
+network_of l bytes = if nat_lt MOST_NETWORK (length bytes) then Err TooLong
     else then_on (ok_or (json_of bytes) NotJson) (network_of_items l)

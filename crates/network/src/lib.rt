@@ -16,5 +16,5 @@ mod text;
 
 pub use fault::{NetFault, net_text};
 pub use network::Network;
-pub use reading::read_network;
+pub use reading::{MOST_NETWORK, read_network};
 pub use text::network_text;

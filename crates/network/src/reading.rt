@@ -23,7 +23,7 @@ use serde_json::Value;
 use std::alloc::{AllocError, Global};
 
 /// The most bytes that a network in JSON has.
-const MOST_BYTES: usize = 4_194_304;
+pub const MOST_NETWORK: u32 = 4_194_304;
 
 /// The JSON value that a text is.
 fn json_of(alloc: Global, bytes: &[u8]) -> Result<Value, NetFault>
@@ -182,7 +182,7 @@ pub fn read_network(alloc: Global, lang: &Language, bytes: &[u8]) -> Result<Netw
     ensures network { IfOk result (λ (net : Learned). IsNetwork lang.now net.list) }
     ensures scopes { IfOk result (λ (net : Learned). net.scopes ≡ length lang.now.scopes) }
 {
-    if bytes.len() > MOST_BYTES {
+    if bytes.len() > MOST_NETWORK as usize {
         return Err(NetFault::TooLong);
     }
     let whole = json_of(alloc, bytes)?;
