@@ -148,6 +148,7 @@ pub(crate) fn replay_records(
 }
 
 /// The session after these events, or the number of the first record that has no place.
+#[tactic(auto, using(shared_lemmas::proofs::Read::none_given))]
 pub(crate) fn replay(alloc: Global, session: Session, events: &Events) -> Result<Session, SFault>
     requires storable { All IsStorableEvent events.now.items }
     requires few { length events.now.items ≤ 1000000 }

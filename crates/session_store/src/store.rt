@@ -61,6 +61,7 @@ fn language_of(alloc: Global, voc: &[u8]) -> Result<Language, SFault>
 }
 
 /// A session of this plan and vocabulary without events, and a copy of the vocabulary's bytes.
+#[tactic(auto, using(shared_lemmas::proofs::Read::none_given))]
 fn new_session(alloc: Global, plan: Plan, voc: &[u8]) -> Result<(Held, Vec<u8>), SFault>
     ensures sound { IfOk result (λ made. IsHeld made.0) }
     ensures read { IfOk result (λ made. IsVocabulary voc.now (lang_held made.0)) }
@@ -79,6 +80,7 @@ fn new_session(alloc: Global, plan: Plan, voc: &[u8]) -> Result<(Held, Vec<u8>),
 }
 
 /// The session to which events lead, of this plan and vocabulary.
+#[tactic(auto, using(shared_lemmas::proofs::Read::none_given))]
 fn led_session(alloc: Global, plan: Plan, voc: &[u8], events: &Events) -> Result<Session, SFault>
     requires storable { All IsStorableEvent events.now.items }
     requires few { length events.now.items ≤ 1000000 }
@@ -101,6 +103,7 @@ impl Store {
     /// Makes a journal of this plan and vocabulary, on a file that holds none.
     ///
     /// The vocabulary is read before anything is written, and all memory is taken before that.
+    #[tactic(auto, using(shared_lemmas::proofs::Read::none_given))]
     pub fn create<D: Disk>(
         alloc: Global,
         disk: &mut D,
@@ -147,6 +150,7 @@ impl Store {
     }
 
     /// Opens a journal, and leads a session through its events. It writes nothing.
+    #[tactic(auto, using(shared_lemmas::proofs::Read::none_given))]
     pub fn open<D: Disk>(alloc: Global, disk: &mut D) -> Result<Store, SFault>
         ensures sound { IfOk result IsSound }
         ensures opened { ForSome (D.content disk.old) (λ bytes. IfOk result
@@ -225,6 +229,7 @@ fn raised<D: Disk>(journal: &mut Journal, disk: &mut D) -> Result<(), JFault>
 }
 
 /// Adds a take-back, after the journal was raised where it wasn't.
+#[tactic(auto, using(shared_lemmas::proofs::Read::none_given))]
 fn append_back<D: Disk>(journal: &mut Journal, disk: &mut D) -> Result<(), JFault>
     requires there { IsInPlace D.Disk journal.old disk.old }
     requires room { journal.old.records < 1000000 }

@@ -25,12 +25,3 @@ pub returns-clause-failed : goal.returns-clause-failed
 returns-clause-failed g c =
     append_failed c.append.result c.append.ensures.faults (λ full. let all = c.append.ensures.full.0 full in let no : ⊥ = omega (arith, all, c.raised.ensures.counted, c.requires.room) in no)
     (λ is. let failed = c.append.ensures.failed is in (rose_later _ _ _ c.raised.ensures.leaves.goes_on.later failed.0, failed.1.not_live))
-
-pub returns-in_err-raised-clause-there : goal.returns-in_err-raised-clause-there
-returns-in_err-raised-clause-there g c = none_given _ _ c.from_residual.result c.from_residual.ensures.1
-
-pub returns-in_err-raised-clause-counted : goal.returns-in_err-raised-clause-counted
-returns-in_err-raised-clause-counted g c = none_given _ _ c.from_residual.result c.from_residual.ensures.1
-
-pub returns-in_err-raised-clause-raised : goal.returns-in_err-raised-clause-raised
-returns-in_err-raised-clause-raised g c = none_given _ _ c.from_residual.result c.from_residual.ensures.1

@@ -13,33 +13,3 @@ returns-clause-refused c =
     IfErr-weaker c.replay.result (NamesStray k.lang k.plan c.args.events.now.items) (NotLed c.args.plan c.args.voc.now c.args.events.now.items)
     (λ fault stray. strays c.args.plan k.plan c.args.voc.now c.args.events.now.items c.in_ok-lang.lang k.lang fault c.in_ok-lang.ensures.read c.in_ok-start.ensures.lang c.in_ok-start.ensures.plan stray)
     c.replay.ensures.stray
-
-pub returns-in_err-lang-clause-read : goal.returns-in_err-lang-clause-read
-returns-in_err-lang-clause-read c = none_given _ _ c.from_residual.result c.from_residual.ensures.1
-
-pub returns-in_err-lang-clause-plan : goal.returns-in_err-lang-clause-plan
-returns-in_err-lang-clause-plan c = none_given _ _ c.from_residual.result c.from_residual.ensures.1
-
-pub returns-in_err-lang-clause-stands : goal.returns-in_err-lang-clause-stands
-returns-in_err-lang-clause-stands c = none_given _ _ c.from_residual.result c.from_residual.ensures.1
-
-pub returns-in_err-lang-clause-settled : goal.returns-in_err-lang-clause-settled
-returns-in_err-lang-clause-settled c = none_given _ _ c.from_residual.result c.from_residual.ensures.1
-
-pub returns-in_err-lang-clause-places : goal.returns-in_err-lang-clause-places
-returns-in_err-lang-clause-places c = none_given _ _ c.from_residual.result c.from_residual.ensures.1
-
-pub returns-in_err-start-clause-read : goal.returns-in_err-start-clause-read
-returns-in_err-start-clause-read c = none_given _ _ c.from_residual-in_err-start.result c.from_residual-in_err-start.ensures.1
-
-pub returns-in_err-start-clause-plan : goal.returns-in_err-start-clause-plan
-returns-in_err-start-clause-plan c = none_given _ _ c.from_residual-in_err-start.result c.from_residual-in_err-start.ensures.1
-
-pub returns-in_err-start-clause-stands : goal.returns-in_err-start-clause-stands
-returns-in_err-start-clause-stands c = none_given _ _ c.from_residual-in_err-start.result c.from_residual-in_err-start.ensures.1
-
-pub returns-in_err-start-clause-settled : goal.returns-in_err-start-clause-settled
-returns-in_err-start-clause-settled c = none_given _ _ c.from_residual-in_err-start.result c.from_residual-in_err-start.ensures.1
-
-pub returns-in_err-start-clause-places : goal.returns-in_err-start-clause-places
-returns-in_err-start-clause-places c = none_given _ _ c.from_residual-in_err-start.result c.from_residual-in_err-start.ensures.1

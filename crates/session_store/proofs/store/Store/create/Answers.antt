@@ -58,32 +58,8 @@ returns-clause-leaves g c =
 pub returns-clause-made : goal.returns-clause-made
 returns-clause-made g c = record { plan = c.in_ok-held.ensures.plan; voc = c.in_ok-held.ensures.voc; events = c.in_ok-held.ensures.events; idle = c.in_ok-held.ensures.idle; live = c.in_ok-journal.ensures.there.live }
 
-pub returns-in_err-held-clause-sound : goal.returns-in_err-held-clause-sound
-returns-in_err-held-clause-sound g c = none_given _ _ c.from_residual.result c.from_residual.ensures.1
-
-pub returns-in_err-held-clause-made : goal.returns-in_err-held-clause-made
-returns-in_err-held-clause-made g c = none_given _ _ c.from_residual.result c.from_residual.ensures.1
-
-pub returns-in_err-held-clause-sits : goal.returns-in_err-held-clause-sits
-returns-in_err-held-clause-sits g c = none_given _ _ c.from_residual.result c.from_residual.ensures.1
-
-pub returns-in_err-held-clause-taken : goal.returns-in_err-held-clause-taken
-returns-in_err-held-clause-taken g c = none_given _ _ c.from_residual.result c.from_residual.ensures.1
-
 pub returns-in_err-held-clause-free : goal.returns-in_err-held-clause-free
 returns-in_err-held-clause-free g c = λ bytes told. none_given _ _ c.from_residual.result c.from_residual.ensures.1
-
-pub returns-in_err-journal-clause-sound : goal.returns-in_err-journal-clause-sound
-returns-in_err-journal-clause-sound g c = none_given _ _ c.from_residual-in_err-journal.result c.from_residual-in_err-journal.ensures.1
-
-pub returns-in_err-journal-clause-made : goal.returns-in_err-journal-clause-made
-returns-in_err-journal-clause-made g c = none_given _ _ c.from_residual-in_err-journal.result c.from_residual-in_err-journal.ensures.1
-
-pub returns-in_err-journal-clause-sits : goal.returns-in_err-journal-clause-sits
-returns-in_err-journal-clause-sits g c = none_given _ _ c.from_residual-in_err-journal.result c.from_residual-in_err-journal.ensures.1
-
-pub returns-in_err-journal-clause-taken : goal.returns-in_err-journal-clause-taken
-returns-in_err-journal-clause-taken g c = none_given _ _ c.from_residual-in_err-journal.result c.from_residual-in_err-journal.ensures.1
 
 pub returns-in_err-journal-clause-free : goal.returns-in_err-journal-clause-free
 returns-in_err-journal-clause-free g c = λ bytes told. none_given _ _ c.from_residual-in_err-journal.result c.from_residual-in_err-journal.ensures.1

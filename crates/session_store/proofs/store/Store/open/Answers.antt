@@ -56,41 +56,11 @@ returns-in_err-journal-clause-some g c =
     let p = err_from_is_err_and c.from_residual.result c.from_residual.ensures.1 in
     rw (p.1, p.2) (some_not_opened c.in_err-journal.field-0.0 c.in_err-journal.ensures.some_refusal)
 
-pub returns-in_err-journal-clause-sound : goal.returns-in_err-journal-clause-sound
-returns-in_err-journal-clause-sound g c = none_given _ _ c.from_residual.result c.from_residual.ensures.1
-
 pub returns-in_err-journal-clause-opened : goal.returns-in_err-journal-clause-opened
 returns-in_err-journal-clause-opened g c = λ bytes told. none_given _ _ c.from_residual.result c.from_residual.ensures.1
 
-pub returns-in_err-journal-clause-places : goal.returns-in_err-journal-clause-places
-returns-in_err-journal-clause-places g c = none_given _ _ c.from_residual.result c.from_residual.ensures.1
-
-pub returns-in_err-journal-clause-settled : goal.returns-in_err-journal-clause-settled
-returns-in_err-journal-clause-settled g c = none_given _ _ c.from_residual.result c.from_residual.ensures.1
-
-pub returns-in_err-journal-clause-live : goal.returns-in_err-journal-clause-live
-returns-in_err-journal-clause-live g c = none_given _ _ c.from_residual.result c.from_residual.ensures.1
-
-pub returns-in_err-journal-clause-sits : goal.returns-in_err-journal-clause-sits
-returns-in_err-journal-clause-sits g c = none_given _ _ c.from_residual.result c.from_residual.ensures.1
-
-pub returns-in_err-session-clause-sound : goal.returns-in_err-session-clause-sound
-returns-in_err-session-clause-sound g c = none_given _ _ c.from_residual-in_err-session.result c.from_residual-in_err-session.ensures.1
-
 pub returns-in_err-session-clause-opened : goal.returns-in_err-session-clause-opened
 returns-in_err-session-clause-opened g c = λ bytes told. none_given _ _ c.from_residual-in_err-session.result c.from_residual-in_err-session.ensures.1
-
-pub returns-in_err-session-clause-places : goal.returns-in_err-session-clause-places
-returns-in_err-session-clause-places g c = none_given _ _ c.from_residual-in_err-session.result c.from_residual-in_err-session.ensures.1
-
-pub returns-in_err-session-clause-settled : goal.returns-in_err-session-clause-settled
-returns-in_err-session-clause-settled g c = none_given _ _ c.from_residual-in_err-session.result c.from_residual-in_err-session.ensures.1
-
-pub returns-in_err-session-clause-live : goal.returns-in_err-session-clause-live
-returns-in_err-session-clause-live g c = none_given _ _ c.from_residual-in_err-session.result c.from_residual-in_err-session.ensures.1
-
-pub returns-in_err-session-clause-sits : goal.returns-in_err-session-clause-sits
-returns-in_err-session-clause-sits g c = none_given _ _ c.from_residual-in_err-session.result c.from_residual-in_err-session.ensures.1
 
 pub returns-in_err-journal-clause-few_calls : goal.returns-in_err-journal-clause-few_calls
 returns-in_err-journal-clause-few_calls g c = c.open.ensures.few_calls
