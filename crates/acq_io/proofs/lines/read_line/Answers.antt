@@ -23,21 +23,3 @@ returns-in-Ok-Some-eq10-clause-takes g c = let got = c.in-Ok-Some-eq10 in
 pub returns-then-is_full-clause-takes : goal.returns-then-is_full-clause-takes
 returns-then-is_full-clause-takes g c = let got = c.in-Ok-Some in
     (c.loop-byte.line ++ option_to_list got.field-0, takes_on _ _ _ _ (option_to_list got.field-0) c.loop-byte.invariant.taken got.ensures.bytes)
-
-pub returns-in-Err-clause-line : goal.returns-in-Err-clause-line
-returns-in-Err-clause-line g c = search rules
-
-pub returns-in-Err-clause-takes : goal.returns-in-Err-clause-takes
-returns-in-Err-clause-takes g c = search rules
-
-pub returns-in-Err-clause-called : goal.returns-in-Err-clause-called
-returns-in-Err-clause-called g c = search rules
-
-pub returns-in-Ok-None-clause-called : goal.returns-in-Ok-None-clause-called
-returns-in-Ok-None-clause-called g c = called_on _ _ _ _ _ _ _ c.loop-byte.invariant.called (called_as _ _ _ _ _ _ (λ is. cc) (λ is. cc) c.in-Ok-None.ensures.called)
-
-pub returns-in-Ok-Some-eq10-clause-called : goal.returns-in-Ok-Some-eq10-clause-called
-returns-in-Ok-Some-eq10-clause-called g c = called_on _ _ _ _ _ _ _ c.loop-byte.invariant.called (called_as _ _ _ _ _ _ (λ is. cc) (λ is. cc) c.in-Ok-Some-eq10.ensures.called)
-
-pub returns-then-is_full-clause-called : goal.returns-then-is_full-clause-called
-returns-then-is_full-clause-called g c = called_on _ _ _ _ _ _ _ c.loop-byte.invariant.called (called_as _ _ _ _ _ _ (λ is. cc) (λ is. cc) c.in-Ok-Some.ensures.called)

@@ -30,15 +30,3 @@ pub returns-then-is_err-clause-takes : goal.returns-then-is_err-clause-takes
 returns-then-is_err-clause-takes g c =
     let piece : List ℕ = take c.in-Ok.count c.read.new.buf in
     (c.loop-all.all.items ++ piece, takes_on _ _ _ _ piece c.loop-all.invariant.taken c.in-Ok.ensures.bytes)
-
-pub returns-in-Err-clause-called : goal.returns-in-Err-clause-called
-returns-in-Err-clause-called g c = called_once _ _ _ _ _ _ _ c.loop-all.invariant.called c.read.ensures.later c.read.ensures.late (λ _. c.in-Err.ensures.raised) (λ other. absurd (other refl))
-
-pub returns-in-Ok-eq0-clause-called : goal.returns-in-Ok-eq0-clause-called
-returns-in-Ok-eq0-clause-called g c = called_once _ _ _ _ _ _ _ c.loop-all.invariant.called c.read.ensures.later c.read.ensures.late (λ is. cc) (λ _. c.in-Ok-eq0.ensures.kept)
-
-pub returns-then-count-room-clause-called : goal.returns-then-count-room-clause-called
-returns-then-count-room-clause-called g c = called_once _ _ _ _ _ _ _ c.loop-all.invariant.called c.read.ensures.later c.read.ensures.late (λ is. cc) (λ _. c.in-Ok.ensures.kept)
-
-pub returns-then-is_err-clause-called : goal.returns-then-is_err-clause-called
-returns-then-is_err-clause-called g c = called_once _ _ _ _ _ _ _ c.loop-all.invariant.called c.read.ensures.later c.read.ensures.late (λ is. cc) (λ _. c.in-Ok.ensures.kept)

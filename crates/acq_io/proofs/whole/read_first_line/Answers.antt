@@ -37,18 +37,3 @@ returns-then-is_err-clause-stopped g c _ = let kept = c.loop-line.invariant in l
       All-push (λ b. b ≢ newline) c.loop-line.line.items got.byte kept.one_line got.byte-test.1,
       takes_on _ _ _ _ (got.byte ∷ []) kept.taken (rw got.field-0-is at got.ensures.bytes),
     )
-
-pub returns-in-Err-clause-called : goal.returns-in-Err-clause-called
-returns-in-Err-clause-called g c = called_on _ _ _ _ _ _ _ c.loop-line.invariant.called (called_as _ _ _ _ _ _ (λ _. refl) (λ _. refl) c.in-Err.ensures.called)
-
-pub returns-in-Ok-None-clause-called : goal.returns-in-Ok-None-clause-called
-returns-in-Ok-None-clause-called g c = called_on _ _ _ _ _ _ _ c.loop-line.invariant.called (called_as _ _ _ _ _ _ (λ is. cc) (λ is. cc) c.in-Ok-None.ensures.called)
-
-pub returns-in-Ok-Some-eq10-clause-called : goal.returns-in-Ok-Some-eq10-clause-called
-returns-in-Ok-Some-eq10-clause-called g c = called_on _ _ _ _ _ _ _ c.loop-line.invariant.called (called_as _ _ _ _ _ _ (λ is. cc) (λ is. cc) c.in-Ok-Some-eq10.ensures.called)
-
-pub returns-then-len-most-clause-called : goal.returns-then-len-most-clause-called
-returns-then-len-most-clause-called g c = called_on _ _ _ _ _ _ _ c.loop-line.invariant.called (called_as _ _ _ _ _ _ (λ is. cc) (λ is. cc) c.in-Ok-Some.ensures.called)
-
-pub returns-then-is_err-clause-called : goal.returns-then-is_err-clause-called
-returns-then-is_err-clause-called g c = called_on _ _ _ _ _ _ _ c.loop-line.invariant.called (called_as _ _ _ _ _ _ (λ is. cc) (λ is. cc) c.in-Ok-Some.ensures.called)
