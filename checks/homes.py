@@ -5,7 +5,7 @@ usage: checks/homes.py
 
 - A word that the specifications of one crate define isn't defined by those of another one too. SAME and OWN have the exceptions,
   each with its reason; ten words at most may mean different things.
-- A statement isn't proved in two crates, whatever its variables are called, but for those of TWICE.
+- A statement isn't proved in two crates, whatever its variables are called.
 - Below cert_check stand the crates of SHARED alone: no set of possible candidates, no search and no session. So a fault of the learner
   isn't one of the checker too.
 """
@@ -33,14 +33,9 @@ SAME = {
 # Words that mean something else in each crate, and why that is clear.
 OWN = {
     "IsSound": "what holds of each value of a type, as the library calls it",
-    "masks_of": "the masks of what it is applied to: what is left on each scope, sets of values",
     "seen": "what is seen of a type's fields, as the library calls it",
     "values_of": "the values of what it is applied to: an assignment, a variable, a table",
     "widened": "an assignment gets more variables, a relation more tuples",
-}
-# Statements that may be proved in two crates, and why.
-TWICE = {
-    "and_true": "the library's `and-true` takes its place where a crate is next changed",
 }
 # What the checker of certificates has in common with the learner: what a vocabulary says, and how text is read.
 SHARED = {"shared_lemmas", "assign", "line_text", "rel_table", "rel_formula", "language", "voc_read"}
@@ -115,18 +110,10 @@ def main():
         print(f"homes: {len(OWN)} words have several meanings, more than ten")
         failed += 1
     twice = 0
-    met = set()
     for places in statements().values():
         if len({crate for crate, _ in places}) > 1:
-            named = {place.rpartition(" ")[2] for _, place in places} & TWICE.keys()
-            met |= named
-            if named:
-                continue
             print("homes: proved in two crates: " + ", ".join(sorted(place for _, place in places)))
             twice += 1
-    for lemma in sorted(TWICE.keys() - met):
-        print(f"homes: {lemma} is proved in one crate alone, and is no exception")
-        failed += 1
     learners = below_checker()
     if learners:
         print(f"homes: below cert_check stands {', '.join(learners)}, and a checker shares no search, kept set or session with the learner")

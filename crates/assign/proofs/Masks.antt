@@ -5,7 +5,7 @@ use Rattle.std.proofs.lemmas.Slice.Eq.{bytes_eq-Decides}
 use Rattle.std.proofs.lemmas.Bool.{and_from}
 use Rattle.assign.specs.Sets.{is_same}
 use Rattle.shared_lemmas.proofs.Booleans.{both_true}
-use Rattle.std.proofs.Math.Bool.{and_self, or-false}
+use Rattle.std.proofs.Math.Bool.{and-true, and_self, or-false}
 use Rattle.std.proofs.lemmas.Nat.{shr-shr}
 use Rattle.assign.specs.SetLemmas.{has-set_where_above}
 
@@ -291,10 +291,6 @@ same_mask_is a b h k = both_true _ _
 
 -- ---- the members from one on
 
-and_true_right : (b : Bool) → (b && true) ≡ b
-and_true_right true = refl
-and_true_right false = refl
-
 -- past the last bit there is none, and no member either
 has-members_of_any : (mask v : ℕ) → mask < 2 ^ 128 → has (members_of mask) v ≡ is_one mask v
 has-members_of_any mask v small =
@@ -307,6 +303,6 @@ pub ones_from : (mask v j : ℕ) → mask < 2 ^ 128 → j < 64 → is_one (bit_a
 ones_from mask v j small low =
     is_one-and (mask / 2 ^ v) (2 ^ 64 - 1) j
     ∙ (λ i. is_one (mask / 2 ^ v) j && ap (λ x. x == 1) (bit_at_ones 64 j low) i)
-    ∙ and_true_right (is_one (mask / 2 ^ v) j)
+    ∙ and-true (is_one (mask / 2 ^ v) j)
     ∙ ap (λ x. x % 2 == 1) (shr-shr mask v j)
     ∙ sym (has-members_of_any mask (v + j) small)

@@ -41,24 +41,24 @@ module _ (word at others : ℕ) (least : IsLeastOne word at others) where
 
   gone : is_one others at ≡ false
   gone =
-      ap (λ m. is_one m at) least.rest ∙ is_one-and_not word (2 ^ at) at (pow_below at 64 least.within) least.within
+      ap (λ m. is_one m at) least.without ∙ is_one-and_not word (2 ^ at) at (pow_below at 64 least.within) least.within
       ∙ (λ i. is_one word at && not ((is_one-pow at at ∙ eq-eqb at at refl) i)) ∙ and-false (is_one word at)
 
   same : (j : ℕ) → j < 64 → j ≢ at → is_one others j ≡ is_one word j
   same j low apart =
-      ap (λ m. is_one m j) least.rest ∙ is_one-and_not word (2 ^ at) j (pow_below at 64 least.within) low
+      ap (λ m. is_one m j) least.without ∙ is_one-and_not word (2 ^ at) j (pow_below at 64 least.within) low
       ∙ (λ i. is_one word j && not ((is_one-pow at j ∙ ne_eqb at j (λ e. apart (sym e))) i)) ∙ and-true (is_one word j)
 
   -- fewer ones are left
   pub others_less : others < word
   others_less =
-      let most : others ≤ word = subst (λ m. m ≤ word) (sym least.rest) (and_le_l word (bit_not w64 (2 ^ at))) in
+      let most : others ≤ word = subst (λ m. m ≤ word) (sym least.without) (and_le_l word (bit_not w64 (2 ^ at))) in
       let apart : others ≢ word = (λ e. let on : is_one others at ≡ true = ap (λ m. is_one m at) e ∙ there in let off = gone in absurd (cc)) in
       omega arith
 
   -- which the word has too
   pub others_within : (j : ℕ) → is_one others j ≡ true → is_one word j ≡ true
-  others_within j on = (and_parts (is_one word j) (is_one (bit_not w64 (2 ^ at)) j) (sym (is_one-and word (bit_not w64 (2 ^ at)) j) ∙ sym (ap (λ m. is_one m j) least.rest) ∙ on)).0
+  others_within j on = (and_parts (is_one word j) (is_one (bit_not w64 (2 ^ at)) j) (sym (is_one-and word (bit_not w64 (2 ^ at)) j) ∙ sym (ap (λ m. is_one m j) least.without) ∙ on)).0
 
   module _ (q : Assignment) (relations accepting : List ℕ) (second from count violated : ℕ) (few : count ≤ 64) (is : AreNoneBut q relations accepting second from count word)
       (here : (value : ℕ) → value_of q (second + (from + at)) ≡ Some value → ones_of violated ≡ violated_at relations accepting (from + at) value) where

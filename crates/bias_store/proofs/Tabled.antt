@@ -63,8 +63,8 @@ module _ (masks wider : List ℕ) (is : AreWider masks wider) where
 pub table_of : (l : Language) (s : ℕ) (masks wider : List ℕ) → AreAdded (Accepts l s) masks wider (places_on l s) → IsTableOf l s wider (length masks)
 table_of l s masks wider is = let long = is.long in record { inside = omega arith; within = λ p low ranged. is.here p low }
 
-pub masks_of : (l : Language) (tables masks wider : List ℕ) → AreAdded (AcceptBy l tables) masks wider (l.value_count ^ 2) → HasMasksAt l tables wider (length masks)
-masks_of l tables masks wider is = let long = is.long in record { inside = omega arith; each = is.here }
+pub added_masks : (l : Language) (tables masks wider : List ℕ) → AreAdded (AcceptBy l tables) masks wider (l.value_count ^ 2) → HasMasksAt l tables wider (length masks)
+added_masks l tables masks wider is = let long = is.long in record { inside = omega arith; each = is.here }
 
 pub classes_more : (l : Language) (classes : List Class) (masks : List ℕ) (class : Class) → AreClasses l classes masks → HasMasksAt l class.tables.items masks class.begin → AreClasses l (classes ++ class ∷ []) masks
 classes_more l classes masks class are new =

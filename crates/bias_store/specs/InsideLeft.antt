@@ -1,9 +1,6 @@
--- The relations on each scope that the fields stand for.
+-- What holds of the relations on each scope and of the scopes that are passed over.
 use Rattle.std.specs.Prelude.{ℕ, ◌≡◌, ◌<◌, ◌^◌, true, false, List, Bool, length, slice_index_or}
 use Rattle.bias_store.specs.declared.left.Left.TheInside.{Inside}
-
-abbrev pub masks_of : Inside → List ℕ
-masks_of a = a.masks.items
 
 -- there is a truth value for each scope, and where it is true the scope has no relations
 pub record PassesOver (masks : List ℕ) (bare : List Bool) : Type 0 where

@@ -7,4 +7,4 @@ pub record IsLeastOne (word at others : ℕ) : Type 0 where
   pub within : at < 64
   pub one : bit_at word at ≡ 1
   pub before : (k : ℕ) → k < at → bit_at word k ≡ 0
-  pub rest : others ≡ bit_and word (bit_not w64 (2 ^ at))
+  pub without : others ≡ bit_and word (bit_not w64 (2 ^ at))

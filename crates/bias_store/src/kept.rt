@@ -40,8 +40,9 @@ impl Model for Kept {
 }
 
 impl Kept {
-    /// All candidates of the language: 16 bytes for each scope, and for each number of variables
-    /// that a scope has whose variables have all values 8 bytes for each tuple, at most 512 KB.
+    /// All candidates of the language: 16 bytes and a bit for each scope, and for each number of
+    /// variables that a scope has whose variables have all values 8 bytes for each tuple, at most
+    /// 512 KB.
     /// Scopes of two variables share such a table where their relations have the same tables, also
     /// with ranges, and have 17 at most. `Memory` where there is none for them.
     pub fn of(alloc: Global, lang: &Language) -> Result<Kept, Memory>

@@ -26,9 +26,9 @@ impl Model for Left {
 
     ghost Value = { List ℕ };
 
-    ghost use Rattle.bias_store.specs.InsideLeft.{masks_of, IsPassing};
+    ghost use Rattle.bias_store.specs.InsideLeft.{IsPassing};
 
-    ghost view = { masks_of };
+    ghost view = { λ a. a.masks.items };
 
     ghost invariant = { IsPassing };
 }
@@ -76,14 +76,17 @@ impl Left {
         if relations == 0 {
             self.bare.mark(at);
         } else if self.bare.get(at) {
-            // Scopes get relations where all candidates are kept again: none is passed over then.
+            // Scopes get relations where all candidates are kept again, from the first one on. So
+            // the first that gets some clears the bits of all that follow, which is one pass over
+            // the words in place of a change of each bit.
             self.bare.clear();
         }
         self.masks[at] = relations;
     }
 
     /// Of so many scopes from one on those that may have relations: bit j is one for the scope j
-    /// places further. It is zero where that has none, once one was taken there.
+    /// places further, if that has some. If it has none, the bit is zero where `set` left none
+    /// there, and one where there never were any.
     #[inline]
     pub(crate) fn word(&self, from: usize, count: usize) -> u64
         requires some { 1 ≤ count }

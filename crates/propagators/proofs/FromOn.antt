@@ -1,10 +1,6 @@
 -- The least member of a set from a number on.
 use Rattle.propagators.proofs.Prelude.{◌≡◌, ℕ, ◌<◌, ◌≤◌, ◌^◌, Bool, true, false, ◌&&◌, refl, sym, ◌∙◌, ap, arith, inl, inr, ◌⊎◌, ◌==◌, nat_le, bit_at, cases_lt, le-leb, lt-leb, and_from, and_parts, both_ways, has, ones_of, is_wanted, ones_of-zero, has-ones_of, has_above}
 
-and_true : (b : Bool) → (b && true) ≡ b
-and_true true = refl
-and_true false = refl
-
 module _ (values mask rest x : ℕ) (fits : values < 2 ^ 64) (is : (y : ℕ) → has (ones_of mask) y ≡ (nat_le x y && nat_le y 63)) (goes : (y : ℕ) → has (ones_of rest) y ≡ (has (ones_of values) y && is_wanted true (bit_at mask y == 1))) where
   -- a member from x on is left
   kept : (z : ℕ) → x ≤ z → has (ones_of values) z ≡ true → has (ones_of rest) z ≡ true

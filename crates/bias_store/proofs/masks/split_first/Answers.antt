@@ -5,4 +5,4 @@ use Rattle.assign.proofs.Ones.{ones_of-first_and_others}
 pub returns : goal.returns
 returns c =
     let least = c.take_least.ensures in
-    ones_of-first_and_others c.args.relations _ least.within least.one least.before ∙ ap (λ m. c.take_least.result.0 ∷ ones_of m) (sym least.rest)
+    ones_of-first_and_others c.args.relations _ least.within least.one least.before ∙ ap (λ m. c.take_least.result.0 ∷ ones_of m) (sym least.without)

@@ -2,7 +2,7 @@ use Rattle.bias_store.proofs.Prelude.{◌≡◌, ◌^◌, ◌≤◌, ℕ, List, 
 use Rattle.bias_store.specs.Made.{AcceptBy, AreClasses, HasMasksAt}
 use Rattle.bias_store.specs.declared.tables.Class.{Class}
 use Rattle.bias_store.proofs.Likeness.{class_table}
-use Rattle.bias_store.proofs.Tabled.{added_wider, begun_wider, classes_more, classes_wider, masks_of}
+use Rattle.bias_store.proofs.Tabled.{added_wider, begun_wider, classes_more, classes_wider, added_masks}
 use Rattle.bias_store.proofs.tables.Made.pair_begin.Goals as goal
 
 pub returns-clause-room : goal.returns-clause-room
@@ -26,7 +26,7 @@ returns-clause-made c =
     let wider = added_wider (AcceptBy l c.deref-2.result.now) before masks (l.value_count ^ 2) c.in_ok-add_pair_masks.ensures in
     let end : length before ≡ c.len-begin.result = let ok = old.masks.ok in omega (arith, ok, c.len-begin.ensures) in
     let here : HasMasksAt l tables masks c.len-begin.result =
-    subst (HasMasksAt l tables masks) end (subst (λ (ts : List ℕ). HasMasksAt l ts masks (length before)) c.deref-2.ensures.value (masks_of l c.deref-2.result.now before masks c.in_ok-add_pair_masks.ensures)) in
+    subst (HasMasksAt l tables masks) end (subst (λ (ts : List ℕ). HasMasksAt l ts masks (length before)) c.deref-2.ensures.value (added_masks l c.deref-2.result.now before masks c.in_ok-add_pair_masks.ensures)) in
     record {
       classes = subst (λ (cs : List Class). AreClasses l cs masks) (sym c.in_ok-push.ensures.items) (classes_more l old.classes.items masks _ (classes_wider before masks wider l old.classes.items c.requires.made.classes) here);
       begins = begun_wider before masks wider l old.begins c.requires.made.begins;
@@ -38,7 +38,7 @@ returns-clause-table c = λ some.
     let tables = c.in_ok-tables.tables.items in
     let masks = c.add_pair_masks.new.masks.items in
     class_table l c.requires.lawful c.args.s c.len-begin.result masks c.requires.scope c.requires.two tables c.in_ok-tables.ensures.has
-    (subst (HasMasksAt l tables masks) (let ok = c.args.self.now.masks.ok in let e : length c.args.self.now.masks.items ≡ c.len-begin.result = omega (arith, ok, c.len-begin.ensures) in e) (subst (λ (ts : List ℕ). HasMasksAt l ts masks (length c.args.self.now.masks.items)) c.deref-2.ensures.value (masks_of l c.deref-2.result.now c.args.self.now.masks.items masks c.in_ok-add_pair_masks.ensures)))
+    (subst (HasMasksAt l tables masks) (let ok = c.args.self.now.masks.ok in let e : length c.args.self.now.masks.items ≡ c.len-begin.result = omega (arith, ok, c.len-begin.ensures) in e) (subst (λ (ts : List ℕ). HasMasksAt l ts masks (length c.args.self.now.masks.items)) c.deref-2.ensures.value (added_masks l c.deref-2.result.now c.args.self.now.masks.items masks c.in_ok-add_pair_masks.ensures)))
 
 pub returns-in_err-tables-clause-made : goal.returns-in_err-tables-clause-made
 returns-in_err-tables-clause-made c = none_given _ _ c.from_residual.result c.from_residual.ensures.1
