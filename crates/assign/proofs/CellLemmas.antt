@@ -1,5 +1,5 @@
 -- What the calls make of the fields of a partial assignment, and what is then seen of them.
-use Rattle.assign.proofs.Prelude.{◌≡◌, ℕ, zero, suc, ◌+◌, ◌-◌, ◌<◌, ◌≤◌, Bool, true, false, cond, ◌||◌, ◌&&◌, not, List, [], ◌∷◌, length, take, set, replicate, Option, Some, None, refl, sym, ◌∙◌, ap, arith, inl, inr, lit≤, nat_eq, ◌≢◌, is_some, list_all, both_ways, or_from, restrict, common, minus, least_of, drop, subst, range_with_len, ne_eqb, eq-eqb, cases_eq, cases_lt, le-ltb, lt-ltb, length-replicate, length-set, length-take, get_or-set_same, get_or-set_other, get_or-take, get_or_past, map, slice_index_or, Assignment, value_of, widened, numbers, has, set_where, with_member, without, set_where-same, has-set_where, Inside, IsCells, option_at, seen, length-seen, value_of-seen, is_some-cond, cells_of, cells_of-seen}
+use Rattle.assign.proofs.Prelude.{◌≡◌, ℕ, zero, suc, ◌+◌, ◌-◌, ◌<◌, ◌≤◌, Bool, true, false, cond, ◌||◌, ◌&&◌, not, List, [], ◌∷◌, length, take, set, replicate, Option, Some, None, refl, sym, ◌∙◌, ap, arith, inl, inr, ◌⊎◌, lit≤, nat_eq, ◌≢◌, is_some, list_all, both_ways, or_from, restrict, common, minus, least_of, drop, subst, range_with_len, ne_eqb, eq-eqb, cases_eq, cases_lt, le-ltb, lt-ltb, length-replicate, length-set, length-take, get_or-set_same, get_or-set_other, get_or-take, get_or_past, map, slice_index_or, Assignment, value_of, widened, numbers, has, set_where, with_member, without, set_where-same, has-set_where, Inside, IsCells, option_at, seen, length-seen, value_of-seen, is_some-cond, cells_of, cells_of-seen}
 use Rattle.std.proofs.lemmas.List.{get_or-replicate, get_or_append_left, get_or-append_right, length-append}
 use Rattle.std.proofs.lemmas.List.FromFn.{fill_by_all, get_or-map-range_with_len, length-map-range_with_len}
 use lib.Pointwise.{pointwise, pointwise_decides}
@@ -155,6 +155,22 @@ wide_seen a h =
           get_or-append_right (seen a) _ (length (seen a)) v None refl past ∙ nones (128 - length (seen a)) (v - length (seen a))
           ∙ sym (get_or_past (seen a) v None past) ∙ value_of-seen a h v low
     ]))
+
+-- ---- the value of a variable that has one
+
+pub low_valued : (a : Inside) → IsCells a → (v : ℕ) → is_some (value_of (seen a) v) ≡ true → v < 128
+low_valued a h v some = go (cases_lt v 128)
+  where
+    go : (v < 128) ⊎ (128 ≤ v) → v < 128
+    go (inl low) = low
+    go (inr far) =
+        let f = h.fits in
+        absurd (both_ways _ (ap is_some (get_or_past (seen a) v None (omega (arith, length-seen a)))) some)
+
+pub value_of-valued : (a : Inside) → IsCells a → (v : ℕ) → is_some (value_of (seen a) v) ≡ true → value_of (seen a) v ≡ Some (slice_index_or a.values v 0)
+value_of-valued a h v some =
+    let is = value_of-seen a h v (low_valued a h v some) in
+    is ∙ ap (λ b. cond b (Some (slice_index_or a.values v 0)) None) (sym (is_some-cond (has a.valued v) _) ∙ sym (ap is_some is) ∙ some)
 
 pub complete_from : (a : Inside) (b k : ℕ) → list_all is_some (map (option_at a) (range_with_len b k)) ≡ list_all (has a.valued) (range_with_len b k)
 complete_from a b zero = refl

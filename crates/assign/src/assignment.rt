@@ -1,5 +1,5 @@
 ghost use Rattle.std.specs.Prelude.{◌≡◌, ℕ, ◌-◌, ◌<◌, ◌≤◌, ◌↔◌, IsTrue, Option, Some, None, length};
-ghost use Rattle.std.specs.Prelude.{nat_eq, replicate, slice_set, take};
+ghost use Rattle.std.specs.Prelude.{true, is_some, nat_eq, replicate, slice_set, take};
 ghost use Rattle.std.specs.Cmp.{nat_eq_equiv, partial_equiv_from_equiv};
 ghost use Rattle.std.specs.Cmp.Lexicographic.{lists_equiv, options_equiv, pointwise};
 ghost use Rattle.std.specs.Option.{option_eq};
@@ -73,6 +73,15 @@ impl Partial {
         } else {
             None
         }
+    }
+
+    /// The value of a variable that has one, without a look whether it does.
+    #[inline]
+    pub fn value(&self, v: u8) -> u8
+        requires { is_some (value_of self.now v) ≡ true }
+        ensures { value_of self.now v ≡ Some result }
+    {
+        self.values[v as usize]
     }
 
     /// Gives a variable this value, in place of the one that it may have.

@@ -33,6 +33,15 @@ word_passes q relations accepting masks shown first second from count left word 
 pub word_within : (masks : List ℕ) (from count left word j : ℕ) → IsLeftFrom masks from count left → is_one (bit_and left word) j ≡ true → j < count
 word_within masks from count left word j is on = is.within j ((and_parts (is_one left j) (is_one word j) (sym (is_one-and left word j) ∙ on)).0)
 
+-- and where it is one the question gives the second variable a value
+pub word_asked : (q : Assignment) (shown : List ℕ) (second from left word j : ℕ) → shown ≡ variables_of q → j < 64 → second + (from + j) < 128 →
+    ((j : ℕ) → j < 64 → is_one word j ≡ has shown (second + from + j)) → is_one (bit_and left word) j ≡ true → is_some (value_of q (second + (from + j))) ≡ true
+word_asked q shown second from left word j all low fits bits on =
+    let there : has (variables_of q) (second + (from + j)) ≡ true =
+        ap (λ v. has (variables_of q) v) (let e : second + (from + j) ≡ second + from + j = omega arith in e) ∙ sym (ap (λ xs. has xs (second + from + j)) all) ∙ sym (bits j low)
+        ∙ (and_parts (is_one left j) (is_one word j) (sym (is_one-and left word j) ∙ on)).1 in
+    sym (has-set_where (λ v. is_some (value_of q v)) (second + (from + j)) fits) ∙ there
+
 -- ---- the least one of a word
 
 module _ (word at others : ℕ) (least : IsLeastOne word at others) where

@@ -12,8 +12,8 @@ use crate::masks::take_least;
 use assign::{Partial, VarSet};
 use language::ScopeId;
 
-/// At a place of a row, of the relations there those that the question violates: none where it
-/// leaves the second variable open.
+/// At a place of a row, of the relations there those that the question violates. It gives the
+/// second variable a value.
 #[inline]
 fn violated_in_row(
     q: &Partial,
@@ -24,21 +24,20 @@ fn violated_in_row(
 ) -> u64
     requires place { place < length relations.now }
     requires variable { second + place < 128 }
+    requires asked { is_some (value_of q.now (second + place)) ≡ true }
     requires values { (v y : ℕ) → value_of q.now v ≡ Some y → y < length accepting.now }
-    ensures here { (value : ℕ) → value_of q.now (second + place) ≡ Some value →
+    ensures { (value : ℕ) → value_of q.now (second + place) ≡ Some value →
         ones_of result ≡ violated_at relations.now accepting.now place value }
-    ensures asked { result ≢ 0 → is_some (value_of q.now (second + place)) ≡ true }
 {
-    match q.get((second + place) as u8) {
-        Some(value) => relations[place] & !accepting[usize::from(value)],
-        None => 0,
-    }
+    let value = q.value((second + place) as u8);
+    relations[place] & !accepting[usize::from(value)]
 }
 
 /// At the places of a word in a row the first one with relations that the question violates, and
 /// those.
 ///
-/// Bit j of the word stands for the place `from` + j; it is zero where the question violates none.
+/// Bit j of the word stands for the place `from` + j; it is zero where the question violates none,
+/// and where it leaves the second variable open.
 #[inline]
 fn first_in_word(
     q: &Partial,
@@ -52,6 +51,8 @@ fn first_in_word(
     requires few { count ≤ 64 }
     requires within { from + count ≤ length relations.now }
     requires word { (j : ℕ) → nat_eq (bit_at word j) 1 ≡ true → j < count }
+    requires asked { (j : ℕ) → nat_eq (bit_at word j) 1 ≡ true →
+        is_some (value_of q.now (second + (from + j))) ≡ true }
     requires variables { second + length relations.now ≤ 128 }
     requires values { (v y : ℕ) → value_of q.now v ≡ Some y → y < length accepting.now }
     requires none { AreNoneBut q.now relations.now accepting.now second from count word }
