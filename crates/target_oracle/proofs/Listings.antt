@@ -1,12 +1,13 @@
 -- The candidates by first variables: together they are the network.
-use Rattle.target_oracle.proofs.Prelude.{◌≡◌, ℕ, zero, suc, ◌+◌, ◌<◌, ◌≤◌, Bool, true, false, cond, not, ◌&&◌, ◌||◌, ◌==◌, List, [], ◌∷◌, ◌++◌, length, drop, map, get_or, ◌⊎◌, Option, Some, None, refl, sym, ◌∙◌, ap, subst, arith, inl, inr, All, filter, list_all, numbers, IsNetwork, Language, IsCandidate, Candidate, accepts, violates, scope_of}
-use Rattle.std.proofs.Common.{Global, Vec}
+use Rattle.target_oracle.proofs.Prelude.{◌≡◌, ℕ, zero, suc, ◌+◌, ◌<◌, ◌≤◌, Bool, true, false, cond, not, ◌&&◌, ◌||◌, ◌==◌, List, [], ◌∷◌, ◌++◌, length, drop, take, map, get_or, append-nil, length-set, get_or-set_same, get_or-set_other, ◌⊎◌, Option, Some, None, refl, sym, ◌∙◌, ap, subst, arith, inl, inr, All, filter, list_all, numbers, IsNetwork, Language, IsCandidate, Candidate, accepts, violates, scope_of}
+use Rattle.std.proofs.Common.{Global, Vec, ⊎_elim}
+use Rattle.std.specs.Prelude.{set}
 use Rattle.std.specs.Prelude.{is_some, vec_items}
 use Rattle.std.specs.Option.{option_map}
 use Rattle.std.proofs.lemmas.Bool.{and_parts, cases_eq, eq-eqb, ne_eqb, not-false}
 use Rattle.std.proofs.lemmas.List.{get_or-map, length-map, map-append}
-use Rattle.std.proofs.lemmas.List.Elements.{All-filter}
-use Rattle.std.proofs.lemmas.List.FromFn.{get_or-map-range_with_len, get_or-range_with_len, length-map-range_with_len, length-range_with_len, map-range_with_len_more}
+use Rattle.std.proofs.lemmas.List.Elements.{All-filter, filter_more}
+use Rattle.std.proofs.lemmas.List.FromFn.{fill_by_all, get_or-map-range_with_len, get_or-range_with_len, length-map-range_with_len, length-range_with_len, map-range_with_len_more}
 use Rattle.assign.specs.Assignment.{Assignment, value_of, variables_of, covers}
 use Rattle.assign.specs.Sets.{MOST, has, least_of}
 unfoldable use Rattle.assign.specs.Sets.{set_where}
@@ -167,3 +168,28 @@ said_at l lists q v d low = ap (λ (list : List Candidate). accepts l list q) (g
 pub lists_are : (l : Language) (network : List Candidate) (some : Option (Vec (Vec Candidate Global) Global)) (lists : Vec (Vec Candidate Global) Global) → AreListsOf l network (option_map (λ ls. map vec_items ls.items) some) → some ≡ Some lists
     → map vec_items lists.items ≡ listed l network
 lists_are l network some lists are is = subst (λ (o : Option (Vec (Vec Candidate Global) Global)). AreListsOf l network (option_map (λ ls. map vec_items ls.items) o)) is are
+
+-- one candidate more goes to the list of its first variable
+pub listed_next : (l : Language) (network : List Candidate) (i : ℕ) (d : Candidate) → i < length network → first_of l (get_or network i d) < 128 →
+    set (listed l (take i network)) (first_of l (get_or network i d)) (get_or (listed l (take i network)) (first_of l (get_or network i d)) [] ++ get_or network i d ∷ []) ≡ listed l (take (i + 1) network)
+listed_next l network i d low few =
+    let c : Candidate = get_or network i d in
+    let u : ℕ = first_of l c in
+    let now : ℕ → List Candidate = λ v. filter (is_first l v) (take i network) in
+    let next : ℕ → List Candidate = λ v. filter (is_first l v) (take (i + 1) network) in
+    let before : List (List Candidate) = map now (numbers 128) in
+    let longer : List Candidate = get_or before u [] ++ c ∷ [] in
+    let size : length before ≡ 128 = length-map-range_with_len now 0 128 in
+    let more : (v : ℕ) → next v ≡ now v ++ cond (is_first l v c) (c ∷ []) [] = λ v. filter_more (is_first l v) network i d low in
+    let same : get_or (set before u longer) u [] ≡ next u =
+        get_or-set_same before u longer [] (omega (arith, size, few))
+        ∙ ap (λ (x : List Candidate). x ++ c ∷ []) (get_or-map-range_with_len now 0 128 u u [] few (zero_more u))
+        ∙ ap (λ b. now u ++ cond b (c ∷ []) []) (sym (eq-eqb u u refl)) ∙ sym (more u)
+    in
+    let other : (k : ℕ) → k < 128 → (k ≡ u → ⊥) → get_or (set before u longer) k [] ≡ next k = λ k within ne.
+        get_or-set_other before u k longer [] ne
+        ∙ get_or-map-range_with_len now 0 128 k k [] within (zero_more k) ∙ sym (append-nil (now k))
+        ∙ ap (λ b. now k ++ cond b (c ∷ []) []) (sym (ne_eqb u k (λ is. ne (sym is)))) ∙ sym (more k)
+    in
+    fill_by_all next (set before u longer) 128 [] (length-set before u longer ∙ size)
+    (λ k within. ⊎_elim (λ (is : k ≡ u). subst (λ (n : ℕ). get_or (set before u longer) n [] ≡ next n) (sym is) same) (λ (ne : k ≡ u → ⊥). other k within ne) (cases_eq k u))

@@ -1,15 +1,16 @@
-ghost use Rattle.std.specs.Prelude.{◌≡◌, ◌≤◌, ◌++◌, ◌∷◌, [], false, IfOk, IfSome, Some, None, All};
-ghost use Rattle.std.specs.Prelude.{map, filter, length, string_bytes, vec_items};
+ghost use Rattle.std.specs.Prelude.{◌≡◌, ◌≤◌, ◌++◌, ◌∷◌, ◌<◌, [], false, IfOk, OnOk, IfSome, Some, None, All};
+ghost use Rattle.std.specs.Prelude.{map, length, string_bytes, vec_items, slice_set, slice_index_or};
 ghost use Rattle.std.specs.List.{list_all};
 ghost use Rattle.std.specs.Option.{ForSome};
 ghost use Rattle.acq_io.specs.Streams.{Adds, Rose};
 ghost use Rattle.assign.specs.Assignment.{variables_of};
+ghost use Rattle.assign.specs.Sets.{MOST, numbers};
 ghost use Rattle.language.specs.Language.{IsQuestion, accepts};
 ghost use Rattle.language.specs.Answers.{IsNetwork};
 ghost use Rattle.language.specs.Texts.{question_text};
 ghost use Rattle.target_oracle.specs.Hearing.{CutsOff};
 ghost use Rattle.target_oracle.specs.Tells.{Tells};
-ghost use Rattle.target_oracle.specs.Listing.{is_first, listed, accepts_at, IsListedFor};
+ghost use Rattle.target_oracle.specs.Listing.{listed, accepts_at, IsListedFor};
 ghost use Rattle.target_oracle.specs.NetTurns.{answered_text, net_turn, net_may_say};
 ghost use Rattle.target_oracle.specs.NetTurns.{told_of_answer};
 
@@ -90,26 +91,27 @@ impl NetTeacher {
     }
 }
 
-/// The candidates of a network on whose scope this variable is the first.
-fn list_of(
-    alloc: Global,
-    lang: &Language,
-    network: &[Candidate],
-    v: u8,
-) -> Result<Vec<Candidate>, AllocError>
-    requires { IsNetwork lang.now network.now }
-    ensures { IfOk result (λ list. list.items ≡ filter (is_first lang.now v) network.now) }
+/// For each variable a list of no candidates.
+fn empty_lists(alloc: Global) -> Result<Vec<Vec<Candidate>>, AllocError>
+    ensures { IfOk result (λ lists. map vec_items lists.items ≡ map (λ _. []) (numbers MOST)) }
 {
-    let mut list = Vec::new(alloc);
-    for c in network {
-        if lang.scope(c.scope)[0] == v {
-            list.push(*c)?;
-        }
+    let mut lists = Vec::new(alloc);
+    for _v in 0..MOST_VARIABLES {
+        lists.push(Vec::new(alloc))?;
     }
-    Ok(list)
+    Ok(lists)
 }
 
-/// Those of each variable.
+/// Adds a candidate to the list of a variable.
+fn push_at(lists: &mut Vec<Vec<Candidate>>, v: u8, c: Candidate) -> Result<(), AllocError>
+    requires { v < length lists.old.items }
+    ensures { let before = map vec_items lists.old.items in OnOk result
+        (map vec_items lists.new.items ≡ slice_set before v (slice_index_or before v [] ++ c ∷ [])) }
+{
+    lists[v as usize].push(c)
+}
+
+/// For each variable the candidates of a network on whose scope it is the first, in their order.
 fn lists_of(
     alloc: Global,
     lang: &Language,
@@ -118,9 +120,12 @@ fn lists_of(
     requires { IsNetwork lang.now network.now }
     ensures { IfOk result (λ lists. map vec_items lists.items ≡ listed lang.now network.now) }
 {
-    let mut lists = Vec::new(alloc);
-    for v in 0..MOST_VARIABLES {
-        lists.push(list_of(alloc, lang, network, v)?)?;
+    // for the law that there are at most 128 variables
+    let _variables = lang.n();
+    let mut lists = empty_lists(alloc)?;
+    for c in network {
+        let first = lang.scope(c.scope)[0];
+        push_at(&mut lists, first, *c)?;
     }
     Ok(lists)
 }
