@@ -193,3 +193,9 @@ listed_next l network i d low few =
     in
     fill_by_all next (set before u longer) 128 [] (length-set before u longer ∙ size)
     (λ k within. ⊎_elim (λ (is : k ≡ u). subst (λ (n : ℕ). get_or (set before u longer) n [] ≡ next n) (sym is) same) (λ (ne : k ≡ u → ⊥). other k within ne) (cases_eq k u))
+
+-- the same, as the lists are written
+pub pushed_next : (l : Language) (network : List Candidate) (i : ℕ) (d : Candidate) (before after : List (List Candidate)) (u : ℕ) → i < length network → u ≡ first_of l (get_or network i d) → u < 128 →
+    before ≡ listed l (take i network) → after ≡ set before u (get_or before u [] ++ get_or network i d ∷ []) → after ≡ listed l (take (i + 1) network)
+pushed_next l network i d before after u low is few so_far made =
+    made ∙ (λ j. set (so_far j) (is j) (get_or (so_far j) (is j) [] ++ get_or network i d ∷ [])) ∙ listed_next l network i d low (subst (λ (n : ℕ). n < 128) is few)

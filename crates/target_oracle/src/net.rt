@@ -108,7 +108,8 @@ fn push_at(lists: &mut Vec<Vec<Candidate>>, v: u8, c: Candidate) -> Result<(), A
     ensures { let before = map vec_items lists.old.items in OnOk result
         (map vec_items lists.new.items ≡ slice_set before v (slice_index_or before v [] ++ c ∷ [])) }
 {
-    lists[v as usize].push(c)
+    lists[v as usize].push(c)?;
+    Ok(())
 }
 
 /// For each variable the candidates of a network on whose scope it is the first, in their order.
